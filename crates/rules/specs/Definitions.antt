@@ -1,0 +1,235 @@
+-- 01, Schema text and Schema answers 4: definitions out of trees, by the table of keys.
+use Prim.Native.Nat.{ℕ, _+_, _-_}
+use mathlib.Core.Bool.{Bool, true, false, cond, _||_}
+use mathlib.Core.List.{List, [], _∷_}
+use mathlib.Core.Option.{Option, none, some}
+use lib.Dec.{eqb}
+use Rattle.grammar.specs.Notation.{text, same, all}
+use Rattle.grammar.specs.Tree.{Scalar, Json, Items, Fields, Kind, startOf, endOf, kindOf}
+use Rattle.grammar.specs.Tree.Scalar.{null, bool, num, str}
+use Rattle.grammar.specs.Tree.Json.{leaf, arr, obj}
+use Rattle.grammar.specs.Tree.Items.{no-items, item}
+use Rattle.grammar.specs.Tree.Fields.{no-fields, field}
+use Rattle.grammar.specs.Tree.Kind.{string}
+use Rattle.grammar.specs.Keys.{keysOf}
+use Rattle.rules.specs.Types.{sameKind}
+
+-- a name where it stands in the schema: its first byte and how many bytes it has
+pub record Name : Type 0 where
+  pub start : ℕ
+  pub size : ℕ
+
+-- a type is a name, or a list of one name and nothing else; a command may return nothing
+pub data TypeText : Type 0 where
+  nothing : TypeText
+  one listOf : Name → TypeText
+
+pub record Member : Type 0 where
+  pub name : Name
+  pub optional : Bool
+  pub type : TypeText
+
+-- a base or a command's data: members written out, or a struct's name
+pub data Data : Type 0 where
+  absent : Data
+  inline : List Member → Data
+  named : Name → Data
+
+-- a branch and its struct, or an alternative and its type
+pub record Pair : Type 0 where
+  pub name : Name
+  pub type : Name
+
+pub data Body : Type 0 where
+  enum : List Name → Body
+  struct : Data → List Member → Body
+  union : Data → Name → List Pair → Body
+  alternate : List Pair → Body
+  command : Data → TypeText → Bool → Body
+
+pub record Definition : Type 0 where
+  pub name : Name
+  pub body : Body
+
+-- what follows, where there is a value
+infixl 20 _>>=_
+abbrev pub _>>=_ : {A B : Type 0} → Option A → (A → Option B) → Option B
+_>>=_ none f = none
+_>>=_ (some a) f = f a
+
+-- Shapes of values. A string from place a to e is a name without its quotes.
+abbrev pub quoted : ℕ → ℕ → Name
+quoted a e = record { start = a + 1; size = e - a - 2 }
+
+abbrev pub asName : Json → Option Name
+asName j = cond (sameKind (kindOf j) string) (some (quoted (startOf j) (endOf j))) none
+
+abbrev pub asItems : Json → Option Items
+asItems (leaf a e v) = none
+asItems (arr a e js) = some js
+asItems (obj a e fs) = none
+
+abbrev pub asFields : Json → Option Fields
+asFields (leaf a e v) = none
+asFields (arr a e js) = none
+asFields (obj a e fs) = some fs
+
+abbrev pub scalarFlag : Scalar → Option Bool
+scalarFlag null = none
+scalarFlag (bool b) = some b
+scalarFlag (num i t) = none
+scalarFlag (str cs) = none
+
+abbrev pub asFlag : Json → Option Bool
+asFlag (leaf a e v) = scalarFlag v
+asFlag (arr a e js) = none
+asFlag (obj a e fs) = none
+
+abbrev pub listType : Items → Option TypeText
+listType no-items = none
+listType (item j no-items) = do
+  n ← asName j
+  some (listOf n)
+listType (item j (item k js)) = none
+
+abbrev pub asType : Json → Option TypeText
+asType j =
+    cond (sameKind (kindOf j) string) (some (one (quoted (startOf j) (endOf j)))) do
+      js ← asItems j
+      listType js
+
+abbrev pub names : Items → Option (List Name)
+names no-items = some []
+names (item j js) = do
+  n ← asName j
+  ns ← names js
+  some (n ∷ ns)
+
+-- a member's key from place a to e: a `*` in front makes it optional and is no part of its name
+abbrev pub starred : List ℕ → Bool
+starred [] = false
+starred (c ∷ cs) = eqb c 42
+
+abbrev pub memberOf : ℕ → ℕ → Bool → TypeText → Member
+memberOf a e true t = record { name = quoted (a + 1) e; optional = true; type = t }
+memberOf a e false t = record { name = quoted a e; optional = false; type = t }
+
+abbrev pub members : Fields → Option (List Member)
+members no-fields = some []
+members (field a e key j fs) = do
+  t ← asType j
+  ms ← members fs
+  some (memberOf a e (starred key) t ∷ ms)
+
+abbrev pub pairs : Fields → Option (List Pair)
+pairs no-fields = some []
+pairs (field a e key j fs) = do
+  t ← asName j
+  ps ← pairs fs
+  some (record { name = quoted a e; type = t } ∷ ps)
+
+abbrev pub asNames : Json → Option (List Name)
+asNames j = do
+  js ← asItems j
+  names js
+
+abbrev pub asMembers : Json → Option (List Member)
+asMembers j = do
+  fs ← asFields j
+  members fs
+
+abbrev pub asPairs : Json → Option (List Pair)
+asPairs j = do
+  fs ← asFields j
+  pairs fs
+
+abbrev pub asStructName : Json → Option Data
+asStructName j = do
+  n ← asName j
+  some (named n)
+
+abbrev pub asData : Json → Option Data
+asData j =
+    cond (sameKind (kindOf j) string) (asStructName j) do
+      ms ← asMembers j
+      some (inline ms)
+
+-- the value under a key; the shape of one that must be there, and of one that may be absent
+abbrev pub valueAt : List ℕ → Fields → Option Json
+valueAt k no-fields = none
+valueAt k (field a e key j fs) = cond (same key k) (some j) (valueAt k fs)
+
+abbrev pub must : {A : Type 0} → (Json → Option A) → Option Json → Option A
+must shape none = none
+must shape (some j) = shape j
+
+abbrev pub may : {A : Type 0} → A → (Json → Option A) → Option Json → Option A
+may default shape none = some default
+may default shape (some j) = shape j
+
+abbrev pub anyOf : List (List ℕ) → List ℕ → Bool
+anyOf [] k = false
+anyOf (x ∷ xs) k = same k x || anyOf xs k
+
+-- the definition, if there is no key but these
+abbrev pub only : List (List ℕ) → Fields → Name → Option Body → Option Definition
+only ks fs n none = none
+only ks fs n (some b) = cond (all (anyOf ks) (keysOf fs)) (some (record { name = n; body = b })) none
+
+-- The table of keys, row by row.
+abbrev pub enumBody : Fields → Option Body
+enumBody fs = do
+  values ← must asNames (valueAt (text "data") fs)
+  some (enum values)
+
+abbrev pub structBody : Fields → Option Body
+structBody fs = do
+  ms ← must asMembers (valueAt (text "data") fs)
+  base ← may absent asStructName (valueAt (text "base") fs)
+  some (struct base ms)
+
+abbrev pub unionBody : Fields → Option Body
+unionBody fs = do
+  base ← must asData (valueAt (text "base") fs)
+  tag ← must asName (valueAt (text "discriminator") fs)
+  branches ← must asPairs (valueAt (text "data") fs)
+  some (union base tag branches)
+
+abbrev pub alternateBody : Fields → Option Body
+alternateBody fs = do
+  alternatives ← must asPairs (valueAt (text "data") fs)
+  some (alternate alternatives)
+
+abbrev pub commandBody : Fields → Option Body
+commandBody fs = do
+  arguments ← may absent asData (valueAt (text "data") fs)
+  returns ← may nothing asType (valueAt (text "returns") fs)
+  oob ← may false asFlag (valueAt (text "allow-oob") fs)
+  some (command arguments returns oob)
+
+-- Its kind is the kind key that it has. With two of them one is outside the other's keys.
+abbrev pub kindKey : List ℕ → Fields → List (List ℕ) → Option Body → Option Definition → Option Definition
+kindKey k fs others body otherwise = keyed (valueAt k fs)
+  where
+    keyed : Option Json → Option Definition
+    keyed none = otherwise
+    keyed (some j) = do
+      n ← asName j
+      only (k ∷ others) fs n body
+
+abbrev pub asDefinition : Fields → Option Definition
+asDefinition fs =
+    kindKey (text "enum") fs (text "data" ∷ []) (enumBody fs)
+    (kindKey (text "struct") fs (text "data" ∷ text "base" ∷ []) (structBody fs)
+    (kindKey (text "union") fs (text "base" ∷ text "discriminator" ∷ text "data" ∷ []) (unionBody fs)
+    (kindKey (text "alternate") fs (text "data" ∷ []) (alternateBody fs)
+    (kindKey (text "command") fs (text "data" ∷ text "returns" ∷ text "allow-oob" ∷ []) (commandBody fs) none))))
+
+-- Schema answers 4: the definitions of a schema's top-level objects, if every one keeps the table of keys
+unfoldable pub definitions : Items → Option (List Definition)
+definitions no-items = some []
+definitions (item j js) = do
+  fs ← asFields j
+  d ← asDefinition fs
+  ds ← definitions js
+  some (d ∷ ds)

@@ -1,0 +1,71 @@
+-- 01, Message text and Message answers 26 to 28: the envelope, the command that it names, and whether it may use it.
+use Prim.Native.Nat.{ℕ, _<_}
+use mathlib.Core.Bool.{Bool, true, false, cond}
+use mathlib.Core.List.{List, [], _∷_}
+use mathlib.Core.Option.{Option, none, some}
+use mathlib.Core.Path.{_≡_}
+use lib.Dec.{eqb}
+use Rattle.grammar.specs.Notation.{text, all}
+use Rattle.grammar.specs.Tree.{Scalar, Json, Fields}
+use Rattle.grammar.specs.Tree.Scalar.{null, bool, num, str}
+use Rattle.grammar.specs.Tree.Json.{leaf, arr, obj}
+use Rattle.grammar.specs.Tree.Fields.{no-fields}
+use Rattle.grammar.specs.Keys.{keysOf}
+use Rattle.rules.specs.Definitions.{_>>=_, asFields, valueAt, anyOf}
+use Rattle.rules.specs.Rows.{rowCount, kind, allowOob, nameOf}
+
+-- what an envelope says: the string under execute or exec-oob, which of the two, and the arguments
+pub record Envelope : Type 0 where
+  pub name : List ℕ
+  pub outOfBand : Bool
+  pub arguments : Json
+
+abbrev pub scalarString : Scalar → Option (List ℕ)
+scalarString null = none
+scalarString (bool b) = none
+scalarString (num i t) = none
+scalarString (str cs) = some cs
+
+abbrev pub asString : Json → Option (List ℕ)
+asString (leaf a e v) = scalarString v
+asString (arr a e js) = none
+asString (obj a e fs) = none
+
+-- absent arguments are read as {} at places 0, 0
+abbrev pub asArguments : Option Json → Option Json
+asArguments none = some (obj 0 0 no-fields)
+asArguments (some j) = do
+  fs ← asFields j
+  some j
+
+-- exactly one of execute and exec-oob, a string
+abbrev pub asName : Option Json → Option Json → Option Json → Option Envelope
+asName none none args = none
+asName (some j) none args = do
+  name ← asString j
+  a ← asArguments args
+  some (record { name = name; outOfBand = false; arguments = a })
+asName none (some j) args = do
+  name ← asString j
+  a ← asArguments args
+  some (record { name = name; outOfBand = true; arguments = a })
+asName (some j) (some k) args = none
+
+-- an object with no key but execute, exec-oob, arguments and id
+unfoldable pub envelope : Json → Option Envelope
+envelope j = do
+  fs ← asFields j
+  cond (all (anyOf (text "execute" ∷ text "exec-oob" ∷ text "arguments" ∷ text "id" ∷ [])) (keysOf fs))
+      (asName (valueAt (text "execute") fs) (valueAt (text "exec-oob") fs) (valueAt (text "arguments") fs))
+      none
+
+-- row c is the command of that name
+pub record Names (S T : List ℕ) (name : List ℕ) (c : ℕ) : Type 0 where
+  pub row : c < rowCount T
+  pub command : kind T c ≡ 9
+  pub same-name : nameOf S T c ≡ name
+
+-- an out-of-band call wants allow-oob
+abbrev pub mayUse : List ℕ → ℕ → Bool → Bool
+mayUse T c true = eqb (allowOob T c) 1
+mayUse T c false = true

@@ -1,0 +1,82 @@
+-- 01, Message answers: when each number applies, and the whole outcome: the lowest that applies, the command's row, the count, and every lent word.
+use Prim.Native.Nat.{ℕ, _-_, _/_, _<_}
+use mathlib.Core.Path.{_≡_}
+use mathlib.Core.Bool.{Bool, true, false}
+use mathlib.Core.List.{List, _++_}
+use mathlib.Core.Option.{Option, none, some}
+use lib.ListN.{length, replicate}
+use Rattle.grammar.specs.Limits.{message-bytes, message-levels, record-words}
+use Rattle.grammar.specs.Tree.{Json}
+use Rattle.grammar.specs.MessageText.{MessageText, message-lexis}
+use Rattle.grammar.specs.Starts.{TooDeep}
+use Rattle.grammar.specs.Keys.{keysOnce}
+use Rattle.rules.specs.declared.MessageRefusal.{MessageRefusal}
+use Rattle.rules.specs.declared.MessageRefusal.the-variants as M
+use Rattle.rules.specs.declared.MessageAnswer.{MessageAnswer}
+use Rattle.rules.specs.declared.MessageAnswer.the-variants.{Accepted, Refused}
+use Rattle.rules.specs.Sound.{sound}
+use Rattle.rules.specs.Envelope.{Envelope, envelope, Names, mayUse}
+use Rattle.rules.specs.Readings.{Typed, ReadsArguments, recordsOf}
+
+-- the paper's numbers
+abbrev pub refusalNumber : MessageRefusal → ℕ
+refusalNumber M.UnsoundTable = 21
+refusalNumber M.TooLong = 22
+refusalNumber M.NotText = 23
+refusalNumber M.TooDeep = 24
+refusalNumber M.RepeatedKey = 25
+refusalNumber M.NotEnvelope = 26
+refusalNumber M.UnknownCommand = 27
+refusalNumber M.NotOutOfBand = 28
+refusalNumber M.NoReading = 29
+refusalNumber M.NoRoom = 30
+
+-- the three numbers of an answer: accepted 0, the command's row and the count of records; refused the number, 0 and 0
+abbrev pub answerNumber : MessageAnswer → ℕ
+answerNumber (Accepted c n) = 0
+answerNumber (Refused x) = refusalNumber x
+
+abbrev pub answerRow : MessageAnswer → ℕ
+answerRow (Accepted c n) = c
+answerRow (Refused x) = 0
+
+abbrev pub answerRecords : MessageAnswer → ℕ
+answerRecords (Accepted c n) = n
+answerRecords (Refused x) = 0
+
+-- the bytes are message text with a proper envelope
+pub record Encloses (m : List ℕ) (v : Envelope) : Type 0 where
+  pub value : Json
+  pub is-text : MessageText m value
+  pub proper : envelope value ≡ some v
+
+-- and it names the command at row c
+pub record Calls (S T m : List ℕ) (v : Envelope) (c : ℕ) : Type 0 where
+  pub encloses : Encloses m v
+  pub names : Names S T (v .name) c
+
+-- after the longest start of a valid text stands a byte that opens a level too many
+abbrev pub OneTooMany : List ℕ → Type 0
+OneTooMany m = (e : ℕ) × TooDeep message-lexis message-levels m e
+
+-- When each number applies to the table T over the schema S, the message m and a room of so many words, by the paper's table.
+abbrev pub MessageApplies : MessageRefusal → List ℕ → List ℕ → List ℕ → ℕ → Type 0
+MessageApplies M.UnsoundTable S T m room = sound S T ≡ false
+MessageApplies M.TooLong S T m room = message-bytes < length m
+MessageApplies M.NotText S T m room = ((j : Json) → MessageText m j → ⊥) × (OneTooMany m → ⊥)
+MessageApplies M.TooDeep S T m room = OneTooMany m
+MessageApplies M.RepeatedKey S T m room = (j : Json) × MessageText m j × (keysOnce j ≡ false)
+MessageApplies M.NotEnvelope S T m room = (j : Json) × MessageText m j × (envelope j ≡ none)
+MessageApplies M.UnknownCommand S T m room = (v : Envelope) × Encloses m v × ((c : ℕ) → Names S T (v .name) c → ⊥)
+MessageApplies M.NotOutOfBand S T m room = (v : Envelope) × (c : ℕ) × Calls S T m v c × (mayUse T c (v .outOfBand) ≡ false)
+MessageApplies M.NoReading S T m room = (v : Envelope) × (c : ℕ) × Calls S T m v c × ((ts : List Typed) → ReadsArguments S T c (v .arguments) ts → ⊥)
+MessageApplies M.NoRoom S T m room =
+    (v : Envelope) × (c : ℕ) × Calls S T m v c × (ts : List Typed) × ReadsArguments S T c (v .arguments) ts × (room / record-words < length ts)
+
+-- The outcome: the answer, and the lent words after the call. The lowest number that applies, and all words 0; or no number, the reading's records, and 0 after them.
+pub data MessageOutcome (S T m : List ℕ) (room : ℕ) (answer : MessageAnswer) (words : List ℕ) : Type 0 where
+  accepted : {v : Envelope} {c : ℕ} {ts : List Typed} → Calls S T m v c → ReadsArguments S T c (v .arguments) ts
+      → ((x : MessageRefusal) → MessageApplies x S T m room → ⊥) → answer ≡ Accepted c (length ts)
+      → words ≡ recordsOf ts ++ replicate (room - length (recordsOf ts)) 0 → MessageOutcome S T m room answer words
+  refused : {x : MessageRefusal} → MessageApplies x S T m room → ((y : MessageRefusal) → refusalNumber y < refusalNumber x → MessageApplies y S T m room → ⊥)
+      → answer ≡ Refused x → words ≡ replicate room 0 → MessageOutcome S T m room answer words

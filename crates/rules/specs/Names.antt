@@ -1,0 +1,32 @@
+-- 01, Schema text and Schema answers 5 and 6: good names, the same name, names that clash.
+use Prim.Native.Nat.{ℕ, suc, _+_}
+use mathlib.Core.Bool.{Bool, true, false, not, _&&_, _||_}
+use mathlib.Core.List.{List, [], _∷_}
+use lib.Dec.{leb, eqb}
+use lib.ListN.{length, take}
+use Rattle.grammar.specs.Limits.{name-bytes}
+use Rattle.grammar.specs.Notation.{text, within, same, all}
+
+abbrev pub letter : ℕ → Bool
+letter b = within 65 90 b || within 97 122 b
+
+abbrev pub digit : ℕ → Bool
+digit b = within 48 57 b
+
+-- a letter, a digit, - or _
+abbrev pub nameByte : ℕ → Bool
+nameByte b = letter b || digit b || eqb b 45 || eqb b 95
+
+-- Schema answers 5: 1 to 63 name bytes, the first a letter, or a digit where `digits` says so (an enum value, a branch), and no q_ in front
+abbrev pub goodName : Bool → List ℕ → Bool
+goodName digits [] = false
+goodName digits (b ∷ bs) =
+    (letter b || digits && digit b) && all nameByte bs && leb (length (b ∷ bs)) name-bytes && not (same (take 2 (b ∷ bs)) (text "q_"))
+
+-- what a lookup asks: the same bytes
+abbrev pub sameName : List ℕ → List ℕ → Bool
+sameName = same
+
+-- Schema answers 6, 8 and 9: what two names of one list must not do: be equal
+abbrev pub clash : List ℕ → List ℕ → Bool
+clash = same

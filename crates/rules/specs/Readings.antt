@@ -1,0 +1,86 @@
+-- 01, Readings and records: the rules by which values have types. One rule of the paper, one constructor.
+use Prim.Native.Nat.{ℕ, suc, _+_}
+use mathlib.Core.Path.{_≡_}
+use mathlib.Core.Bool.{true}
+use mathlib.Core.List.{List, [], _∷_, _++_, List·Memᴰ}
+use mathlib.Core.Option.{Option, some}
+use Rattle.grammar.specs.Limits.{first-row, chain-structs}
+use Rattle.grammar.specs.Tree.{Json, Items, Fields, startOf, endOf}
+use Rattle.grammar.specs.Tree.Scalar.{str}
+use Rattle.grammar.specs.Tree.Json.{leaf, arr, obj}
+use Rattle.grammar.specs.Tree.Items.{no-items, item}
+use Rattle.grammar.specs.Tree.Fields.{no-fields, field}
+use Rattle.grammar.specs.Tree.{Scalar}
+use Rattle.rules.specs.Types.{any-type, builtInTakes}
+use Rattle.rules.specs.Rows.{kind, typeRef, arrayMark, optional, unionBase, discriminator, branchStruct, arguments, children, members, nameOf}
+
+-- a value and the type that a reading gives it: a type reference, and 1 if it is an array of that
+pub record Typed : Type 0 where
+  pub value : Json
+  pub ref : ℕ
+  pub array : ℕ
+
+abbrev pub typed : Json → ℕ → ℕ → Typed
+typed j t f = record { value = j; ref = t; array = f }
+
+-- its record: start, end, type reference, 1 if array
+abbrev pub recordOf : Typed → List ℕ
+recordOf t = startOf (t .value) ∷ endOf (t .value) ∷ t .ref ∷ t .array ∷ []
+
+abbrev pub recordsOf : List Typed → List ℕ
+recordsOf [] = []
+recordsOf (t ∷ ts) = recordOf t ++ recordsOf ts
+
+-- an object has a field with that key and value
+pub data Field : Fields → List ℕ → Json → Type 0 where
+  here : {a e : ℕ} {key : List ℕ} {j : Json} {fs : Fields} → Field (field a e key j fs) key j
+  there : {a e : ℕ} {key k : List ℕ} {i j : Json} {fs : Fields} → Field fs k j → Field (field a e key i fs) k j
+
+module _ (S T : List ℕ) where
+  -- every mandatory one of the members ms is there
+  abbrev pub Mandatory : List ℕ → Fields → Type 0
+  Mandatory ms fs = (m : ℕ) → List·Memᴰ m ms → optional T m ≡ 0 → (j : Json) × Field fs (nameOf S T m) j
+
+  -- the members that the discriminator's value adds to those of the union at row r
+  pub data Branch (r : ℕ) (fs : Fields) : List ℕ → Type 0 where
+    branch : {d a e b : ℕ} {cs bs : List ℕ} → discriminator T r ≡ suc d → Field fs (nameOf S T d) (leaf a e (str cs))
+        → List·Memᴰ b (children T r) → nameOf S T b ≡ cs → members T chain-structs (branchStruct T b) ≡ some bs → Branch r fs bs
+    no-branch : {d a e : ℕ} {cs : List ℕ} → discriminator T r ≡ suc d → Field fs (nameOf S T d) (leaf a e (str cs))
+        → ((b : ℕ) → List·Memᴰ b (children T r) → nameOf S T b ≡ cs → ⊥) → Branch r fs []
+
+  mutual
+    -- Reads j t f ts: at the type reference t, as an array of it where f is 1, the value j has the reading ts
+    pub data Reads : Json → ℕ → ℕ → List Typed → Type 0 where
+      -- Built-in: grid and range
+      built-in : {a e t : ℕ} {v : Scalar} → builtInTakes t v ≡ true → Reads (leaf a e v) t 0 (typed (leaf a e v) t 0 ∷ [])
+      -- any takes anything and has no records inside
+      any-value : {j : Json} → Reads j any-type 0 (typed j any-type 0 ∷ [])
+      -- Enum: a string equal to a value
+      enum : {a e t v : ℕ} {cs : List ℕ} (r : ℕ) → t ≡ first-row + r → kind T r ≡ 1 → List·Memᴰ v (children T r) → nameOf S T v ≡ cs
+          → Reads (leaf a e (str cs)) t 0 (typed (leaf a e (str cs)) t 0 ∷ [])
+      -- Struct: every key a member, every mandatory member there, each value read at its type
+      struct : {a e t : ℕ} {fs : Fields} {ms : List ℕ} {ts : List Typed} (r : ℕ) → t ≡ first-row + r → kind T r ≡ 3 → members T chain-structs (suc r) ≡ some ms
+          → Mandatory ms fs → ReadsFields ms fs ts → Reads (obj a e fs) t 0 (typed (obj a e fs) t 0 ∷ ts)
+      -- Union: as a struct over the base's members and those of the branch
+      union : {a e t : ℕ} {fs : Fields} {ms bs ns : List ℕ} {ts : List Typed} (r : ℕ) → t ≡ first-row + r → kind T r ≡ 5 → members T chain-structs (unionBase T r) ≡ some ms
+          → Branch r fs bs → ns ≡ ms ++ bs → Mandatory ns fs → ReadsFields ns fs ts → Reads (obj a e fs) t 0 (typed (obj a e fs) t 0 ∷ ts)
+      -- Alternate: its record, then an alternative's
+      alternate : {j : Json} {t c : ℕ} {ts : List Typed} (r : ℕ) → t ≡ first-row + r → kind T r ≡ 7 → List·Memᴰ c (children T r)
+          → Reads j (typeRef T c) 0 ts → Reads j t 0 (typed j t 0 ∷ ts)
+      -- Array: each element read at the element type
+      array : {a e t : ℕ} {js : Items} {ts : List Typed} → ReadsItems js t ts → Reads (arr a e js) t 1 (typed (arr a e js) t 1 ∷ ts)
+
+    pub data ReadsItems : Items → ℕ → List Typed → Type 0 where
+      no-item : {t : ℕ} → ReadsItems no-items t []
+      one-item : {t : ℕ} {j : Json} {js : Items} {ts us vs : List Typed} → Reads j t 0 ts → ReadsItems js t us → vs ≡ ts ++ us → ReadsItems (item j js) t vs
+
+    -- the fields in message order, each a member of ms
+    pub data ReadsFields : List ℕ → Fields → List Typed → Type 0 where
+      no-field : {ms : List ℕ} → ReadsFields ms no-fields []
+      one-field : {a e m : ℕ} {key ms : List ℕ} {j : Json} {fs : Fields} {ts us vs : List Typed} → List·Memᴰ m ms → nameOf S T m ≡ key
+          → Reads j (typeRef T m) (arrayMark T m) ts → ReadsFields ms fs us → vs ≡ ts ++ us → ReadsFields ms (field a e key j fs) vs
+
+  -- the arguments of the command at row c; one without data has reference 0, and only {} fits
+  pub data ReadsArguments (c : ℕ) : Json → List Typed → Type 0 where
+    no-data : {a e : ℕ} → arguments T c ≡ 0 → ReadsArguments c (obj a e no-fields) (typed (obj a e no-fields) 0 0 ∷ [])
+    with-data : {r : ℕ} {j : Json} {ts : List Typed} → arguments T c ≡ suc r → Reads j (first-row + r) 0 ts → ReadsArguments c j ts

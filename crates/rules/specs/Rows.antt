@@ -1,0 +1,136 @@
+-- 01, Rows: what the words of a table say. Everything here is total: past the end every word is 0.
+use Prim.Native.Nat.{ℕ, zero, suc, _+_, _-_, _*_, _/_}
+use mathlib.Core.Bool.{Bool, true, false, cond, not, _&&_, _||_}
+use mathlib.Core.List.{List, [], _∷_, _++_}
+use mathlib.Core.Option.{Option, none, some}
+use lib.Dec.{eqb, ltb}
+use lib.ListN.{getD, length, take, drop}
+use Rattle.grammar.specs.Limits.{row-words, first-row}
+use Rattle.grammar.specs.Notation.{same}
+use Rattle.grammar.specs.Tree.{Kind}
+use Rattle.grammar.specs.Tree.Kind.{object, string}
+use Rattle.rules.specs.Types.{built-in-kinds}
+
+-- n numbers from a on
+abbrev pub upFrom : ℕ → ℕ → List ℕ
+upFrom a zero = []
+upFrom a (suc n) = a ∷ upFrom (suc a) n
+
+-- what is inherited, and then one's own
+abbrev pub after : Option (List ℕ) → List ℕ → Option (List ℕ)
+after none own = none
+after (some inherited) own = some (inherited ++ own)
+
+module _ (T : List ℕ) where
+  abbrev pub rowCount : ℕ
+  rowCount = length T / row-words
+
+  -- word i of row r; words are counted from 1, rows from 0
+  abbrev pub word : ℕ → ℕ → ℕ
+  word r i = getD T (row-words * r + (i - 1)) 0
+
+  -- words 1 to 3 of every row: its kind, and where its name stands in the schema
+  abbrev pub kind : ℕ → ℕ
+  kind r = word r 1
+
+  abbrev pub start : ℕ → ℕ
+  start r = word r 2
+
+  abbrev pub size : ℕ → ℕ
+  size r = word r 3
+
+  -- the kinds of definitions; the children of kinds 1, 3, 5 and 7 have kinds 2, 4, 6 and 8
+  abbrev pub isEnum : ℕ → Bool
+  isEnum r = eqb (kind r) 1
+
+  abbrev pub isStruct : ℕ → Bool
+  isStruct r = eqb (kind r) 3
+
+  abbrev pub isUnion : ℕ → Bool
+  isUnion r = eqb (kind r) 5
+
+  abbrev pub isAlternate : ℕ → Bool
+  isAlternate r = eqb (kind r) 7
+
+  abbrev pub isCommand : ℕ → Bool
+  isCommand r = eqb (kind r) 9
+
+  -- words 4 on, by kind. An enum's, a struct's or an alternate's count of children
+  abbrev pub count : ℕ → ℕ
+  count r = word r 4
+
+  -- a struct's base link
+  abbrev pub base : ℕ → ℕ
+  base r = word r 5
+
+  -- a member's or an alternative's type reference; of a member, 1 if array and 1 if optional
+  abbrev pub typeRef : ℕ → ℕ
+  typeRef r = word r 4
+
+  abbrev pub arrayMark : ℕ → ℕ
+  arrayMark r = word r 5
+
+  abbrev pub optional : ℕ → ℕ
+  optional r = word r 6
+
+  -- a union's base link, count of branches and link of discriminator member; a branch's struct link
+  abbrev pub unionBase : ℕ → ℕ
+  unionBase r = word r 4
+
+  abbrev pub branchCount : ℕ → ℕ
+  branchCount r = word r 5
+
+  abbrev pub discriminator : ℕ → ℕ
+  discriminator r = word r 6
+
+  abbrev pub branchStruct : ℕ → ℕ
+  branchStruct r = word r 4
+
+  -- a command's argument struct link, 1 if allow-oob, return type reference or 0, 1 if the return is an array
+  abbrev pub arguments : ℕ → ℕ
+  arguments r = word r 4
+
+  abbrev pub allowOob : ℕ → ℕ
+  allowOob r = word r 5
+
+  abbrev pub returns : ℕ → ℕ
+  returns r = word r 6
+
+  abbrev pub returnsArray : ℕ → ℕ
+  returnsArray r = word r 7
+
+  -- An inline base or inline data: a struct row with start, length and base link 0, directly after the union or the command whose link is to it.
+  unfoldable pub inline : ℕ → Bool
+  inline zero = false
+  inline (suc r) =
+      (isUnion r || isCommand r) && eqb (word r 4) (suc (suc r))
+      && isStruct (suc r) && eqb (start (suc r)) 0 && eqb (size (suc r)) 0 && eqb (base (suc r)) 0
+
+  -- how many rows the inline struct of row r takes
+  unfoldable pub inlineRows : ℕ → ℕ
+  inlineRows r = cond (inline (suc r)) (suc (count (suc r))) 0
+
+  -- the children of row r: values, members, branches or alternatives
+  unfoldable pub childCount : ℕ → ℕ
+  childCount r = cond (isEnum r || isStruct r || isAlternate r) (count r) (cond (isUnion r) (branchCount r) 0)
+
+  unfoldable pub children : ℕ → List ℕ
+  children r = upFrom (suc r + inlineRows r) (childCount r)
+
+  -- A struct's members: its base's, found by going up the chain, then its own. By a link, with at most n structs on the chain; link 0 has none.
+  unfoldable pub members : ℕ → ℕ → Option (List ℕ)
+  members zero zero = some []
+  members zero (suc r) = none
+  members (suc n) zero = some []
+  members (suc n) (suc r) = after (members n (base r)) (children r)
+
+  -- the JSON kind of a type reference; `any` and alternates have none
+  unfoldable pub typeKind : ℕ → Option Kind
+  typeKind t =
+      cond (ltb t first-row) (getD (none ∷ built-in-kinds) t none)
+      (cond (isEnum (t - first-row)) (some string)
+      (cond (isStruct (t - first-row) || isUnion (t - first-row)) (some object) none))
+
+-- the name of row r, in the schema bytes S
+unfoldable pub nameOf : List ℕ → List ℕ → ℕ → List ℕ
+nameOf S T r = take (size T r) (drop (start T r) S)

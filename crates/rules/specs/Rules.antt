@@ -1,0 +1,103 @@
+-- 01, Schema answers 5, 6 and 8 to 11, said of the rows of a table T over the schema bytes S.
+use Prim.Native.Nat.{ℕ, zero, suc, _+_, _-_}
+use mathlib.Core.Bool.{Bool, true, false, not, cond, _&&_, _||_}
+use mathlib.Core.List.{List, [], _∷_, map}
+use mathlib.Core.Option.{Option, none, some}
+use lib.Dec.{eqb, ltb, leb}
+use Rattle.grammar.specs.Limits.{chain-structs, first-row}
+use Rattle.grammar.specs.Notation.{all, apart}
+use Rattle.grammar.specs.Tree.{Kind}
+use Rattle.rules.specs.Types.{built-ins, sameKind}
+use Rattle.rules.specs.Names.{goodName, sameName, clash}
+use Rattle.rules.specs.Rows.{upFrom, rowCount, kind, isEnum, isStruct, isUnion, isAlternate, isCommand, count, base, typeRef, arrayMark, optional, unionBase, branchCount, discriminator, branchStruct, returns, inline, children, members, typeKind, nameOf}
+
+-- some element has the property
+abbrev pub any : {A : Type 0} → (A → Bool) → List A → Bool
+any f [] = false
+any f (x ∷ xs) = f x || any f xs
+
+-- the elements that have it
+abbrev pub those : {A : Type 0} → (A → Bool) → List A → List A
+those f [] = []
+those f (x ∷ xs) = cond (f x) (x ∷ those f xs) (those f xs)
+
+-- there is a value, and it has the property
+abbrev pub is : {A : Type 0} → Option A → (A → Bool) → Bool
+is none f = false
+is (some a) f = f a
+
+-- no name of one list clashes with one of the other
+abbrev pub noClash : List (List ℕ) → List (List ℕ) → Bool
+noClash xs ys = all (λ (x : List ℕ). all (λ (y : List ℕ). not (clash x y)) ys) xs
+
+abbrev pub sameKinds : Option Kind → Option Kind → Bool
+sameKinds j k = is j (λ x. is k (λ y. sameKind x y))
+
+module _ (S T : List ℕ) where
+  abbrev pub everyRow : (ℕ → Bool) → Bool
+  everyRow f = all f (upFrom 0 (rowCount T))
+
+  abbrev pub namesOf : List ℕ → List (List ℕ)
+  namesOf rs = map (nameOf S T) rs
+
+  -- 5: every name is good; an inline struct has none
+  unfoldable pub goodNames : Bool
+  goodNames = everyRow (λ r. inline T r || goodName (eqb (kind T r) 2 || eqb (kind T r) 6) (nameOf S T r))
+
+  abbrev pub isDefinition : ℕ → Bool
+  isDefinition r = (isEnum T r || isStruct T r || isUnion T r || isAlternate T r || isCommand T r) && not (inline T r)
+
+  abbrev pub definitionNames : List (List ℕ)
+  definitionNames = namesOf (those isDefinition (upFrom 0 (rowCount T)))
+
+  -- 6: definitions and built-ins share one set of names, and so do the values, members, branches or alternatives of one list
+  unfoldable pub distinctNames : Bool
+  distinctNames = apart clash definitionNames && noClash definitionNames built-ins && everyRow (λ r. apart clash (namesOf (children T r)))
+
+  -- 8: at most 16 structs on the chain from each struct on, itself counted, and no inherited member repeated
+  abbrev pub chainFits : ℕ → Bool
+  chainFits r = is (members T (chain-structs - 1) (base T r)) (λ inherited. noClash (namesOf inherited) (namesOf (children T r)))
+
+  unfoldable pub goodChains : Bool
+  goodChains = everyRow (λ r. not (isStruct T r) || chainFits r)
+
+  -- 9: the discriminator is a mandatory member of the base, no array, of an enum type
+  abbrev pub discriminatorRow : ℕ → ℕ
+  discriminatorRow r = discriminator T r - 1
+
+  abbrev pub discriminatorEnum : ℕ → ℕ
+  discriminatorEnum r = typeRef T (discriminatorRow r) - first-row
+
+  abbrev pub discriminatorFits : ℕ → List ℕ → Bool
+  discriminatorFits r ms =
+      any (λ m. eqb (discriminator T r) (suc m)) ms && eqb (optional T (discriminatorRow r)) 0 && eqb (arrayMark T (discriminatorRow r)) 0
+      && leb first-row (typeRef T (discriminatorRow r)) && isEnum T (discriminatorEnum r)
+
+  -- a branch is named by a value of that enum, and its struct repeats no member of the base
+  abbrev pub branchFits : ℕ → List ℕ → ℕ → Bool
+  branchFits r ms b =
+      any (sameName (nameOf S T b)) (namesOf (children T (discriminatorEnum r)))
+      && is (members T chain-structs (branchStruct T b)) (λ bs. noClash (namesOf ms) (namesOf bs))
+
+  abbrev pub unionFits : ℕ → Bool
+  unionFits r = ltb 0 (branchCount T r) && is (members T chain-structs (unionBase T r)) (λ ms. discriminatorFits r ms && all (branchFits r ms) (children T r))
+
+  unfoldable pub goodUnions : Bool
+  goodUnions = everyRow (λ r. not (isUnion T r) || unionFits r)
+
+  -- 10: an alternate has an alternative, each has a JSON kind (any and alternates have none), and no two have the same
+  abbrev pub kindsOf : List ℕ → List (Option Kind)
+  kindsOf rs = map (λ r. typeKind T (typeRef T r)) rs
+
+  abbrev pub alternateFits : ℕ → Bool
+  alternateFits r = ltb 0 (count T r) && all (λ k. is k (λ _. true)) (kindsOf (children T r)) && apart sameKinds (kindsOf (children T r))
+
+  unfoldable pub goodAlternates : Bool
+  goodAlternates = everyRow (λ r. not (isAlternate T r) || alternateFits r)
+
+  -- 11: a command returns nothing, or a struct or a union, or an array of these
+  abbrev pub returnFits : ℕ → Bool
+  returnFits t = eqb t 0 || leb first-row t && (isStruct T (t - first-row) || isUnion T (t - first-row))
+
+  unfoldable pub goodReturns : Bool
+  goodReturns = everyRow (λ r. not (isCommand T r) || returnFits (returns T r))

@@ -1,0 +1,170 @@
+-- 01, Rows: the table that says what a schema's definitions say, row for row; and Schema answers 7, that every name that refers finds its row.
+use Prim.Native.Nat.{ℕ, zero, suc, _+_}
+use mathlib.Core.Bool.{Bool, true, false, cond, _&&_}
+use mathlib.Core.List.{List, [], _∷_, _++_, map}
+use mathlib.Core.Option.{Option, none, some}
+use lib.Dec.{eqb, ltb}
+use lib.ListN.{length, take, drop}
+use Rattle.grammar.specs.Limits.{chain-structs, first-row}
+use Rattle.grammar.specs.Notation.{all}
+use Rattle.rules.specs.Types.{built-ins}
+use Rattle.rules.specs.Names.{sameName}
+use Rattle.rules.specs.Definitions.{Name, TypeText, Member, Data, Pair, Body, Definition}
+use Rattle.rules.specs.Definitions.TypeText.{nothing, one, listOf}
+use Rattle.rules.specs.Definitions.Data.{absent, inline, named}
+use Rattle.rules.specs.Definitions.Body.{enum, struct, union, alternate, command}
+use Rattle.rules.specs.Rows.{members, unionBase, nameOf}
+
+-- how many rows a definition takes: its own, its inline struct's, its children's
+abbrev pub dataRows : Data → ℕ
+dataRows absent = 0
+dataRows (inline ms) = suc (length ms)
+dataRows (named n) = 0
+
+abbrev pub rowsTaken : Body → ℕ
+rowsTaken (enum vs) = suc (length vs)
+rowsTaken (struct b ms) = suc (length ms)
+rowsTaken (union b tag bs) = suc (dataRows b + length bs)
+rowsTaken (alternate alts) = suc (length alts)
+rowsTaken (command a t oob) = suc (dataRows a)
+
+-- the kind of its row; all but a command's are types
+abbrev pub rowKind : Body → ℕ
+rowKind (enum vs) = 1
+rowKind (struct b ms) = 3
+rowKind (union b tag bs) = 5
+rowKind (alternate alts) = 7
+rowKind (command a t oob) = 9
+
+abbrev pub isStruct : Body → Bool
+isStruct b = eqb (rowKind b) 3
+
+abbrev pub isType : Body → Bool
+isType b = ltb (rowKind b) 9
+
+-- the place of a name in a list, counted from 1; 0 if it is not there
+abbrev pub later : ℕ → ℕ
+later zero = 0
+later (suc n) = suc (suc n)
+
+abbrev pub placeIn : List (List ℕ) → List ℕ → ℕ
+placeIn [] x = 0
+placeIn (y ∷ ys) x = cond (sameName x y) 1 (later (placeIn ys x))
+
+-- a type reference: a built-in's number, or that of a link's row
+abbrev pub reference : ℕ → ℕ → ℕ
+reference (suc b) link = suc b
+reference zero zero = 0
+reference zero (suc r) = first-row + r
+
+-- one row: kind, name, words 4 to 7; word 8 is 0 in every kind
+abbrev pub row : ℕ → Name → ℕ → ℕ → ℕ → ℕ → List ℕ
+row k n a b c d = k ∷ n .start ∷ n .size ∷ a ∷ b ∷ c ∷ d ∷ 0 ∷ []
+
+abbrev pub concat : List (List ℕ) → List ℕ
+concat [] = []
+concat (x ∷ xs) = x ++ concat xs
+
+abbrev pub flag : Bool → ℕ
+flag true = 1
+flag false = 0
+
+abbrev pub isList : TypeText → Bool
+isList nothing = false
+isList (one n) = false
+isList (listOf n) = true
+
+module _ (S : List ℕ) where
+  abbrev pub bytesOf : Name → List ℕ
+  bytesOf n = take (n .size) (drop (n .start) S)
+
+  -- the link of the fitting definition of that name, among those that stand from row r on; 0 if there is none
+  abbrev pub findFrom : (Body → Bool) → List ℕ → ℕ → List Definition → ℕ
+  findFrom fits x r [] = 0
+  findFrom fits x r (d ∷ ds) = cond (fits (d .body) && sameName x (bytesOf (d .name))) (suc r) (findFrom fits x (r + rowsTaken (d .body)) ds)
+
+  -- the link of the member of that name
+  abbrev pub memberIn : List ℕ → List ℕ → List ℕ → ℕ
+  memberIn T x [] = 0
+  memberIn T x (m ∷ ms) = cond (sameName x (nameOf S T m)) (suc m) (memberIn T x ms)
+
+  abbrev pub memberOf : List ℕ → List ℕ → Option (List ℕ) → ℕ
+  memberOf T x none = 0
+  memberOf T x (some ms) = memberIn T x ms
+
+  module _ (schema : List Definition) where
+    -- what a name refers to as a struct and as a type
+    abbrev pub structLink : Name → ℕ
+    structLink n = findFrom isStruct (bytesOf n) 0 schema
+
+    abbrev pub typeNamed : Name → ℕ
+    typeNamed n = reference (placeIn built-ins (bytesOf n)) (findFrom isType (bytesOf n) 0 schema)
+
+    abbrev pub typeOf : TypeText → ℕ
+    typeOf nothing = 0
+    typeOf (one n) = typeNamed n
+    typeOf (listOf n) = typeNamed n
+
+    -- the link of the base or the data that the definition at row r has
+    abbrev pub dataLink : ℕ → Data → ℕ
+    dataLink r absent = 0
+    dataLink r (inline ms) = suc (suc r)
+    dataLink r (named n) = structLink n
+
+    abbrev pub memberRows : List Member → List ℕ
+    memberRows ms = concat (map (λ (m : Member). row 4 (m .name) (typeOf (m .type)) (flag (isList (m .type))) (flag (m .optional)) 0) ms)
+
+    abbrev pub inlineStruct : Data → List ℕ
+    inlineStruct absent = []
+    inlineStruct (inline ms) = row 3 (record { start = 0; size = 0 }) (length ms) 0 0 0 ++ memberRows ms
+    inlineStruct (named n) = []
+
+    -- the rows of a definition at row r, named n; `link` gives the link of a union's discriminator member
+    abbrev pub rowsOf : (ℕ → Name → ℕ) → ℕ → Name → Body → List ℕ
+    rowsOf link r n (enum vs) = row 1 n (length vs) 0 0 0 ++ concat (map (λ (v : Name). row 2 v 0 0 0 0) vs)
+    rowsOf link r n (struct b ms) = row 3 n (length ms) (dataLink r b) 0 0 ++ memberRows ms
+    rowsOf link r n (union b tag bs) =
+        row 5 n (dataLink r b) (length bs) (link r tag) 0 ++ inlineStruct b ++ concat (map (λ (p : Pair). row 6 (p .name) (structLink (p .type)) 0 0 0) bs)
+    rowsOf link r n (alternate alts) = row 7 n (length alts) 0 0 0 ++ concat (map (λ (p : Pair). row 8 (p .name) (typeNamed (p .type)) 0 0 0) alts)
+    rowsOf link r n (command a t oob) = row 9 n (dataLink r a) (flag oob) (typeOf t) (flag (isList t)) ++ inlineStruct a
+
+    abbrev pub tableFrom : (ℕ → Name → ℕ) → ℕ → List Definition → List ℕ
+    tableFrom link r [] = []
+    tableFrom link r (d ∷ ds) = rowsOf link r (d .name) (d .body) ++ tableFrom link (r + rowsTaken (d .body)) ds
+
+    -- the discriminator of the union at row r is looked for among the members of the union's base, as the other words say them
+    abbrev pub discriminatorLink : ℕ → Name → ℕ
+    discriminatorLink r tag =
+        let T : List ℕ = tableFrom (λ _ _. 0) 0 schema in
+        memberOf T (bytesOf tag) (members T chain-structs (unionBase T r))
+
+    -- the definitions in schema order, each followed by its children
+    unfoldable pub table : List ℕ
+    table = tableFrom discriminatorLink 0 schema
+
+    -- Schema answers 7: a type name names a type; a base, a named command data and a branch type name a struct
+    abbrev pub isTypeName : TypeText → Bool
+    isTypeName nothing = true
+    isTypeName (one n) = ltb 0 (typeNamed n)
+    isTypeName (listOf n) = ltb 0 (typeNamed n)
+
+    abbrev pub isStructName : Name → Bool
+    isStructName n = ltb 0 (structLink n)
+
+    abbrev pub membersRefer : List Member → Bool
+    membersRefer ms = all (λ (m : Member). isTypeName (m .type)) ms
+
+    abbrev pub dataRefers : Data → Bool
+    dataRefers absent = true
+    dataRefers (inline ms) = membersRefer ms
+    dataRefers (named n) = isStructName n
+
+    abbrev pub refers : Body → Bool
+    refers (enum vs) = true
+    refers (struct b ms) = dataRefers b && membersRefer ms
+    refers (union b tag bs) = dataRefers b && all (λ (p : Pair). isStructName (p .type)) bs
+    refers (alternate alts) = all (λ (p : Pair). isTypeName (one (p .type))) alts
+    refers (command a t oob) = dataRefers a && isTypeName t
+
+    unfoldable pub allRefer : Bool
+    allRefer = all (λ (d : Definition). refers (d .body)) schema

@@ -1,0 +1,44 @@
+// The paper's answers as values with names; their numbers stand in specs/. It has no code of its own.
+
+// Why a schema is refused, in the order of the paper's table (1 to 13).
+pub enum SchemaRefusal {
+    TooLong,
+    NotText,
+    RepeatedKey,
+    NotDefinitions,
+    BadName,
+    RepeatedName,
+    UnknownName,
+    BadChain,
+    BadUnion,
+    BadAlternate,
+    BadReturn,
+    TooManyRows,
+    NoRoom,
+}
+
+// Accepted with a count of rows, or refused.
+pub enum SchemaAnswer {
+    Accepted(u32),
+    Refused(SchemaRefusal),
+}
+
+// Why a message is refused, in the order of the paper's table (21 to 30).
+pub enum MessageRefusal {
+    UnsoundTable,
+    TooLong,
+    NotText,
+    TooDeep,
+    RepeatedKey,
+    NotEnvelope,
+    UnknownCommand,
+    NotOutOfBand,
+    NoReading,
+    NoRoom,
+}
+
+// Accepted with the command's row and a count of records, or refused.
+pub enum MessageAnswer {
+    Accepted(u32, u32),
+    Refused(MessageRefusal),
+}
