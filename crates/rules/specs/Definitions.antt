@@ -1,18 +1,17 @@
 -- 01, Schema text and Schema answers 4: definitions out of trees, by the table of keys.
 use Prim.Native.Nat.{ℕ, _+_, _-_}
-use mathlib.Core.Bool.{Bool, true, false, cond, _||_}
+use mathlib.Core.Bool.{Bool, true, false, cond}
 use mathlib.Core.List.{List, [], _∷_}
 use mathlib.Core.Option.{Option, none, some}
 use lib.Dec.{eqb}
-use Rattle.grammar.specs.Notation.{text, same, all}
-use Rattle.grammar.specs.Tree.{Scalar, Json, Items, Fields, Kind, startOf, endOf, kindOf}
-use Rattle.grammar.specs.Tree.Scalar.{null, bool, num, str}
-use Rattle.grammar.specs.Tree.Json.{leaf, arr, obj}
+use Rattle.grammar.specs.Notation.{text, all}
+use Rattle.grammar.specs.Tree.{Json, Items, Fields, startOf, endOf, kindOf}
 use Rattle.grammar.specs.Tree.Items.{no-items, item}
 use Rattle.grammar.specs.Tree.Fields.{no-fields, field}
 use Rattle.grammar.specs.Tree.Kind.{string}
 use Rattle.grammar.specs.Keys.{keysOf}
 use Rattle.rules.specs.Types.{sameKind}
+use Rattle.rules.specs.Values.{_>>=_, asItems, asFields, asFlag, valueAt, anyOf}
 
 -- a name where it stands in the schema: its first byte and how many bytes it has
 pub record Name : Type 0 where
@@ -51,39 +50,12 @@ pub record Definition : Type 0 where
   pub name : Name
   pub body : Body
 
--- what follows, where there is a value
-infixl 20 _>>=_
-abbrev pub _>>=_ : {A B : Type 0} → Option A → (A → Option B) → Option B
-_>>=_ none f = none
-_>>=_ (some a) f = f a
-
 -- Shapes of values. A string from place a to e is a name without its quotes.
 abbrev pub quoted : ℕ → ℕ → Name
 quoted a e = record { start = a + 1; size = e - a - 2 }
 
 abbrev pub asName : Json → Option Name
 asName j = cond (sameKind (kindOf j) string) (some (quoted (startOf j) (endOf j))) none
-
-abbrev pub asItems : Json → Option Items
-asItems (leaf a e v) = none
-asItems (arr a e js) = some js
-asItems (obj a e fs) = none
-
-abbrev pub asFields : Json → Option Fields
-asFields (leaf a e v) = none
-asFields (arr a e js) = none
-asFields (obj a e fs) = some fs
-
-abbrev pub scalarFlag : Scalar → Option Bool
-scalarFlag null = none
-scalarFlag (bool b) = some b
-scalarFlag (num i t) = none
-scalarFlag (str cs) = none
-
-abbrev pub asFlag : Json → Option Bool
-asFlag (leaf a e v) = scalarFlag v
-asFlag (arr a e js) = none
-asFlag (obj a e fs) = none
 
 abbrev pub listType : Items → Option TypeText
 listType no-items = none
@@ -154,11 +126,7 @@ asData j =
       ms ← asMembers j
       some (inline ms)
 
--- the value under a key; the shape of one that must be there, and of one that may be absent
-abbrev pub valueAt : List ℕ → Fields → Option Json
-valueAt k no-fields = none
-valueAt k (field a e key j fs) = cond (same key k) (some j) (valueAt k fs)
-
+-- the shape of a value that must be there, and of one that may be absent
 abbrev pub must : {A : Type 0} → (Json → Option A) → Option Json → Option A
 must shape none = none
 must shape (some j) = shape j
@@ -166,10 +134,6 @@ must shape (some j) = shape j
 abbrev pub may : {A : Type 0} → A → (Json → Option A) → Option Json → Option A
 may default shape none = some default
 may default shape (some j) = shape j
-
-abbrev pub anyOf : List (List ℕ) → List ℕ → Bool
-anyOf [] k = false
-anyOf (x ∷ xs) k = same k x || anyOf xs k
 
 -- the definition, if there is no key but these
 abbrev pub only : List (List ℕ) → Fields → Name → Option Body → Option Definition

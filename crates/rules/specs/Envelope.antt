@@ -6,12 +6,11 @@ use mathlib.Core.Option.{Option, none, some}
 use mathlib.Core.Path.{_≡_}
 use lib.Dec.{eqb}
 use Rattle.grammar.specs.Notation.{text, all}
-use Rattle.grammar.specs.Tree.{Scalar, Json, Fields}
-use Rattle.grammar.specs.Tree.Scalar.{null, bool, num, str}
-use Rattle.grammar.specs.Tree.Json.{leaf, arr, obj}
+use Rattle.grammar.specs.Tree.{Json}
+use Rattle.grammar.specs.Tree.Json.{obj}
 use Rattle.grammar.specs.Tree.Fields.{no-fields}
 use Rattle.grammar.specs.Keys.{keysOf}
-use Rattle.rules.specs.Definitions.{_>>=_, asFields, valueAt, anyOf}
+use Rattle.rules.specs.Values.{_>>=_, asFields, asString, valueAt, anyOf}
 use Rattle.rules.specs.Rows.{rowCount, kind, allowOob, nameOf}
 
 -- what an envelope says: the string under execute or exec-oob, which of the two, and the arguments
@@ -19,17 +18,6 @@ pub record Envelope : Type 0 where
   pub name : List ℕ
   pub outOfBand : Bool
   pub arguments : Json
-
-abbrev pub scalarString : Scalar → Option (List ℕ)
-scalarString null = none
-scalarString (bool b) = none
-scalarString (num i t) = none
-scalarString (str cs) = some cs
-
-abbrev pub asString : Json → Option (List ℕ)
-asString (leaf a e v) = scalarString v
-asString (arr a e js) = none
-asString (obj a e fs) = none
 
 -- absent arguments are read as {} at places 0, 0
 abbrev pub asArguments : Option Json → Option Json

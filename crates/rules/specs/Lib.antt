@@ -1,14 +1,15 @@
--- What a reader must believe, in the paper's order.
+-- What a reader must believe, in the paper's order. ReadingOf and Answers serve proofs only.
 pub mod Types
+pub mod Values
 pub mod Definitions
 pub mod Names
 pub mod Rows
+pub mod SchemaTable
 pub mod Rules
 pub mod Sound
-pub mod SchemaTable
+pub mod SchemaAnswers
 pub mod Envelope
 pub mod Readings
-pub mod ReadingOf
-pub mod SchemaAnswers
 pub mod MessageAnswers
+pub mod ReadingOf
 pub mod Answers

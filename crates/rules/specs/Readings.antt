@@ -12,6 +12,7 @@ use Rattle.grammar.specs.Tree.Items.{no-items, item}
 use Rattle.grammar.specs.Tree.Fields.{no-fields, field}
 use Rattle.grammar.specs.Tree.{Scalar}
 use Rattle.rules.specs.Types.{any-type, builtInTakes}
+use Rattle.rules.specs.Values.{valueAt}
 use Rattle.rules.specs.Rows.{kind, typeRef, arrayMark, optional, unionBase, discriminator, branchStruct, arguments, children, members, nameOf}
 
 -- a value and the type that a reading gives it: a type reference, and 1 if it is an array of that
@@ -31,21 +32,16 @@ abbrev pub recordsOf : List Typed → List ℕ
 recordsOf [] = []
 recordsOf (t ∷ ts) = recordOf t ++ recordsOf ts
 
--- an object has a field with that key and value
-pub data Field : Fields → List ℕ → Json → Type 0 where
-  here : {a e : ℕ} {key : List ℕ} {j : Json} {fs : Fields} → Field (field a e key j fs) key j
-  there : {a e : ℕ} {key k : List ℕ} {i j : Json} {fs : Fields} → Field fs k j → Field (field a e key i fs) k j
-
 module _ (S T : List ℕ) where
   -- every mandatory one of the members ms is there
   abbrev pub Mandatory : List ℕ → Fields → Type 0
-  Mandatory ms fs = (m : ℕ) → List·Memᴰ m ms → optional T m ≡ 0 → (j : Json) × Field fs (nameOf S T m) j
+  Mandatory ms fs = (m : ℕ) → List·Memᴰ m ms → optional T m ≡ 0 → (j : Json) × (valueAt (nameOf S T m) fs ≡ some j)
 
   -- the members that the discriminator's value adds to those of the union at row r
   pub data Branch (r : ℕ) (fs : Fields) : List ℕ → Type 0 where
-    branch : {d a e b : ℕ} {cs bs : List ℕ} → discriminator T r ≡ suc d → Field fs (nameOf S T d) (leaf a e (str cs))
+    branch : {d a e b : ℕ} {cs bs : List ℕ} → discriminator T r ≡ suc d → valueAt (nameOf S T d) fs ≡ some (leaf a e (str cs))
         → List·Memᴰ b (children T r) → nameOf S T b ≡ cs → members T chain-structs (branchStruct T b) ≡ some bs → Branch r fs bs
-    no-branch : {d a e : ℕ} {cs : List ℕ} → discriminator T r ≡ suc d → Field fs (nameOf S T d) (leaf a e (str cs))
+    no-branch : {d a e : ℕ} {cs : List ℕ} → discriminator T r ≡ suc d → valueAt (nameOf S T d) fs ≡ some (leaf a e (str cs))
         → ((b : ℕ) → List·Memᴰ b (children T r) → nameOf S T b ≡ cs → ⊥) → Branch r fs []
 
   mutual
