@@ -4,7 +4,7 @@ use Prim.Native.Nat.{ℕ, _<_}
 use native.Mathlib.Omega.{arith}
 use mathlib.Core.Path.{_≡_, refl, sym, _∙_}
 use mathlib.Core.Bool.{Bool, true, false, cond, _&&_}
-use mathlib.Core.Logic.{⊎-elim}
+use mathlib.Core.Logic.{_⊎_, inl, inr, ⊎-elim}
 use mathlib.Core.List.{List, [], _∷_, List·Memᴰ, List·Memᴰ·cases-cons, List·Memᴰ·not-nil}
 use mathlib.Core.Option.{Option, none, some}
 use lib.Dec.{ltb}
@@ -83,3 +83,7 @@ module _ {A : Type 0} (number : A → ℕ) (f : A → Bool) where
   lowest-first (z ∷ l) (next later a) x m e h =
       ⊎-elim (λ (q : x ≡ z). let t : f z ≡ true = cc in rw t (let w : some z ≡ some x = cc in w))
       (λ n. rw (h z (later x n)) (lowest-first l a x n e h)) (List·Memᴰ·cases-cons m)
+
+-- the first of an ascending list has the lowest number
+pub head-lowest : {A : Type 0} (number : A → ℕ) {x : A} {xs : List A} → Ascending number (x ∷ xs) → (y : A) → List·Memᴰ y (x ∷ xs) → (y ≡ x) ⊎ (number x < number y)
+head-lowest number (next later a) y m = ⊎-elim (λ e. inl e) (λ n. inr (later y n)) (List·Memᴰ·cases-cons m)

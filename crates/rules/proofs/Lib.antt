@@ -1,3 +1,6 @@
 pub mod Cases
 pub mod First
 pub mod SchemaOutcome
+pub mod Lists
+pub mod Commands
+pub mod MessageOutcome

@@ -208,7 +208,7 @@ module _ (whole-text : (l : List ℕ) (js : Items) → readSchema l ≡ whole js
         rw (e, d) (p, q)
     only a w (refused {x} s h p q) =
         let e : first test schemaRefusals ≡ some x =
-          lowest-first refusalNumber test schemaRefusals rising x (listed x) (applies-test x s) (λ y g. decided (test y) (λ t. h y g (test-applies y t))) in
+        lowest-first refusalNumber test schemaRefusals rising x (listed x) (applies-test x s) (λ y g. decided (test y) (λ t. h y g (test-applies y t))) in
         rw e (p, q)
 
     -- The paper's table of schema answers: for every schema and room there is one outcome, the one that schemaResult gives.
