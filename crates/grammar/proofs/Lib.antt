@@ -1,0 +1,23 @@
+-- In the order of the argument: general laws; the machine against the grammar, for any dialect; each dialect; the statements to cite.
+pub mod Booleans
+pub mod Lists
+pub mod Keys
+pub mod TokenRuns
+pub mod Steps
+pub mod Complete
+pub mod Rest
+pub mod Sound
+pub mod Starts
+pub mod Viable
+pub mod Levels
+pub mod Answers
+pub mod Words
+pub mod SchemaDialect
+pub mod Strings
+pub mod StringsSound
+pub mod StringsComplete
+pub mod Numbers
+pub mod MessageTokens
+pub mod MessageDialect
+pub mod Texts
+pub mod Vectors

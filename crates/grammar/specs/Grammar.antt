@@ -1,9 +1,7 @@
--- The structure that both dialects share (01, Schema text; RFC 8259, 2 to 5), production by production, over a dialect's tokens. `Value n ..`, and so on, has at most n levels of brackets.
-use mathlib.Core.Path.{_≡_}
-use Prim.Native.Nat.{ℕ, suc}
-use Prim.Native.Char.{code}
-use mathlib.Core.Bool.{true, false}
-use mathlib.Core.List.{List, [], _∷_}
+-- The structure that schema text and message text share, production by production (01, Schema text; RFC 8259, 2 to 5).
+-- The first number of `Value n ..` and of the like is the most levels of brackets inside it.
+use Prim.Native.{Nat.ℕ, Nat.suc, Char.code}
+use mathlib.Core.{Path._≡_, Bool.true, Bool.false, List.List, List.[], List._∷_}
 use lib.Dec.{eqb}
 use Rattle.grammar.specs.Tree.{Scalar, Scalar.str, Json, Json.leaf, Json.arr, Json.obj, Items, Items.no-items, Items.item, Fields, Fields.no-fields, Fields.field}
 use Rattle.grammar.specs.Lexis.{Lexis}
@@ -15,7 +13,7 @@ pub data Comment : ℕ → List ℕ → ℕ → List ℕ → Type 0 where
   free : {p q b : ℕ} {l r : List ℕ} → eqb b (code "\n") ≡ false → Comment (suc p) l q r → Comment p (b ∷ l) q r
 
 module _ (G : Lexis) where
-  -- what may stand between tokens: blanks and comments, or nothing
+  -- 01, Schema text, and RFC 8259, 2: what may stand between tokens is blanks and comments, or nothing
   pub data Blanks : ℕ → List ℕ → ℕ → List ℕ → Type 0 where
     none : {p : ℕ} {l : List ℕ} → Blanks p l p l
     blank : {p q b : ℕ} {l r : List ℕ} → G .blank b ≡ true → Blanks (suc p) l q r → Blanks p (b ∷ l) q r
@@ -39,9 +37,11 @@ module _ (G : Lexis) where
       no-elements : {n p o : ℕ} {l r : List ℕ} → Blanks p l o (code "]" ∷ r) → ArrayBody n p l (suc o) r no-items
       some-elements : {n p o q : ℕ} {l m r : List ℕ} {js : Items} → Blanks p l o m → Elements n o m q r js → ArrayBody n p l q r js
 
+    -- an element and those after it
     pub data Elements : ℕ → ℕ → List ℕ → ℕ → List ℕ → Items → Type 0 where
       element : {n p o q : ℕ} {l m r : List ℕ} {j : Json} {js : Items} → Value n p l o m j → MoreElements n o m q r js → Elements n p l q r (item j js)
 
+    -- after an element: the closing bracket, or a comma and another element
     pub data MoreElements : ℕ → ℕ → List ℕ → ℕ → List ℕ → Items → Type 0 where
       end-array : {n p o : ℕ} {l r : List ℕ} → Blanks p l o (code "]" ∷ r) → MoreElements n p l (suc o) r no-items
       next-element : {n p o a q : ℕ} {l m t r : List ℕ} {js : Items} → Blanks p l o (code "," ∷ m) → Blanks (suc o) m a t → Elements n a t q r js → MoreElements n p l q r js
@@ -51,12 +51,13 @@ module _ (G : Lexis) where
       no-members : {n p o : ℕ} {l r : List ℕ} → Blanks p l o (code "}" ∷ r) → ObjectBody n p l (suc o) r no-fields
       some-members : {n p o q : ℕ} {l m r : List ℕ} {fs : Fields} → Blanks p l o m → Members n o m q r fs → ObjectBody n p l q r fs
 
-    -- a key, a colon, a value, the members after them; the tree has the key's start and end
+    -- a member, which is a key, a colon and a value, and those after it; the tree has the key's start and end
     pub data Members : ℕ → ℕ → List ℕ → ℕ → List ℕ → Fields → Type 0 where
       member : {n p e a c d q b : ℕ} {l m o t u r cs : List ℕ} {j : Json} {fs : Fields}
           → G .quote b ≡ true → Chars (suc p) l e m cs → Blanks e m a (code ":" ∷ o) → Blanks (suc a) o c t → Value n c t d u j → MoreMembers n d u q r fs
           → Members n p (b ∷ l) q r (field p e cs j fs)
 
+    -- after a member: the closing brace, or a comma and another member
     pub data MoreMembers : ℕ → ℕ → List ℕ → ℕ → List ℕ → Fields → Type 0 where
       end-object : {n p o : ℕ} {l r : List ℕ} → Blanks p l o (code "}" ∷ r) → MoreMembers n p l (suc o) r no-fields
       next-member : {n p o a q : ℕ} {l m t r : List ℕ} {fs : Fields} → Blanks p l o (code "," ∷ m) → Blanks (suc o) m a t → Members n a t q r fs → MoreMembers n p l q r fs
@@ -66,7 +67,7 @@ module _ (G : Lexis) where
     no-more : {n p q : ℕ} {l : List ℕ} → Blanks p l q [] → Objects n p l no-items
     one-more : {n p o q : ℕ} {l m r : List ℕ} {j : Json} {js : Items} → Blanks p l o (code "{" ∷ m) → Value n o (code "{" ∷ m) q r j → Objects n q r js → Objects n p l (item j js)
 
-  -- a whole text of at most n levels and the trees of its outermost values: any number of objects (01, Schema text), or one value (RFC 8259, 2)
+  -- a whole text and the trees of its outermost values: any number of objects (01, Schema text), or one value (RFC 8259, 2)
   pub data Text : ℕ → List ℕ → Items → Type 0 where
     objects : {n : ℕ} {l : List ℕ} {js : Items} → G .several ≡ true → Objects n 0 l js → Text n l js
     one-value : {n o q e : ℕ} {l m r : List ℕ} {j : Json} → G .several ≡ false → Blanks 0 l o m → Value n o m q r j → Blanks q r e [] → Text n l (item j no-items)

@@ -1,6 +1,6 @@
 -- 01, Schema answers 3 and Message answers 25: no key twice in one object, anywhere in the text. Keys are compared by meaning.
 use Prim.Native.Nat.{ℕ}
-use mathlib.Core.Bool.{Bool, true, false, _&&_}
+use mathlib.Core.Bool.{Bool, true, _&&_}
 use mathlib.Core.List.{List, [], _∷_}
 use Rattle.grammar.specs.Notation.{same, apart}
 use Rattle.grammar.specs.Tree.{Json, Items, Fields}

@@ -1,8 +1,7 @@
--- The tokens of a dialect: where schema text and message text differ. In all of the grammar `X p l ..  q r` reads: at place p, where the bytes l are left, stands an X; it ends at place q, where r is left.
-use Prim.Native.Nat.{ℕ, suc}
-use Prim.Native.Char.{code}
-use mathlib.Core.Bool.{Bool, _||_}
-use mathlib.Core.List.{List, [], _∷_}
+-- The tokens of a dialect, in which schema text and message text differ.
+-- Here and in the grammar `X p l q r ..` reads: at place p, where the bytes l are left, stands an X; it ends at place q, where r is left.
+use Prim.Native.{Nat.ℕ, Nat.suc, Char.code}
+use mathlib.Core.{Bool.Bool, Bool._||_, List.List, List.[], List._∷_}
 use lib.Dec.{eqb}
 use Rattle.grammar.specs.Tree.{Scalar}
 
@@ -15,7 +14,7 @@ pub data Spells : List ℕ → ℕ → List ℕ → ℕ → List ℕ → Type 0 
   spelled : {p : ℕ} {r : List ℕ} → Spells [] p r p r
   letter : {p q b : ℕ} {w l r : List ℕ} → Spells w (suc p) l q r → Spells (b ∷ w) p (b ∷ l) q r
 
--- what the paper says of each dialect apart
+-- what a dialect says of its own
 pub record Lexis : Type 1 where
   -- bytes that may stand between tokens
   pub blank : ℕ → Bool

@@ -33,6 +33,11 @@ pub data TokenStep (S : Type 0) : Type 0 where
   last past : Scalar → TokenStep S
   off : TokenStep S
 
+-- a word is read byte by byte: in state `word w ws v` the bytes w and ws are wanted, and the word means v
+abbrev pub spell : {S : Type 0} → (ℕ → List ℕ → Scalar → S) → List ℕ → Scalar → TokenStep S
+spell word [] v = last v
+spell word (w ∷ ws) v = on (word w ws v)
+
 -- a lexis with machines for its characters and for its words and numbers
 pub record Dialect : Type 1 where
   pub lexis : Lexis

@@ -1,16 +1,9 @@
 -- Message text (01, Message text): RFC 8259 in UTF-8 (RFC 3629), with escaped surrogates only in pairs.
-use Prim.Native.Nat.{ℕ, suc, _+_, _*_, _-_}
-use Prim.Native.Char.{code}
-use mathlib.Core.Path.{_≡_}
-use mathlib.Core.Bool.{Bool, true, false, not, cond, _||_}
-use mathlib.Core.List.{List, [], _∷_, _++_}
-use mathlib.Core.Option.{Option, some, none}
+use Prim.Native.{Nat.ℕ, Nat.suc, Nat._+_, Nat._*_, Nat._-_, Char.code}
+use mathlib.Core.{Path._≡_, Bool.Bool, Bool.true, Bool.false, Bool.not, Bool.cond, Bool._||_, List.List, List.[], List._∷_, List._++_, Option.Option, Option.some, Option.none}
 use lib.Dec.{eqb}
-use Rattle.grammar.specs.Limits.{message-levels}
-use Rattle.grammar.specs.Notation.{text, within, all}
-use Rattle.grammar.specs.Tree.{Scalar, Scalar.null, Scalar.bool, Scalar.num, Json, Items.no-items, Items.item}
-use Rattle.grammar.specs.Lexis.{Lexis, Spells, blank}
-use Rattle.grammar.specs.Grammar.{Text}
+use Rattle.grammar.specs.{Limits.message-levels, Notation.text, Notation.within, Notation.all, Tree.Scalar, Tree.Scalar.null, Tree.Scalar.bool, Tree.Scalar.num, Tree.Json}
+use Rattle.grammar.specs.{Tree.Items.no-items, Tree.Items.item, Lexis.Lexis, Lexis.Spells, Lexis.blank, Grammar.Text}
 
 -- RFC 3629, 3: a byte 10xxxxxx, and a number with the six bits of such a byte put behind it
 abbrev pub tail : ℕ → Bool
@@ -78,10 +71,6 @@ sign b = eqb b (code "-") || eqb b (code "+")
 pub data Digits : List ℕ → Type 0 where
   digits : {b : ℕ} {bs : List ℕ} → digit b ≡ true → all digit bs ≡ true → Digits (b ∷ bs)
 
--- RFC 8259, 6: minus
-pub data Minus : List ℕ → Type 0 where
-  minus : Minus (code "-" ∷ [])
-
 -- RFC 8259, 6: int = zero / ( digit1-9 *DIGIT )
 pub data Int : List ℕ → Type 0 where
   zero : Int (code "0" ∷ [])
@@ -103,7 +92,7 @@ pub data Optional (F : List ℕ → Type 0) : Bool → List ℕ → Type 0 where
 
 -- RFC 8259, 6: number = [ minus ] int [ frac ] [ exp ]. 01, Message text: it is an integer if it has neither fraction nor exponent
 pub data Number : Bool → List ℕ → Type 0 where
-  parts : {a b c : Bool} {m n f e : List ℕ} → Optional Minus a m → Int n → Optional Frac b f → Optional Exp c e → Number (not (b || c)) (m ++ (n ++ (f ++ e)))
+  parts : {a b c : Bool} {m n f e : List ℕ} → Optional (λ m. m ≡ text "-") a m → Int n → Optional Frac b f → Optional Exp c e → Number (not (b || c)) (m ++ (n ++ (f ++ e)))
 
 -- RFC 8259, 3: null, true, false, or a number, which is kept as its bytes
 pub data Unquoted : ℕ → List ℕ → ℕ → List ℕ → Scalar → Type 0 where

@@ -1,17 +1,9 @@
 -- Schema text (01, Schema text).
-use Prim.Native.Nat.{ℕ, suc}
-use Prim.Native.Char.{code}
-use mathlib.Core.Logic.{_≢_}
-use mathlib.Core.Path.{_≡_}
-use mathlib.Core.Bool.{true, false}
-use mathlib.Core.List.{List, _∷_}
+use Prim.Native.{Nat.ℕ, Nat.suc, Char.code}
+use mathlib.Core.{Logic._≢_, Path._≡_, Bool.true, Bool.false, List.List, List._∷_}
 use lib.Dec.{eqb}
-use Rattle.grammar.specs.Limits.{schema-levels}
-use Rattle.grammar.specs.Notation.{text, within}
-use Rattle.grammar.specs.Tree.{Scalar, Items}
-use Rattle.grammar.specs.Tree.Scalar.{bool}
-use Rattle.grammar.specs.Lexis.{Lexis, Spells, blank}
-use Rattle.grammar.specs.Grammar.{Text}
+use Rattle.grammar.specs.{Limits.schema-levels, Notation.text, Notation.within, Tree.Scalar, Tree.Scalar.bool, Tree.Items}
+use Rattle.grammar.specs.{Lexis.Lexis, Lexis.Spells, Lexis.blank, Grammar.Text}
 
 -- 01, Schema text: in a string the bytes 0x20 to 0x7E; the only escape is two backslashes, which mean one
 pub data Char : ℕ → List ℕ → ℕ → List ℕ → ℕ → Type 0 where

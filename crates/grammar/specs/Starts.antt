@@ -1,10 +1,8 @@
--- 01, Message answers 23 and 24: where a text that is not valid goes wrong, and whether for the levels alone.
+-- Where a text that is not valid goes wrong, and whether for lack of levels alone (01, Message answers 23 and 24). For schemas both are number 2.
 use Prim.Native.Nat.{ℕ, suc, _≤_, _<_}
 use mathlib.Core.List.{List, _++_}
 use lib.ListN.{length, take}
-use Rattle.grammar.specs.Tree.{Items}
-use Rattle.grammar.specs.Lexis.{Lexis}
-use Rattle.grammar.specs.Grammar.{Text}
+use Rattle.grammar.specs.{Tree.Items, Lexis.Lexis, Grammar.Text}
 
 module _ (G : Lexis) where
   -- a valid text of at most lim levels
@@ -21,13 +19,13 @@ module _ (G : Lexis) where
     pub viable : Viable lim (take e l)
     pub longest : (n : ℕ) → e < n → n ≤ length l → Viable lim (take n l) → ⊥
 
-  -- 24: after the longest viable start stands a byte that one level more would allow: it opens level lim + 1 where a value may stand
+  -- 01, Message answers 24: after the longest viable start stands a byte that one level more would allow, so it opens level lim + 1 where a value may stand
   pub record TooDeep (lim : ℕ) (l : List ℕ) (e : ℕ) : Type 0 where
     pub longest : Longest lim l e
     pub next : e < length l
     pub deeper : Viable (suc lim) (take (suc e) l)
 
-  -- 23, and 2 with TooDeep: not valid, and after the longest viable start stands a byte that no number of levels would allow, or the text ends
+  -- 01, Message answers 23: not valid, and after the longest viable start stands a byte that no number of levels would allow, or the text ends
   pub record Broken (lim : ℕ) (l : List ℕ) (e : ℕ) : Type 0 where
     pub longest : Longest lim l e
     pub invalid : Valid lim l → ⊥

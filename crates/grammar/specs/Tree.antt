@@ -1,7 +1,7 @@
 -- Trees with places: what a text means. Every value and every key has its start and the place one past its end.
 use Prim.Native.Nat.{ℕ}
-use mathlib.Core.Bool.{Bool, true, false}
-use mathlib.Core.List.{List, [], _∷_}
+use mathlib.Core.Bool.{Bool}
+use mathlib.Core.List.{List}
 
 -- A value without brackets. 01, Message text: a number is its token and whether that is an integer, a string means a list of code points.
 pub data Scalar : Type 0 where

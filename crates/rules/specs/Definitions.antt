@@ -1,5 +1,6 @@
 -- 01, Schema text and Schema answers 4: definitions out of trees, by the table of keys.
 use Prim.Native.Nat.{ℕ, _+_, _-_}
+use Prim.Native.Char.{code}
 use mathlib.Core.Bool.{Bool, true, false, cond}
 use mathlib.Core.List.{List, [], _∷_}
 use mathlib.Core.Option.{Option, none, some}
@@ -59,9 +60,7 @@ asName j = cond (sameKind (kindOf j) string) (some (quoted (startOf j) (endOf j)
 
 abbrev pub listType : Items → Option TypeText
 listType no-items = none
-listType (item j no-items) = do
-  n ← asName j
-  some (listOf n)
+listType (item j no-items) = asName j >>= λ n. some (listOf n)
 listType (item j (item k js)) = none
 
 abbrev pub asType : Json → Option TypeText
@@ -80,7 +79,7 @@ names (item j js) = do
 -- a member's key from place a to e: a `*` in front makes it optional and is no part of its name
 abbrev pub starred : List ℕ → Bool
 starred [] = false
-starred (c ∷ cs) = eqb c 42
+starred (c ∷ cs) = eqb c (code "*")
 
 abbrev pub memberOf : ℕ → ℕ → Bool → TypeText → Member
 memberOf a e true t = record { name = quoted (a + 1) e; optional = true; type = t }
@@ -101,24 +100,16 @@ pairs (field a e key j fs) = do
   some (record { name = quoted a e; type = t } ∷ ps)
 
 abbrev pub asNames : Json → Option (List Name)
-asNames j = do
-  js ← asItems j
-  names js
+asNames j = asItems j >>= names
 
 abbrev pub asMembers : Json → Option (List Member)
-asMembers j = do
-  fs ← asFields j
-  members fs
+asMembers j = asFields j >>= members
 
 abbrev pub asPairs : Json → Option (List Pair)
-asPairs j = do
-  fs ← asFields j
-  pairs fs
+asPairs j = asFields j >>= pairs
 
 abbrev pub asStructName : Json → Option Data
-asStructName j = do
-  n ← asName j
-  some (named n)
+asStructName j = asName j >>= λ n. some (named n)
 
 abbrev pub asData : Json → Option Data
 asData j =
@@ -142,9 +133,7 @@ only ks fs n (some b) = cond (all (anyOf ks) (keysOf fs)) (some (record { name =
 
 -- The table of keys, row by row.
 abbrev pub enumBody : Fields → Option Body
-enumBody fs = do
-  values ← must asNames (valueAt (text "data") fs)
-  some (enum values)
+enumBody fs = must asNames (valueAt (text "data") fs) >>= λ values. some (enum values)
 
 abbrev pub structBody : Fields → Option Body
 structBody fs = do
@@ -160,9 +149,7 @@ unionBody fs = do
   some (union base tag branches)
 
 abbrev pub alternateBody : Fields → Option Body
-alternateBody fs = do
-  alternatives ← must asPairs (valueAt (text "data") fs)
-  some (alternate alternatives)
+alternateBody fs = must asPairs (valueAt (text "data") fs) >>= λ alternatives. some (alternate alternatives)
 
 abbrev pub commandBody : Fields → Option Body
 commandBody fs = do

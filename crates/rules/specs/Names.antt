@@ -1,5 +1,6 @@
 -- 01, Schema text and Schema answers 5 and 6: good names, the same name, names that clash.
-use Prim.Native.Nat.{ℕ, suc, _+_}
+use Prim.Native.Nat.{ℕ}
+use Prim.Native.Char.{code}
 use mathlib.Core.Bool.{Bool, true, false, not, _&&_, _||_}
 use mathlib.Core.List.{List, [], _∷_}
 use lib.Dec.{leb, eqb}
@@ -8,14 +9,14 @@ use Rattle.grammar.specs.Limits.{name-bytes}
 use Rattle.grammar.specs.Notation.{text, within, same, all}
 
 abbrev pub letter : ℕ → Bool
-letter b = within 65 90 b || within 97 122 b
+letter b = within (code "A") (code "Z") b || within (code "a") (code "z") b
 
 abbrev pub digit : ℕ → Bool
-digit b = within 48 57 b
+digit b = within (code "0") (code "9") b
 
 -- a letter, a digit, - or _
 abbrev pub nameByte : ℕ → Bool
-nameByte b = letter b || digit b || eqb b 45 || eqb b 95
+nameByte b = letter b || digit b || eqb b (code "-") || eqb b (code "_")
 
 -- Schema answers 5: 1 to 63 name bytes, the first a letter, or a digit where `digits` says so (an enum value, a branch), and no q_ in front
 abbrev pub goodName : Bool → List ℕ → Bool

@@ -1,11 +1,12 @@
 -- 01, Schema text: the built-in types, the JSON kinds that they take, and the ranges of the integer types.
-use Prim.Native.Nat.{ℕ, zero, suc, _+_, _-_, _*_, _^_}
+use Prim.Native.Nat.{ℕ, _+_, _-_, _*_, _^_}
+use Prim.Native.Char.{code}
 use mathlib.Core.Bool.{Bool, true, false, cond, _&&_}
 use mathlib.Core.List.{List, [], _∷_, map}
 use mathlib.Core.Option.{Option, none, some}
 use lib.Dec.{leb, eqb}
 use lib.ListN.{getD}
-use Rattle.grammar.specs.Notation.{text, same}
+use Rattle.grammar.specs.Notation.{text}
 use Rattle.grammar.specs.Tree.{Scalar, Kind, scalarKind}
 use Rattle.grammar.specs.Tree.Scalar.{null, bool, num, str}
 use Rattle.grammar.specs.Tree.Kind.{object, array, string, number, boolean, null-kind}
@@ -69,16 +70,16 @@ ranges =
 -- 01, Message text: the exact value of an integer token, as a sign and the number that its digits mean
 abbrev pub negative : List ℕ → Bool
 negative [] = false
-negative (b ∷ bs) = eqb b 45
+negative (b ∷ bs) = eqb b (code "-")
 
 abbrev pub unsignedPart : List ℕ → List ℕ
 unsignedPart [] = []
-unsignedPart (b ∷ bs) = cond (eqb b 45) bs (b ∷ bs)
+unsignedPart (b ∷ bs) = cond (eqb b (code "-")) bs (b ∷ bs)
 
 -- the digits after some whose value is n
 abbrev pub decimal : ℕ → List ℕ → ℕ
 decimal n [] = n
-decimal n (b ∷ bs) = decimal (n * 10 + (b - 48)) bs
+decimal n (b ∷ bs) = decimal (n * 10 + (b - code "0")) bs
 
 unfoldable pub inRange : Range → List ℕ → Bool
 inRange r token = leb (decimal 0 (unsignedPart token)) (cond (negative token) (r .low) (r .high))

@@ -10,10 +10,10 @@ use Rattle.grammar.specs.Notation.{text, within}
 use Rattle.grammar.specs.Tree.{Scalar, Scalar.null, Scalar.bool, Scalar.num}
 use Rattle.grammar.specs.Lexis.{blank}
 use Rattle.grammar.specs.MessageText.{join, hexDigit, digit, letter-e, sign, message-lexis}
-use Rattle.grammar.specs.Machine.{CharStep, CharStep.stay, CharStep.char, CharStep.bad, Dialect, Out, scan, read}
-use Rattle.grammar.specs.Machine.{TokenStep, TokenStep.on, TokenStep.last, TokenStep.past, TokenStep.off}
+use Rattle.grammar.specs.Machine.{CharStep, CharStep.stay, CharStep.char, CharStep.bad, Dialect, Out, scan, read, TokenStep, TokenStep.on, TokenStep.past, TokenStep.off}
+use Rattle.grammar.specs.Machine.{spell}
 
--- how many bytes of UTF-8 are wanted, where the first of them is narrowed by the lead byte: no overlong form, no surrogate, at most U+10FFFF
+-- how many bytes of UTF-8 are wanted; after some lead bytes the next one is narrowed, against overlong forms, surrogates and what is above U+10FFFF
 pub data Want : Type 0 where
   one two two-E0 two-ED three three-F0 three-F4 : Want
 
@@ -35,7 +35,7 @@ highest three = 0xBF
 highest three-F0 = 0xBF
 highest three-F4 = 0x8F
 
--- after a backslash; in the digits of `\u`, some of them read; after a high surrogate, at the backslash, the u and the digits of its low one; in UTF-8
+-- after a backslash; in the digits of `\u`; after a high surrogate, at the backslash, the u and the digits of its low one; in UTF-8. The numbers are what is read so far
 pub data CharState : Type 0 where
   escape hex0 : CharState
   hex1 hex2 hex3 : ℕ → CharState
@@ -103,34 +103,34 @@ charStep (low2 h v) b = withHex (hexDigit b) (λ d. stay (low3 h (v * 16 + d)))
 charStep (low3 h v) b = withHex (hexDigit b) (λ d. char (0x10000 + (h - 0xD800) * 0x400 + (v * 16 + d - 0xDC00)))
 charStep (utf8 n v) b = cond (within (lowest n) (highest n) b) (wanted n (join v b)) bad
 
--- in a number: before it, after its minus, its leading zero, a digit of its integer part, its point, a digit of its fraction, its e, the sign and a digit of its exponent
+-- before a number, after its minus, after its leading zero, in its integer part, after its point, in its fraction, after its e, after the sign of its exponent, in its exponent
 pub data NumberState : Type 0 where
-  begin minus zero int point frac e e-sign exp : NumberState
+  begin after-minus after-zero in-int after-point in-frac after-e after-sign in-exp : NumberState
 
 unfoldable pub numberStep : NumberState → ℕ → Option NumberState
-numberStep begin b = cond (eqb b (code "-")) (some minus) (cond (eqb b (code "0")) (some zero) (cond (within (code "1") (code "9") b) (some int) none))
-numberStep minus b = cond (eqb b (code "0")) (some zero) (cond (within (code "1") (code "9") b) (some int) none)
-numberStep zero b = cond (eqb b (code ".")) (some point) (cond (letter-e b) (some e) none)
-numberStep int b = cond (digit b) (some int) (cond (eqb b (code ".")) (some point) (cond (letter-e b) (some e) none))
-numberStep point b = cond (digit b) (some frac) none
-numberStep frac b = cond (digit b) (some frac) (cond (letter-e b) (some e) none)
-numberStep e b = cond (sign b) (some e-sign) (cond (digit b) (some exp) none)
-numberStep e-sign b = cond (digit b) (some exp) none
-numberStep exp b = cond (digit b) (some exp) none
+numberStep begin b = cond (eqb b (code "-")) (some after-minus) (cond (eqb b (code "0")) (some after-zero) (cond (within (code "1") (code "9") b) (some in-int) none))
+numberStep after-minus b = cond (eqb b (code "0")) (some after-zero) (cond (within (code "1") (code "9") b) (some in-int) none)
+numberStep after-zero b = cond (eqb b (code ".")) (some after-point) (cond (letter-e b) (some after-e) none)
+numberStep in-int b = cond (digit b) (some in-int) (cond (eqb b (code ".")) (some after-point) (cond (letter-e b) (some after-e) none))
+numberStep after-point b = cond (digit b) (some in-frac) none
+numberStep in-frac b = cond (digit b) (some in-frac) (cond (letter-e b) (some after-e) none)
+numberStep after-e b = cond (sign b) (some after-sign) (cond (digit b) (some in-exp) none)
+numberStep after-sign b = cond (digit b) (some in-exp) none
+numberStep in-exp b = cond (digit b) (some in-exp) none
 
 -- whether a number may end here, and whether it is then an integer
 abbrev pub numberEnd : NumberState → Option Bool
 numberEnd begin = none
-numberEnd minus = none
-numberEnd zero = some true
-numberEnd int = some true
-numberEnd point = none
-numberEnd frac = some false
-numberEnd e = none
-numberEnd e-sign = none
-numberEnd exp = some false
+numberEnd after-minus = none
+numberEnd after-zero = some true
+numberEnd in-int = some true
+numberEnd after-point = none
+numberEnd in-frac = some false
+numberEnd after-e = none
+numberEnd after-sign = none
+numberEnd in-exp = some false
 
--- inside a word: the next byte, those after it, what the word means. Inside a number: its bytes so far, in reverse
+-- inside a word; inside a number, with its bytes so far in reverse
 pub data TokenState : Type 0 where
   word : ℕ → List ℕ → Scalar → TokenState
   number : NumberState → List ℕ → TokenState
@@ -149,10 +149,6 @@ unfoldable pub tokenStart : ℕ → Option TokenState
 unfolding numberStep
 tokenStart b = numberStart (numberStep begin b) b
 
-abbrev pub spell : List ℕ → Scalar → TokenStep TokenState
-spell [] v = last v
-spell (w ∷ ws) v = on (word w ws v)
-
 abbrev pub numberPast : Option Bool → List ℕ → TokenStep TokenState
 numberPast (some i) acc = past (num i (reverse acc))
 numberPast none acc = off
@@ -163,7 +159,7 @@ numberOn none i acc b = numberPast i acc
 
 unfoldable pub tokenStep : TokenState → ℕ → TokenStep TokenState
 unfolding numberStep
-tokenStep (word w ws v) b = cond (eqb b w) (spell ws v) off
+tokenStep (word w ws v) b = cond (eqb b w) (spell word ws v) off
 tokenStep (number s acc) b = numberOn (numberStep s b) (numberEnd s) acc b
 
 abbrev pub numeral : Option Bool → List ℕ → Option Scalar

@@ -2,7 +2,7 @@
 use Prim.Native.Nat.{ℕ}
 use Prim.Native.Char.{code}
 use mathlib.Core.Bool.{true, false, cond}
-use mathlib.Core.List.{List, [], _∷_}
+use mathlib.Core.List.{List}
 use mathlib.Core.Option.{Option, some, none}
 use lib.Dec.{eqb}
 use Rattle.grammar.specs.Limits.{schema-levels}
@@ -10,7 +10,7 @@ use Rattle.grammar.specs.Notation.{text, within}
 use Rattle.grammar.specs.Tree.{Scalar, Scalar.bool}
 use Rattle.grammar.specs.Lexis.{blank}
 use Rattle.grammar.specs.SchemaText.{schema-lexis}
-use Rattle.grammar.specs.Machine.{CharStep, CharStep.stay, CharStep.char, CharStep.bad, TokenStep, TokenStep.on, TokenStep.last, TokenStep.off, Dialect, Out, scan, read}
+use Rattle.grammar.specs.Machine.{CharStep, CharStep.stay, CharStep.char, CharStep.bad, TokenStep, TokenStep.off, spell, Dialect, Out, scan, read}
 
 -- after a backslash
 pub data CharState : Type 0 where
@@ -22,7 +22,7 @@ charStart b = cond (eqb b (code "\\")) (stay escape) (cond (within 0x20 0x7E b) 
 unfoldable pub charStep : CharState → ℕ → CharStep CharState
 charStep escape b = cond (eqb b (code "\\")) (char (code "\\")) bad
 
--- inside a word: the next byte, those after it, what the word means
+-- inside a word
 pub data TokenState : Type 0 where
   word : ℕ → List ℕ → Scalar → TokenState
 
@@ -31,12 +31,8 @@ tokenStart b =
     cond (eqb b (code "t")) (some (word (code "r") (text "ue") (bool true)))
     (cond (eqb b (code "f")) (some (word (code "a") (text "lse") (bool false))) none)
 
-abbrev pub spell : List ℕ → Scalar → TokenStep TokenState
-spell [] v = last v
-spell (w ∷ ws) v = on (word w ws v)
-
 unfoldable pub tokenStep : TokenState → ℕ → TokenStep TokenState
-tokenStep (word w ws v) b = cond (eqb b w) (spell ws v) off
+tokenStep (word w ws v) b = cond (eqb b w) (spell word ws v) off
 
 abbrev pub schema : Dialect
 schema =
