@@ -19,6 +19,7 @@ use Rattle.grammar.specs.Starts.{TooDeep}
 use Rattle.grammar.specs.Machine.{Out}
 use Rattle.grammar.specs.Machine.Out.{whole, fault, deep}
 use Rattle.grammar.specs.Machine.Message.{readMessage}
+use Rattle.grammar.proofs.Texts.{message-text, message-item, message-deeper}
 use Rattle.rules.specs.declared.MessageRefusal.{MessageRefusal}
 use Rattle.rules.specs.declared.MessageRefusal.the-variants as M
 use Rattle.rules.specs.declared.MessageAnswer.{MessageAnswer}
@@ -56,10 +57,7 @@ rising = ascending refusalNumber messageRefusals refl
 no-clash : {A B : Type 0} {o : Option B} {b : B} → o ≡ none → o ≡ some b → A
 no-clash e f = let z : _≡_ {A = ℕ} 0 1 = cc in absurd (omega arith)
 
-module _ (whole-text : (l : List ℕ) (j : Json) → (readMessage l ≡ whole (item j no-items)) ↔ MessageText l j)
-    (one-value : (l : List ℕ) (js : Items) → readMessage l ≡ whole js → (j : Json) × (js ≡ item j no-items))
-    (too-deep : (l : List ℕ) (e : ℕ) → (readMessage l ≡ deep e) ↔ TooDeep message-lexis message-levels l e)
-    (exact : (S T : List ℕ) → sound S T ≡ true → (c : ℕ) (j : Json) (ts : List Typed) → ReadsArguments S T c j ts ↔ (argumentsReading S T (arguments T c) j ≡ some ts))
+module _ (exact : (S T : List ℕ) → sound S T ≡ true → (c : ℕ) (j : Json) (ts : List Typed) → ReadsArguments S T c j ts ↔ (argumentsReading S T (arguments T c) j ≡ some ts))
     (same-row : (S T : List ℕ) → sound S T ≡ true → (x : List ℕ) (c d : ℕ) → Names S T x c → Names S T x d → c ≡ d)
   where
     module _ (m : List ℕ) where
@@ -73,15 +71,15 @@ module _ (whole-text : (l : List ℕ) (j : Json) → (readMessage l ≡ whole (i
           go : (o : Out) → readMessage m ≡ o → valueIn o ≡ some j → MessageText m j
           go (whole no-items) p q = no-clash refl q
           go (whole (item k ks)) p q =
-              let z = one-value m (item k ks) p in
+              let z = message-item p .1 in
               let y : item k ks ≡ item j no-items = cc in
-              whole-text m j .0 (p ∙ ap whole y)
+              message-text m j .0 (p ∙ ap whole y)
           go (fault n) p q = no-clash refl q
           go (deep n) p q = no-clash refl q
 
       text-value : (j : Json) → MessageText m j → value ≡ some j
       unfolding value
-      text-value j t = ap valueIn (whole-text m j .1 t)
+      text-value j t = ap valueIn (message-text m j .1 t)
 
       deep-test : isDeep (readMessage m) ≡ true → OneTooMany m
       deep-test e = go (readMessage m) refl e
@@ -89,10 +87,10 @@ module _ (whole-text : (l : List ℕ) (j : Json) → (readMessage l ≡ whole (i
           go : (o : Out) → readMessage m ≡ o → isDeep o ≡ true → OneTooMany m
           go (whole js) p q = clash q refl
           go (fault n) p q = clash q refl
-          go (deep n) p q = (n, too-deep m n .0 p)
+          go (deep n) p q = (n, message-deeper m n .0 p)
 
       test-deep : OneTooMany m → isDeep (readMessage m) ≡ true
-      test-deep (n, t) = ap isDeep (too-deep m n .1 t)
+      test-deep (n, t) = ap isDeep (message-deeper m n .1 t)
 
       opened : Option Envelope
       opened = value >>= envelope

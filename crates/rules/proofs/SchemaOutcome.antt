@@ -17,6 +17,7 @@ use Rattle.grammar.specs.SchemaText.{SchemaText}
 use Rattle.grammar.specs.Machine.{Out}
 use Rattle.grammar.specs.Machine.Out.{whole, fault, deep}
 use Rattle.grammar.specs.Machine.Schema.{readSchema}
+use Rattle.grammar.proofs.Texts.{schema-text}
 use Rattle.rules.specs.declared.SchemaRefusal.{SchemaRefusal}
 use Rattle.rules.specs.declared.SchemaRefusal.the-variants.{TooLong, NotText, RepeatedKey, NotDefinitions, BadName, RepeatedName, UnknownName, BadChain, BadUnion, BadAlternate, BadReturn, TooManyRows, NoRoom}
 use Rattle.rules.specs.declared.SchemaAnswer.{SchemaAnswer}
@@ -73,147 +74,146 @@ listed NoRoom = nth schemaRefusals 12 NoRoom refl
 rising : Ascending refusalNumber schemaRefusals
 rising = ascending refusalNumber schemaRefusals refl
 
-module _ (whole-text : (l : List ℕ) (js : Items) → readSchema l ≡ whole js → SchemaText l js) (text-whole : (l : List ℕ) (js : Items) → SchemaText l js → readSchema l ≡ whole js) where
-  module _ (S : List ℕ) (room : ℕ) where
-    objects : Option Items
-    objects = objectsIn (readSchema S)
+module _ (S : List ℕ) (room : ℕ) where
+  objects : Option Items
+  objects = objectsIn (readSchema S)
 
-    written : Option (List Definition)
-    written = objectsIn (readSchema S) >>= definitions
+  written : Option (List Definition)
+  written = objectsIn (readSchema S) >>= definitions
 
-    objects-text : (js : Items) → objects ≡ some js → SchemaText S js
-    unfolding objects
-    objects-text js e = go (readSchema S) refl e
-      where
-        go : (o : Out) → readSchema S ≡ o → objectsIn o ≡ some js → SchemaText S js
-        go (whole ks) p q = let z : ks ≡ js = cc in whole-text S js (p ∙ ap whole z)
-        go (fault n) p q = let z : _≡_ {A = ℕ} 0 1 = cc in absurd (omega arith)
-        go (deep n) p q = let z : _≡_ {A = ℕ} 0 1 = cc in absurd (omega arith)
+  objects-text : (js : Items) → objects ≡ some js → SchemaText S js
+  unfolding objects
+  objects-text js e = go (readSchema S) refl e
+    where
+      go : (o : Out) → readSchema S ≡ o → objectsIn o ≡ some js → SchemaText S js
+      go (whole ks) p q = let z : ks ≡ js = cc in schema-text S js .0 (p ∙ ap whole z)
+      go (fault n) p q = let z : _≡_ {A = ℕ} 0 1 = cc in absurd (omega arith)
+      go (deep n) p q = let z : _≡_ {A = ℕ} 0 1 = cc in absurd (omega arith)
 
-    text-objects : (js : Items) → SchemaText S js → objects ≡ some js
-    unfolding objects
-    text-objects js t = ap objectsIn (text-whole S js t)
+  text-objects : (js : Items) → SchemaText S js → objects ≡ some js
+  unfolding objects
+  text-objects js t = ap objectsIn (schema-text S js .1 t)
 
-    says : (ds : List Definition) → Says S ds → written ≡ some ds
-    unfolding written objects
-    says ds h = rw (text-objects (h .objects) (h .is-text)) (h .keeps-keys)
+  says : (ds : List Definition) → Says S ds → written ≡ some ds
+  unfolding written objects
+  says ds h = rw (text-objects (h .objects) (h .is-text)) (h .keeps-keys)
 
-    said : (ds : List Definition) → written ≡ some ds → Says S ds
-    unfolding written objects
-    said ds e = let z = bind-some objects definitions ds e in record { objects = z .0; is-text = objects-text (z .0) (z .1); keeps-keys = z .2 }
+  said : (ds : List Definition) → written ≡ some ds → Says S ds
+  unfolding written objects
+  said ds e = let z = bind-some objects definitions ds e in record { objects = z .0; is-text = objects-text (z .0) (z .1); keeps-keys = z .2 }
 
-    test : SchemaRefusal → Bool
-    test x = schemaTest S room objects written x
+  test : SchemaRefusal → Bool
+  test x = schemaTest S room objects written x
 
-    -- a rule on the definitions written, and its test
-    breaks-test : (P : List Definition → Bool) → (ds : List Definition) × Says S ds × (P ds ≡ false) → is written (λ ds. not (P ds)) ≡ true
-    breaks-test P (ds, s, e) = is-of written (λ ds. not (P ds)) ds (says ds s) (rw e)
+  -- a rule on the definitions written, and its test
+  breaks-test : (P : List Definition → Bool) → (ds : List Definition) × Says S ds × (P ds ≡ false) → is written (λ ds. not (P ds)) ≡ true
+  breaks-test P (ds, s, e) = is-of written (λ ds. not (P ds)) ds (says ds s) (rw e)
 
-    test-breaks : (P : List Definition → Bool) → is written (λ ds. not (P ds)) ≡ true → (ds : List Definition) × Says S ds × (P ds ≡ false)
-    test-breaks P e = let z = is-true written (λ ds. not (P ds)) e in (z .0, said (z .0) (z .1), not-true (P (z .0)) (z .2))
+  test-breaks : (P : List Definition → Bool) → is written (λ ds. not (P ds)) ≡ true → (ds : List Definition) × Says S ds × (P ds ≡ false)
+  test-breaks P e = let z = is-true written (λ ds. not (P ds)) e in (z .0, said (z .0) (z .1), not-true (P (z .0)) (z .2))
 
-    passes-test : (P : List Definition → ℕ) (n : ℕ) → (ds : List Definition) × Says S ds × (n < P ds) → is written (λ ds. ltb n (P ds)) ≡ true
-    passes-test P n (ds, s, h) = is-of written (λ ds. ltb n (P ds)) ds (says ds s) (lt-ltb n (P ds) h)
+  passes-test : (P : List Definition → ℕ) (n : ℕ) → (ds : List Definition) × Says S ds × (n < P ds) → is written (λ ds. ltb n (P ds)) ≡ true
+  passes-test P n (ds, s, h) = is-of written (λ ds. ltb n (P ds)) ds (says ds s) (lt-ltb n (P ds) h)
 
-    test-passes : (P : List Definition → ℕ) (n : ℕ) → is written (λ ds. ltb n (P ds)) ≡ true → (ds : List Definition) × Says S ds × (n < P ds)
-    test-passes P n e = let z = is-true written (λ ds. ltb n (P ds)) e in (z .0, said (z .0) (z .1), ltb-true n (P (z .0)) (z .2))
+  test-passes : (P : List Definition → ℕ) (n : ℕ) → is written (λ ds. ltb n (P ds)) ≡ true → (ds : List Definition) × Says S ds × (n < P ds)
+  test-passes P n e = let z = is-true written (λ ds. ltb n (P ds)) e in (z .0, said (z .0) (z .1), ltb-true n (P (z .0)) (z .2))
 
-    no-objects : ((js : Items) → SchemaText S js → ⊥) → isNone objects ≡ true
-    no-objects h = go objects refl
-      where
-        go : (o : Option Items) → objects ≡ o → isNone o ≡ true
-        go none e = refl
-        go (some js) e = absurd (h js (objects-text js e))
+  no-objects : ((js : Items) → SchemaText S js → ⊥) → isNone objects ≡ true
+  no-objects h = go objects refl
+    where
+      go : (o : Option Items) → objects ≡ o → isNone o ≡ true
+      go none e = refl
+      go (some js) e = absurd (h js (objects-text js e))
 
-    unwritten : (js : Items) → SchemaText S js → definitions js ≡ none → written ≡ none
-    unfolding written objects
-    unwritten js t e = rw (text-objects js t) e
+  unwritten : (js : Items) → SchemaText S js → definitions js ≡ none → written ≡ none
+  unfolding written objects
+  unwritten js t e = rw (text-objects js t) e
 
-    not-written : (js : Items) → objects ≡ some js → written ≡ none → definitions js ≡ none
-    unfolding written objects
-    not-written js p e = (rw p at e)
+  not-written : (js : Items) → objects ≡ some js → written ≡ none → definitions js ≡ none
+  unfolding written objects
+  not-written js p e = (rw p at e)
 
-    -- each test says when its number applies
-    applies-test : (x : SchemaRefusal) → SchemaApplies x S room → test x ≡ true
-    unfolding test
-    applies-test TooLong a = lt-ltb schema-bytes (length S) a
-    applies-test NotText a = no-objects a
-    applies-test RepeatedKey (js, t, e) = is-of objects (λ j. not (keysOnceI j)) js (text-objects js t) (rw e)
-    applies-test NotDefinitions (js, t, e) = is-of objects (λ j. isNone written) js (text-objects js t) (rw (unwritten js t e))
-    applies-test BadName a = breaks-test (λ ds. goodNames S (table S ds)) a
-    applies-test RepeatedName a = breaks-test (λ ds. distinctNames S (table S ds)) a
-    applies-test UnknownName a = breaks-test (allRefer S) a
-    applies-test BadChain a = breaks-test (λ ds. goodChains S (table S ds)) a
-    applies-test BadUnion a = breaks-test (λ ds. goodUnions S (table S ds)) a
-    applies-test BadAlternate a = breaks-test (λ ds. goodAlternates S (table S ds)) a
-    applies-test BadReturn a = breaks-test (λ ds. goodReturns S (table S ds)) a
-    applies-test TooManyRows a = passes-test (λ ds. rowCount (table S ds)) table-rows a
-    applies-test NoRoom a = passes-test (λ ds. rowCount (table S ds)) (room / row-words) a
+  -- each test says when its number applies
+  applies-test : (x : SchemaRefusal) → SchemaApplies x S room → test x ≡ true
+  unfolding test
+  applies-test TooLong a = lt-ltb schema-bytes (length S) a
+  applies-test NotText a = no-objects a
+  applies-test RepeatedKey (js, t, e) = is-of objects (λ j. not (keysOnceI j)) js (text-objects js t) (rw e)
+  applies-test NotDefinitions (js, t, e) = is-of objects (λ j. isNone written) js (text-objects js t) (rw (unwritten js t e))
+  applies-test BadName a = breaks-test (λ ds. goodNames S (table S ds)) a
+  applies-test RepeatedName a = breaks-test (λ ds. distinctNames S (table S ds)) a
+  applies-test UnknownName a = breaks-test (allRefer S) a
+  applies-test BadChain a = breaks-test (λ ds. goodChains S (table S ds)) a
+  applies-test BadUnion a = breaks-test (λ ds. goodUnions S (table S ds)) a
+  applies-test BadAlternate a = breaks-test (λ ds. goodAlternates S (table S ds)) a
+  applies-test BadReturn a = breaks-test (λ ds. goodReturns S (table S ds)) a
+  applies-test TooManyRows a = passes-test (λ ds. rowCount (table S ds)) table-rows a
+  applies-test NoRoom a = passes-test (λ ds. rowCount (table S ds)) (room / row-words) a
 
-    test-applies : (x : SchemaRefusal) → test x ≡ true → SchemaApplies x S room
-    unfolding test
-    test-applies TooLong e = ltb-true schema-bytes (length S) e
-    test-applies NotText e = λ js t. let p = text-objects js t in let q = none-of objects e in let z : _≡_ {A = ℕ} 0 1 = cc in absurd (omega arith)
-    test-applies RepeatedKey e = let z = is-true objects (λ j. not (keysOnceI j)) e in (z .0, objects-text (z .0) (z .1), not-true (keysOnceI (z .0)) (z .2))
-    test-applies NotDefinitions e =
-        let z = is-true objects (λ j. isNone written) e in
-        (z .0, objects-text (z .0) (z .1), not-written (z .0) (z .1) (none-of written (z .2)))
-    test-applies BadName e = test-breaks (λ ds. goodNames S (table S ds)) e
-    test-applies RepeatedName e = test-breaks (λ ds. distinctNames S (table S ds)) e
-    test-applies UnknownName e = test-breaks (allRefer S) e
-    test-applies BadChain e = test-breaks (λ ds. goodChains S (table S ds)) e
-    test-applies BadUnion e = test-breaks (λ ds. goodUnions S (table S ds)) e
-    test-applies BadAlternate e = test-breaks (λ ds. goodAlternates S (table S ds)) e
-    test-applies BadReturn e = test-breaks (λ ds. goodReturns S (table S ds)) e
-    test-applies TooManyRows e = test-passes (λ ds. rowCount (table S ds)) table-rows e
-    test-applies NoRoom e = test-passes (λ ds. rowCount (table S ds)) (room / row-words) e
+  test-applies : (x : SchemaRefusal) → test x ≡ true → SchemaApplies x S room
+  unfolding test
+  test-applies TooLong e = ltb-true schema-bytes (length S) e
+  test-applies NotText e = λ js t. let p = text-objects js t in let q = none-of objects e in let z : _≡_ {A = ℕ} 0 1 = cc in absurd (omega arith)
+  test-applies RepeatedKey e = let z = is-true objects (λ j. not (keysOnceI j)) e in (z .0, objects-text (z .0) (z .1), not-true (keysOnceI (z .0)) (z .2))
+  test-applies NotDefinitions e =
+      let z = is-true objects (λ j. isNone written) e in
+      (z .0, objects-text (z .0) (z .1), not-written (z .0) (z .1) (none-of written (z .2)))
+  test-applies BadName e = test-breaks (λ ds. goodNames S (table S ds)) e
+  test-applies RepeatedName e = test-breaks (λ ds. distinctNames S (table S ds)) e
+  test-applies UnknownName e = test-breaks (allRefer S) e
+  test-applies BadChain e = test-breaks (λ ds. goodChains S (table S ds)) e
+  test-applies BadUnion e = test-breaks (λ ds. goodUnions S (table S ds)) e
+  test-applies BadAlternate e = test-breaks (λ ds. goodAlternates S (table S ds)) e
+  test-applies BadReturn e = test-breaks (λ ds. goodReturns S (table S ds)) e
+  test-applies TooManyRows e = test-passes (λ ds. rowCount (table S ds)) table-rows e
+  test-applies NoRoom e = test-passes (λ ds. rowCount (table S ds)) (room / row-words) e
 
-    -- where no number applies there are definitions
-    there : ((x : SchemaRefusal) → test x ≡ false) → (ds : List Definition) × (written ≡ some ds)
-    unfolding test
-    there h =
-        let js = some-of objects (h NotText) in
-        some-of written (rw (js .1) at (h NotDefinitions))
+  -- where no number applies there are definitions
+  there : ((x : SchemaRefusal) → test x ≡ false) → (ds : List Definition) × (written ≡ some ds)
+  unfolding test
+  there h =
+      let js = some-of objects (h NotText) in
+      some-of written (rw (js .1) at (h NotDefinitions))
 
-    decided-by : Option SchemaRefusal
-    decided-by = first test schemaRefusals
+  decided-by : Option SchemaRefusal
+  decided-by = first test schemaRefusals
 
-    outcome : SchemaResult
-    outcome = schemaAnswered S room (tableIn S room written) decided-by
+  outcome : SchemaResult
+  outcome = schemaAnswered S room (tableIn S room written) decided-by
 
-    result-is : schemaResult S room ≡ outcome
-    unfolding outcome decided-by test written objects schemaResult
-    result-is = refl
+  result-is : schemaResult S room ≡ outcome
+  unfolding outcome decided-by test written objects schemaResult
+  result-is = refl
 
-    -- the outcome is one that the table allows
-    allowed : SchemaOutcome S room (outcome .answer) (outcome .words)
-    unfolding outcome decided-by
-    allowed = go decided-by refl
-      where
-        go : (o : Option SchemaRefusal) → first test schemaRefusals ≡ o → SchemaOutcome S room (schemaAnswered S room (tableIn S room written) o .answer) (schemaAnswered S room (tableIn S room written) o .words)
-        go none e =
-            let no-test : (x : SchemaRefusal) → test x ≡ false = λ x. first-none refusalNumber test schemaRefusals e x (listed x) in
-            let ds = there no-test in
-            rw (ds .1) (accepted (said (ds .0) (ds .1)) (λ x a. clash (applies-test x a) (no-test x)) refl refl)
-        go (some x) e =
-            refused (test-applies x (first-passes refusalNumber test schemaRefusals x e))
-            (λ y h a. clash (applies-test y a) (first-lowest refusalNumber test schemaRefusals rising x e y (listed y) h)) refl refl
+  -- the outcome is one that the table allows
+  allowed : SchemaOutcome S room (outcome .answer) (outcome .words)
+  unfolding outcome decided-by
+  allowed = go decided-by refl
+    where
+      go : (o : Option SchemaRefusal) → first test schemaRefusals ≡ o → SchemaOutcome S room (schemaAnswered S room (tableIn S room written) o .answer) (schemaAnswered S room (tableIn S room written) o .words)
+      go none e =
+          let no-test : (x : SchemaRefusal) → test x ≡ false = λ x. first-none refusalNumber test schemaRefusals e x (listed x) in
+          let ds = there no-test in
+          rw (ds .1) (accepted (said (ds .0) (ds .1)) (λ x a. clash (applies-test x a) (no-test x)) refl refl)
+      go (some x) e =
+          refused (test-applies x (first-passes refusalNumber test schemaRefusals x e))
+          (λ y h a. clash (applies-test y a) (first-lowest refusalNumber test schemaRefusals rising x e y (listed y) h)) refl refl
 
-    -- and the only one
-    only : (a : SchemaAnswer) (w : List ℕ) → SchemaOutcome S room a w → (a ≡ outcome .answer) × (w ≡ outcome .words)
-    unfolding outcome decided-by
-    only a w (accepted {ds} s h p q) =
-        let d = says ds s in
-        let e : first test schemaRefusals ≡ none = none-first refusalNumber test schemaRefusals (λ x m. decided (test x) (λ t. h x (test-applies x t))) in
-        rw (e, d) (p, q)
-    only a w (refused {x} s h p q) =
-        let e : first test schemaRefusals ≡ some x =
-        lowest-first refusalNumber test schemaRefusals rising x (listed x) (applies-test x s) (λ y g. decided (test y) (λ t. h y g (test-applies y t))) in
-        rw e (p, q)
+  -- and the only one
+  only : (a : SchemaAnswer) (w : List ℕ) → SchemaOutcome S room a w → (a ≡ outcome .answer) × (w ≡ outcome .words)
+  unfolding outcome decided-by
+  only a w (accepted {ds} s h p q) =
+      let d = says ds s in
+      let e : first test schemaRefusals ≡ none = none-first refusalNumber test schemaRefusals (λ x m. decided (test x) (λ t. h x (test-applies x t))) in
+      rw (e, d) (p, q)
+  only a w (refused {x} s h p q) =
+      let e : first test schemaRefusals ≡ some x =
+      lowest-first refusalNumber test schemaRefusals rising x (listed x) (applies-test x s) (λ y g. decided (test y) (λ t. h y g (test-applies y t))) in
+      rw e (p, q)
 
-    -- The paper's table of schema answers: for every schema and room there is one outcome, the one that schemaResult gives.
-    pub schema-outcome : SchemaOutcome S room (schemaResult S room .answer) (schemaResult S room .words)
-    schema-outcome = rw result-is allowed
+  -- The paper's table of schema answers: for every schema and room there is one outcome, the one that schemaResult gives.
+  pub schema-outcome : SchemaOutcome S room (schemaResult S room .answer) (schemaResult S room .words)
+  schema-outcome = rw result-is allowed
 
-    pub schema-outcome-only : (a : SchemaAnswer) (w : List ℕ) → SchemaOutcome S room a w → (a ≡ schemaResult S room .answer) × (w ≡ schemaResult S room .words)
-    schema-outcome-only a w h = rw result-is (only a w h)
+  pub schema-outcome-only : (a : SchemaAnswer) (w : List ℕ) → SchemaOutcome S room a w → (a ≡ schemaResult S room .answer) × (w ≡ schemaResult S room .words)
+  schema-outcome-only a w h = rw result-is (only a w h)
