@@ -4,3 +4,4 @@ pub mod SchemaOutcome
 pub mod Lists
 pub mod Commands
 pub mod MessageOutcome
+pub mod Chains

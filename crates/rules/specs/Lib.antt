@@ -11,5 +11,6 @@ pub mod SchemaAnswers
 pub mod Envelope
 pub mod Readings
 pub mod MessageAnswers
+pub mod Cases
 pub mod ReadingOf
 pub mod Answers

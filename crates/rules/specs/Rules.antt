@@ -33,6 +33,10 @@ noClash xs ys = all (λ (x : List ℕ). all (λ (y : List ℕ). not (clash x y))
 abbrev pub sameKinds : Option Kind → Option Kind → Bool
 sameKinds j k = is j (λ x. is k (λ y. sameKind x y))
 
+-- the most structs on the chain of a struct's base: the struct itself is the first one counted
+abbrev pub base-structs : ℕ
+base-structs = chain-structs - 1
+
 module _ (S T : List ℕ) where
   abbrev pub everyRow : (ℕ → Bool) → Bool
   everyRow f = all f (upFrom 0 (rowCount T))
@@ -56,7 +60,7 @@ module _ (S T : List ℕ) where
 
   -- 8: at most 16 structs on the chain from each struct on, itself counted, and no inherited member repeated
   abbrev pub chainFits : ℕ → Bool
-  chainFits r = is (members T (chain-structs - 1) (base T r)) (λ inherited. noClash (namesOf inherited) (namesOf (children T r)))
+  chainFits r = is (members T base-structs (base T r)) (λ inherited. noClash (namesOf inherited) (namesOf (children T r)))
 
   unfoldable pub goodChains : Bool
   goodChains = everyRow (λ r. not (isStruct T r) || chainFits r)
