@@ -2,7 +2,7 @@
 -- The answers are computed; by SchemaOutcome and MessageOutcome they are the only ones that the paper's tables allow.
 use Prim.Native.Nat.{ℕ, _*_}
 use mathlib.Core.Path.{_≡_, refl}
-use mathlib.Core.List.{List, [], _∷_, _++_, map}
+use mathlib.Core.List.{List, _∷_, _++_, map}
 use lib.ListN.{take, replicate}
 use Rattle.grammar.specs.Limits.{row-words}
 use Rattle.grammar.specs.Notation.{text}

@@ -9,7 +9,7 @@ use mathlib.Core.Option.{Option, none, some}
 use Rattle.grammar.specs.Limits.{chain-structs}
 use Rattle.rules.specs.Rows.{base, children, members, after}
 use Rattle.rules.specs.Rules.{base-structs, chainFits, namesOf, noClash}
-use Rattle.rules.proofs.SchemaOutcome.{is-true}
+use Rattle.rules.proofs.Lists.{is-true}
 
 module _ (T : List ℕ) where
   -- the chain of bases from a link on has so many structs and then ends

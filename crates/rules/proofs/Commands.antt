@@ -1,21 +1,19 @@
 -- The command that a name finds: a row of kind 9 of that name, and none where there is none.
 -- The idea: the search from row r on passes over rows that are no command of that name.
-use Prim.Native.Nat.{ℕ, zero, suc, _+_, _≤_, _<_}
+use Prim.Native.Nat.{ℕ, zero, suc, _+_, _≤_}
 use native.Mathlib.Nat.{eq-or-lt-of-le}
 use native.Mathlib.Omega.{arith}
-use mathlib.Core.Path.{_≡_, refl, sym, _∙_}
+use mathlib.Core.Path.{_≡_, refl}
 use mathlib.Core.Bool.{Bool, true, false, cond, _&&_}
 use mathlib.Core.Logic.{⊎-elim}
 use mathlib.Core.List.{List}
-use mathlib.Core.Option.{Option, none, some}
-use lib.Dec.{eqb}
+use mathlib.Core.Option.{none, some}
 use borrow.Author.Tests.{eqb-true, eq-eqb}
 use Rattle.rules.specs.Names.{sameName}
 use Rattle.rules.specs.Rows.{rowCount, kind, isCommand, nameOf}
 use Rattle.rules.specs.Envelope.{Names}
 use Rattle.rules.specs.Answers.{commandFrom}
-use Rattle.rules.proofs.First.{clash}
-use Rattle.rules.proofs.Lists.{and-left, and-right, and-of, same-true, same-refl}
+use Rattle.rules.proofs.Lists.{clash, and-left, and-right, and-of, same-true, same-refl}
 
 module _ (S T x : List ℕ) where
   pub command-found : (n r c : ℕ) → r + n ≡ rowCount T → commandFrom S T x r n ≡ some c → Names S T x c

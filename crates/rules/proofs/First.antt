@@ -6,14 +6,12 @@ use mathlib.Core.Path.{_≡_, refl, sym, _∙_}
 use mathlib.Core.Bool.{Bool, true, false, cond, _&&_}
 use mathlib.Core.Logic.{_⊎_, inl, inr, ⊎-elim}
 use mathlib.Core.List.{List, [], _∷_, List·Memᴰ, List·Memᴰ·cases-cons, List·Memᴰ·not-nil}
-use mathlib.Core.Option.{Option, none, some}
+use mathlib.Core.Option.{none, some}
 use lib.Dec.{ltb}
 use borrow.Author.Tests.{ltb-true}
 use Rattle.grammar.specs.Notation.{all}
 use Rattle.rules.specs.Answers.{first}
-
-pub clash : {A : Type 0} {b : Bool} → b ≡ true → b ≡ false → A
-clash e f = let z : _≡_ {A = ℕ} 0 1 = cc in absurd (omega arith)
+use Rattle.rules.proofs.Lists.{clash, all-true}
 
 -- a test that is not true is false
 pub decided : (b : Bool) → (b ≡ true → ⊥) → b ≡ false
@@ -29,14 +27,6 @@ pub data Ascending {A : Type 0} (number : A → ℕ) : List A → Type 0 where
 abbrev pub ascends : {A : Type 0} → (A → ℕ) → List A → Bool
 ascends number [] = true
 ascends number (x ∷ xs) = all (λ y. ltb (number x) (number y)) xs && ascends number xs
-
-all-true : {A : Type 0} (f : A → Bool) (l : List A) → all f l ≡ true → (x : A) → List·Memᴰ x l → f x ≡ true
-all-true f [] e x m = absurd (List·Memᴰ·not-nil m)
-all-true {A} f (y ∷ l) e x m = go (f y) refl e (all-true f l)
-  where
-    go : (b : Bool) → f y ≡ b → (b && all f l) ≡ true → (all f l ≡ true → (x : A) → List·Memᴰ x l → f x ≡ true) → f x ≡ true
-    go true t h r = ⊎-elim (λ (q : x ≡ y). let w : f x ≡ f y = cc in w ∙ t) (λ n. r h x n) (List·Memᴰ·cases-cons m)
-    go false t h r = clash refl (sym h)
 
 pub ascending : {A : Type 0} (number : A → ℕ) (l : List A) → ascends number l ≡ true → Ascending number l
 ascending number [] e = empty

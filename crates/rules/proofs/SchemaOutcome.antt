@@ -1,14 +1,14 @@
 -- The schema answer as a function is the one outcome that the paper's table allows: each test says when its number applies, and the first that passes is the lowest.
 -- The idea: the bytes decide the text, the text the objects, these the definitions; so a statement on "the definitions of S" is one on the definitions computed.
-use Prim.Native.Nat.{ℕ, zero, suc, _-_, _/_, _<_}
+use Prim.Native.Nat.{ℕ, zero, suc, _/_, _<_}
 use native.Mathlib.Omega.{arith}
 use mathlib.Core.Path.{_≡_, refl, sym, ap, _∙_}
 use mathlib.Core.Bool.{Bool, true, false, not}
-use mathlib.Core.List.{List, [], _∷_, _++_, List·Memᴰ}
+use mathlib.Core.List.{List, [], _∷_, List·Memᴰ}
 use mathlib.Core.List.List·Memᴰ.{List·Memᴰ·head, List·Memᴰ·tail}
 use mathlib.Core.Option.{Option, none, some}
 use lib.Dec.{ltb}
-use lib.ListN.{length, replicate, getElem?}
+use lib.ListN.{length, getElem?}
 use borrow.Author.Tests.{ltb-true, lt-ltb, not-true}
 use Rattle.grammar.specs.Limits.{schema-bytes, table-rows, row-words}
 use Rattle.grammar.specs.Tree.{Items}
@@ -26,16 +26,13 @@ use Rattle.rules.specs.Definitions.{Definition, definitions}
 use Rattle.rules.specs.Rows.{rowCount}
 use Rattle.rules.specs.Rules.{is, goodNames, distinctNames, goodChains, goodUnions, goodAlternates, goodReturns}
 use Rattle.rules.specs.SchemaTable.{table, allRefer}
-use Rattle.rules.specs.SchemaAnswers.{refusalNumber, Says, Breaks, SchemaApplies, SchemaOutcome}
+use Rattle.rules.specs.SchemaAnswers.{refusalNumber, Says, SchemaApplies, SchemaOutcome}
 use Rattle.rules.specs.SchemaAnswers.SchemaOutcome.{accepted, refused}
-use Rattle.rules.specs.Answers.{SchemaResult, isNone, first, schemaRefusals, objectsIn, schemaTest, tableIn, schemaAnswered, ofDefinitions, schemaResult}
-use Rattle.rules.proofs.First.{clash, decided, Ascending, ascending, first-passes, first-none, first-lowest, none-first, lowest-first}
+use Rattle.rules.specs.Answers.{SchemaResult, isNone, first, schemaRefusals, objectsIn, schemaTest, tableIn, schemaAnswered, schemaResult}
+use Rattle.rules.proofs.Lists.{clash, is-true}
+use Rattle.rules.proofs.First.{decided, Ascending, ascending, first-passes, first-none, first-lowest, none-first, lowest-first}
 
 -- what a test on an optional value says
-pub is-true : {A : Type 0} (o : Option A) (f : A → Bool) → is o f ≡ true → (a : A) × (o ≡ some a) × (f a ≡ true)
-is-true none f e = clash refl (sym e)
-is-true (some a) f e = (a, refl, e)
-
 pub is-of : {A : Type 0} (o : Option A) (f : A → Bool) (a : A) → o ≡ some a → f a ≡ true → is o f ≡ true
 is-of o f a p e = rw p e
 

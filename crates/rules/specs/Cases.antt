@@ -2,8 +2,7 @@
 -- A case is a schema with the words lent for its rows and its answer, then messages to its table, each with the words lent and its answer.
 use Prim.Native.Nat.{ℕ}
 use Prim.Native.String.{String}
-use mathlib.Core.List.{List, [], _∷_, _++_}
-use lib.ListN.{replicate}
+use mathlib.Core.List.{List, [], _∷_}
 
 -- an answer: its numbers, the rows or records, and how many zeros after them
 pub record Answer : Type 0 where

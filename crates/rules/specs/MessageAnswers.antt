@@ -1,9 +1,9 @@
 -- 01, Message answers: when each number applies, and the whole outcome: the lowest that applies, the command's row, the count, and every lent word.
 use Prim.Native.Nat.{ℕ, _-_, _/_, _<_}
 use mathlib.Core.Path.{_≡_}
-use mathlib.Core.Bool.{Bool, true, false}
+use mathlib.Core.Bool.{false}
 use mathlib.Core.List.{List, _++_}
-use mathlib.Core.Option.{Option, none, some}
+use mathlib.Core.Option.{none, some}
 use lib.ListN.{length, replicate}
 use Rattle.grammar.specs.Limits.{message-bytes, message-levels, record-words}
 use Rattle.grammar.specs.Tree.{Json}

@@ -14,7 +14,7 @@ use Rattle.grammar.specs.Tree.Fields.{no-fields, field}
 use Rattle.grammar.specs.Keys.{keysOf}
 use Rattle.rules.specs.Types.{any-type, builtInTakes, sameKind}
 use Rattle.rules.specs.Values.{asString, valueAt, anyOf}
-use Rattle.rules.specs.Rows.{isEnum, isStruct, isUnion, isAlternate, typeRef, arrayMark, optional, unionBase, discriminator, branchStruct, arguments, children, members, nameOf, typeKind, after}
+use Rattle.rules.specs.Rows.{isEnum, isStruct, isUnion, isAlternate, typeRef, arrayMark, optional, unionBase, discriminator, branchStruct, children, members, nameOf, typeKind}
 use Rattle.rules.specs.Rules.{is, namesOf}
 use Rattle.rules.specs.SchemaTable.{memberIn}
 use Rattle.rules.specs.Readings.{Typed, typed}

@@ -3,7 +3,7 @@ use Prim.Native.Nat.{ℕ, suc, _+_}
 use mathlib.Core.Path.{_≡_}
 use mathlib.Core.Bool.{true}
 use mathlib.Core.List.{List, [], _∷_, _++_, List·Memᴰ}
-use mathlib.Core.Option.{Option, some}
+use mathlib.Core.Option.{some}
 use Rattle.grammar.specs.Limits.{first-row, chain-structs}
 use Rattle.grammar.specs.Tree.{Json, Items, Fields, startOf, endOf}
 use Rattle.grammar.specs.Tree.Scalar.{str}

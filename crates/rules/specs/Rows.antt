@@ -1,12 +1,11 @@
 -- 01, Rows: what the words of a table say. Everything here is total: past the end every word is 0.
 use Prim.Native.Nat.{ℕ, zero, suc, _+_, _-_, _*_, _/_}
-use mathlib.Core.Bool.{Bool, true, false, cond, not, _&&_, _||_}
+use mathlib.Core.Bool.{Bool, false, cond, _&&_, _||_}
 use mathlib.Core.List.{List, [], _∷_, _++_}
 use mathlib.Core.Option.{Option, none, some}
 use lib.Dec.{eqb, ltb}
 use lib.ListN.{getD, length, take, drop}
 use Rattle.grammar.specs.Limits.{row-words, first-row}
-use Rattle.grammar.specs.Notation.{same}
 use Rattle.grammar.specs.Tree.{Kind}
 use Rattle.grammar.specs.Tree.Kind.{object, string}
 use Rattle.rules.specs.Types.{built-in-kinds}

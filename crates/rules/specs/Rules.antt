@@ -1,5 +1,5 @@
 -- 01, Schema answers 5, 6 and 8 to 11, said of the rows of a table T over the schema bytes S.
-use Prim.Native.Nat.{ℕ, zero, suc, _+_, _-_}
+use Prim.Native.Nat.{ℕ, suc, _-_}
 use mathlib.Core.Bool.{Bool, true, false, not, cond, _&&_, _||_}
 use mathlib.Core.List.{List, [], _∷_, map}
 use mathlib.Core.Option.{Option, none, some}
@@ -37,16 +37,16 @@ sameKinds j k = is j (λ x. is k (λ y. sameKind x y))
 abbrev pub base-structs : ℕ
 base-structs = chain-structs - 1
 
-module _ (S T : List ℕ) where
-  abbrev pub everyRow : (ℕ → Bool) → Bool
-  everyRow f = all f (upFrom 0 (rowCount T))
+abbrev pub everyRow : List ℕ → (ℕ → Bool) → Bool
+everyRow T f = all f (upFrom 0 (rowCount T))
 
+module _ (S T : List ℕ) where
   abbrev pub namesOf : List ℕ → List (List ℕ)
   namesOf rs = map (nameOf S T) rs
 
   -- 5: every name is good; an inline struct has none
   unfoldable pub goodNames : Bool
-  goodNames = everyRow (λ r. inline T r || goodName (eqb (kind T r) 2 || eqb (kind T r) 6) (nameOf S T r))
+  goodNames = everyRow T (λ r. inline T r || goodName (eqb (kind T r) 2 || eqb (kind T r) 6) (nameOf S T r))
 
   abbrev pub isDefinition : ℕ → Bool
   isDefinition r = (isEnum T r || isStruct T r || isUnion T r || isAlternate T r || isCommand T r) && not (inline T r)
@@ -56,14 +56,14 @@ module _ (S T : List ℕ) where
 
   -- 6: definitions and built-ins share one set of names, and so do the values, members, branches or alternatives of one list
   unfoldable pub distinctNames : Bool
-  distinctNames = apart clash definitionNames && noClash definitionNames built-ins && everyRow (λ r. apart clash (namesOf (children T r)))
+  distinctNames = apart clash definitionNames && noClash definitionNames built-ins && everyRow T (λ r. apart clash (namesOf (children T r)))
 
   -- 8: at most 16 structs on the chain from each struct on, itself counted, and no inherited member repeated
   abbrev pub chainFits : ℕ → Bool
   chainFits r = is (members T base-structs (base T r)) (λ inherited. noClash (namesOf inherited) (namesOf (children T r)))
 
   unfoldable pub goodChains : Bool
-  goodChains = everyRow (λ r. not (isStruct T r) || chainFits r)
+  goodChains = everyRow T (λ r. not (isStruct T r) || chainFits r)
 
   -- 9: the discriminator is a mandatory member of the base, no array, of an enum type
   abbrev pub discriminatorRow : ℕ → ℕ
@@ -87,7 +87,7 @@ module _ (S T : List ℕ) where
   unionFits r = ltb 0 (branchCount T r) && is (members T chain-structs (unionBase T r)) (λ ms. discriminatorFits r ms && all (branchFits r ms) (children T r))
 
   unfoldable pub goodUnions : Bool
-  goodUnions = everyRow (λ r. not (isUnion T r) || unionFits r)
+  goodUnions = everyRow T (λ r. not (isUnion T r) || unionFits r)
 
   -- 10: an alternate has an alternative, each has a JSON kind (any and alternates have none), and no two have the same
   abbrev pub kindsOf : List ℕ → List (Option Kind)
@@ -97,11 +97,11 @@ module _ (S T : List ℕ) where
   alternateFits r = ltb 0 (count T r) && all (λ k. is k (λ _. true)) (kindsOf (children T r)) && apart sameKinds (kindsOf (children T r))
 
   unfoldable pub goodAlternates : Bool
-  goodAlternates = everyRow (λ r. not (isAlternate T r) || alternateFits r)
+  goodAlternates = everyRow T (λ r. not (isAlternate T r) || alternateFits r)
 
   -- 11: a command returns nothing, or a struct or a union, or an array of these
   abbrev pub returnFits : ℕ → Bool
   returnFits t = eqb t 0 || leb first-row t && (isStruct T (t - first-row) || isUnion T (t - first-row))
 
   unfoldable pub goodReturns : Bool
-  goodReturns = everyRow (λ r. not (isCommand T r) || returnFits (returns T r))
+  goodReturns = everyRow T (λ r. not (isCommand T r) || returnFits (returns T r))

@@ -1,6 +1,6 @@
 -- 01, Rows: when a table, any words, is sound over schema bytes, any bytes.
-use Prim.Native.Nat.{ℕ, zero, suc, _+_, _-_, _*_, _%_}
-use mathlib.Core.Bool.{Bool, true, false, not, _&&_, _||_}
+use Prim.Native.Nat.{ℕ, zero, suc, _+_, _-_, _%_}
+use mathlib.Core.Bool.{Bool, not, _&&_, _||_}
 use mathlib.Core.List.{List, [], _∷_}
 use lib.Dec.{eqb, ltb, leb}
 use lib.ListN.{getD, length}
@@ -64,6 +64,6 @@ module _ (T : List ℕ) where
 unfoldable pub sound : List ℕ → List ℕ → Bool
 sound S T =
     eqb (length T % row-words) 0 && leb (rowCount T) table-rows && leb (length S) schema-bytes
-    && everyRow S T (λ r. leb (start T r + size T r) (length S))
-    && laidOut T (rowCount T) 0 && everyRow S T (λ r. restZero T r && referencesFit T r)
+    && everyRow T (λ r. leb (start T r + size T r) (length S))
+    && laidOut T (rowCount T) 0 && everyRow T (λ r. restZero T r && referencesFit T r)
     && goodNames S T && distinctNames S T && goodChains S T && goodUnions S T && goodAlternates S T && goodReturns S T

@@ -1,6 +1,6 @@
 -- Taking trees apart: notation for the rules on schemas and messages. No rule of the paper stands here.
 use Prim.Native.Nat.{ℕ}
-use mathlib.Core.Bool.{Bool, true, false, cond, _||_}
+use mathlib.Core.Bool.{Bool, false, cond, _||_}
 use mathlib.Core.List.{List, [], _∷_}
 use mathlib.Core.Option.{Option, none, some}
 use Rattle.grammar.specs.Notation.{same}
