@@ -166,9 +166,9 @@ module _ (S T : List ℕ) (h : sound S T ≡ true) where
   branch-fits : (r b : ℕ) (ms : List ℕ) → kind T r ≡ 5 → members T chain-structs (unionBase T r) ≡ some ms → List·Memᴰ b (children T r) → branchFits S T r ms b ≡ true
   branch-fits r b ms k e m =
       let u : unionFits S T r ≡ true = union-fits r k in
-      let fits : List ℕ → Bool = λ xs. discriminatorFits S T r xs && all (branchFits S T r xs) (children T r) in
+      let fits : List ℕ → Bool = λ xs. discriminatorFits T r xs && all (branchFits S T r xs) (children T r) in
       let f : fits ms ≡ true = is-at (members T chain-structs (unionBase T r)) fits ms (search (and-left, and-right)) e in
-      all-true (branchFits S T r ms) (children T r) (and-right (discriminatorFits S T r ms) (all (branchFits S T r ms) (children T r)) f) b m
+      all-true (branchFits S T r ms) (children T r) (and-right (discriminatorFits T r ms) (all (branchFits S T r ms) (children T r)) f) b m
 
   with-branch : (r b : ℕ) (ms bs : List ℕ) → kind T r ≡ 5 → members T chain-structs (unionBase T r) ≡ some ms → List·Memᴰ b (children T r)
       → members T chain-structs (branchStruct T b) ≡ some bs → apart same (namesOf S T (ms ++ bs)) ≡ true
@@ -179,33 +179,33 @@ module _ (S T : List ℕ) (h : sound S T ≡ true) where
       (is-at (members T chain-structs (branchStruct T b)) (λ xs. noClash (namesOf S T ms) (namesOf S T xs)) bs (search (and-left, and-right)) f)
 
   -- alternatives
-  alternate-fits : (r : ℕ) → kind T r ≡ 7 → alternateFits S T r ≡ true
+  alternate-fits : (r : ℕ) → kind T r ≡ 7 → alternateFits T r ≡ true
   unfolding sound goodAlternates
-  alternate-fits r k = every-one (isAlternate T) (alternateFits S T) (search (and-left, and-right) depth 13) r (there r (omega arith)) (eq-eqb (kind T r) 7 k)
+  alternate-fits r k = every-one (isAlternate T) (alternateFits T) (search (and-left, and-right) depth 13) r (there r (omega arith)) (eq-eqb (kind T r) 7 k)
 
   kind-of : (r c : ℕ) → kind T r ≡ 7 → List·Memᴰ c (children T r) → (k : Kind) × (typeKind T (typeRef T c) ≡ some k)
   kind-of r c e m =
-      let f : alternateFits S T r ≡ true = alternate-fits r e in
-      let k : List·Memᴰ (typeKind T (typeRef T c)) (kindsOf S T (children T r)) = in-map (λ x. typeKind T (typeRef T x)) (children T r) c m in
-      let g = all-true (λ k. is k (λ _. true)) (kindsOf S T (children T r)) (search (and-left, and-right)) (typeKind T (typeRef T c)) k in
+      let f : alternateFits T r ≡ true = alternate-fits r e in
+      let k : List·Memᴰ (typeKind T (typeRef T c)) (kindsOf T (children T r)) = in-map (λ x. typeKind T (typeRef T x)) (children T r) c m in
+      let g = all-true (λ k. is k (λ _. true)) (kindsOf T (children T r)) (search (and-left, and-right)) (typeKind T (typeRef T c)) k in
       let i = is-true (typeKind T (typeRef T c)) (λ (k : Kind). true) g in
       (i .0, i .1)
 
   of-one-kind : (r c c′ : ℕ) (k : Kind) → kind T r ≡ 7 → List·Memᴰ c (children T r) → List·Memᴰ c′ (children T r)
       → typeKind T (typeRef T c) ≡ some k → typeKind T (typeRef T c′) ≡ some k → c ≡ c′
   of-one-kind r c c′ k e m m′ p q =
-      let f : alternateFits S T r ≡ true = alternate-fits r e in
+      let f : alternateFits T r ≡ true = alternate-fits r e in
       let z : sameKind k k ≡ true = eq-eqb (column k) (column k) refl in
       apart-only (λ x. typeKind T (typeRef T x)) sameKinds (children T r) (search (and-left, and-right)) c c′ m m′ (rw (p, q) z) (rw (p, q) z)
 
   -- commands
   definition-rows : List ℕ
-  definition-rows = those (isDefinition S T) (upFrom 0 (rowCount T))
+  definition-rows = those (isDefinition T) (upFrom 0 (rowCount T))
 
   a-definition : (x : List ℕ) (c : ℕ) → Names S T x c → List·Memᴰ c definition-rows
   unfolding definition-rows
   a-definition x c n =
-      in-those (isDefinition S T) (upFrom 0 (rowCount T)) c (in-upFrom (rowCount T) 0 c zero-le (omega (arith, n .row)))
+      in-those (isDefinition T) (upFrom 0 (rowCount T)) c (in-upFrom (rowCount T) 0 c zero-le (omega (arith, n .row)))
       (and-of (isEnum T c || isStruct T c || isUnion T c || isAlternate T c || isCommand T c) (not (inline T c))
       (or-right (isEnum T c || isStruct T c || isUnion T c || isAlternate T c) (isCommand T c) (eq-eqb (kind T c) 9 (n .command)))
       (not-of (inline T c) (λ i. let z = inline-struct T c i in omega (arith, n .command))))

@@ -79,8 +79,8 @@ module _ (S : List ℕ) (room : ℕ) where
   schemaTest js ds R.UnknownName = is ds (λ d. not (allRefer S d))
   schemaTest js ds R.BadChain = is ds (λ d. not (goodChains S (table S d)))
   schemaTest js ds R.BadUnion = is ds (λ d. not (goodUnions S (table S d)))
-  schemaTest js ds R.BadAlternate = is ds (λ d. not (goodAlternates S (table S d)))
-  schemaTest js ds R.BadReturn = is ds (λ d. not (goodReturns S (table S d)))
+  schemaTest js ds R.BadAlternate = is ds (λ d. not (goodAlternates (table S d)))
+  schemaTest js ds R.BadReturn = is ds (λ d. not (goodReturns (table S d)))
   schemaTest js ds R.TooManyRows = is ds (λ d. ltb table-rows (rowCount (table S d)))
   schemaTest js ds R.NoRoom = is ds (λ d. ltb (room / row-words) (rowCount (table S d)))
 

@@ -37,8 +37,12 @@ sameKinds j k = is j (λ x. is k (λ y. sameKind x y))
 abbrev pub base-structs : ℕ
 base-structs = chain-structs - 1
 
-abbrev pub everyRow : List ℕ → (ℕ → Bool) → Bool
-everyRow T f = all f (upFrom 0 (rowCount T))
+module _ (T : List ℕ) where
+  abbrev pub everyRow : (ℕ → Bool) → Bool
+  everyRow f = all f (upFrom 0 (rowCount T))
+
+  abbrev pub isDefinition : ℕ → Bool
+  isDefinition r = (isEnum T r || isStruct T r || isUnion T r || isAlternate T r || isCommand T r) && not (inline T r)
 
 module _ (S T : List ℕ) where
   abbrev pub namesOf : List ℕ → List (List ℕ)
@@ -48,11 +52,8 @@ module _ (S T : List ℕ) where
   unfoldable pub goodNames : Bool
   goodNames = everyRow T (λ r. inline T r || goodName (eqb (kind T r) 2 || eqb (kind T r) 6) (nameOf S T r))
 
-  abbrev pub isDefinition : ℕ → Bool
-  isDefinition r = (isEnum T r || isStruct T r || isUnion T r || isAlternate T r || isCommand T r) && not (inline T r)
-
   abbrev pub definitionNames : List (List ℕ)
-  definitionNames = namesOf (those isDefinition (upFrom 0 (rowCount T)))
+  definitionNames = namesOf (those (isDefinition T) (upFrom 0 (rowCount T)))
 
   -- 6: definitions and built-ins share one set of names, and so do the values, members, branches or alternatives of one list
   unfoldable pub distinctNames : Bool
@@ -65,6 +66,7 @@ module _ (S T : List ℕ) where
   unfoldable pub goodChains : Bool
   goodChains = everyRow T (λ r. not (isStruct T r) || chainFits r)
 
+module _ (T : List ℕ) where
   -- 9: the discriminator is a mandatory member of the base, no array, of an enum type
   abbrev pub discriminatorRow : ℕ → ℕ
   discriminatorRow r = discriminator T r - 1
@@ -77,18 +79,20 @@ module _ (S T : List ℕ) where
       any (λ m. eqb (discriminator T r) (suc m)) ms && eqb (optional T (discriminatorRow r)) 0 && eqb (arrayMark T (discriminatorRow r)) 0
       && leb first-row (typeRef T (discriminatorRow r)) && isEnum T (discriminatorEnum r)
 
+module _ (S T : List ℕ) where
   -- a branch is named by a value of that enum, and its struct repeats no member of the base
   abbrev pub branchFits : ℕ → List ℕ → ℕ → Bool
   branchFits r ms b =
-      any (sameName (nameOf S T b)) (namesOf (children T (discriminatorEnum r)))
-      && is (members T chain-structs (branchStruct T b)) (λ bs. noClash (namesOf ms) (namesOf bs))
+      any (sameName (nameOf S T b)) (namesOf S T (children T (discriminatorEnum T r)))
+      && is (members T chain-structs (branchStruct T b)) (λ bs. noClash (namesOf S T ms) (namesOf S T bs))
 
   abbrev pub unionFits : ℕ → Bool
-  unionFits r = ltb 0 (branchCount T r) && is (members T chain-structs (unionBase T r)) (λ ms. discriminatorFits r ms && all (branchFits r ms) (children T r))
+  unionFits r = ltb 0 (branchCount T r) && is (members T chain-structs (unionBase T r)) (λ ms. discriminatorFits T r ms && all (branchFits r ms) (children T r))
 
   unfoldable pub goodUnions : Bool
   goodUnions = everyRow T (λ r. not (isUnion T r) || unionFits r)
 
+module _ (T : List ℕ) where
   -- 10: an alternate has an alternative, each has a JSON kind (any and alternates have none), and no two have the same
   abbrev pub kindsOf : List ℕ → List (Option Kind)
   kindsOf rs = map (λ r. typeKind T (typeRef T r)) rs
