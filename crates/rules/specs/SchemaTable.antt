@@ -74,6 +74,41 @@ isList nothing = false
 isList (one n) = false
 isList (listOf n) = true
 
+-- The rows, given what word each name that refers becomes: as a struct, as a type, and as the discriminator of the union at a row.
+module _ (asStruct asType : Name → ℕ) (asTag : ℕ → Name → ℕ) where
+  abbrev pub typeOf : TypeText → ℕ
+  typeOf nothing = 0
+  typeOf (one n) = asType n
+  typeOf (listOf n) = asType n
+
+  -- the link of the base or the data that the definition at row r has
+  abbrev pub dataLink : ℕ → Data → ℕ
+  dataLink r absent = 0
+  dataLink r (inline ms) = suc (suc r)
+  dataLink r (named n) = asStruct n
+
+  abbrev pub memberRows : List Member → List ℕ
+  memberRows ms = concat (map (λ (m : Member). row 4 (m .name) (typeOf (m .type)) (flag (isList (m .type))) (flag (m .optional)) 0) ms)
+
+  abbrev pub inlineStruct : Data → List ℕ
+  inlineStruct absent = []
+  inlineStruct (inline ms) = row 3 (record { start = 0; size = 0 }) (length ms) 0 0 0 ++ memberRows ms
+  inlineStruct (named n) = []
+
+  -- the rows of a definition at row r, named n
+  abbrev pub rowsOf : ℕ → Name → Body → List ℕ
+  rowsOf r n (enum vs) = row 1 n (length vs) 0 0 0 ++ concat (map (λ (v : Name). row 2 v 0 0 0 0) vs)
+  rowsOf r n (struct b ms) = row 3 n (length ms) (dataLink r b) 0 0 ++ memberRows ms
+  rowsOf r n (union b tag bs) =
+      row 5 n (dataLink r b) (length bs) (asTag r tag) 0 ++ inlineStruct b ++ concat (map (λ (p : Pair). row 6 (p .name) (asStruct (p .type)) 0 0 0) bs)
+  rowsOf r n (alternate alts) = row 7 n (length alts) 0 0 0 ++ concat (map (λ (p : Pair). row 8 (p .name) (asType (p .type)) 0 0 0) alts)
+  rowsOf r n (command a t oob) = row 9 n (dataLink r a) (flag oob) (typeOf t) (flag (isList t)) ++ inlineStruct a
+
+  -- the definitions from row r on, in schema order, each followed by its children
+  abbrev pub tableFrom : ℕ → List Definition → List ℕ
+  tableFrom r [] = []
+  tableFrom r (d ∷ ds) = rowsOf r (d .name) (d .body) ++ tableFrom (r + rowsTaken (d .body)) ds
+
 module _ (S : List ℕ) where
   abbrev pub bytesOf : Name → List ℕ
   bytesOf n = take (n .size) (drop (n .start) S)
@@ -100,47 +135,16 @@ module _ (S : List ℕ) where
     abbrev pub typeNamed : Name → ℕ
     typeNamed n = reference (placeIn built-ins (bytesOf n)) (findFrom isType (bytesOf n) 0 schema)
 
-    abbrev pub typeOf : TypeText → ℕ
-    typeOf nothing = 0
-    typeOf (one n) = typeNamed n
-    typeOf (listOf n) = typeNamed n
+    -- the rows but for their discriminators, which are looked for among the members of the union's base
+    abbrev pub untagged : List ℕ
+    untagged = tableFrom structLink typeNamed (λ _ _. 0) 0 schema
 
-    -- the link of the base or the data that the definition at row r has
-    abbrev pub dataLink : ℕ → Data → ℕ
-    dataLink r absent = 0
-    dataLink r (inline ms) = suc (suc r)
-    dataLink r (named n) = structLink n
-
-    abbrev pub memberRows : List Member → List ℕ
-    memberRows ms = concat (map (λ (m : Member). row 4 (m .name) (typeOf (m .type)) (flag (isList (m .type))) (flag (m .optional)) 0) ms)
-
-    abbrev pub inlineStruct : Data → List ℕ
-    inlineStruct absent = []
-    inlineStruct (inline ms) = row 3 (record { start = 0; size = 0 }) (length ms) 0 0 0 ++ memberRows ms
-    inlineStruct (named n) = []
-
-    -- the rows of a definition at row r, named n; `link` gives the link of a union's discriminator member
-    abbrev pub rowsOf : (ℕ → Name → ℕ) → ℕ → Name → Body → List ℕ
-    rowsOf link r n (enum vs) = row 1 n (length vs) 0 0 0 ++ concat (map (λ (v : Name). row 2 v 0 0 0 0) vs)
-    rowsOf link r n (struct b ms) = row 3 n (length ms) (dataLink r b) 0 0 ++ memberRows ms
-    rowsOf link r n (union b tag bs) =
-        row 5 n (dataLink r b) (length bs) (link r tag) 0 ++ inlineStruct b ++ concat (map (λ (p : Pair). row 6 (p .name) (structLink (p .type)) 0 0 0) bs)
-    rowsOf link r n (alternate alts) = row 7 n (length alts) 0 0 0 ++ concat (map (λ (p : Pair). row 8 (p .name) (typeNamed (p .type)) 0 0 0) alts)
-    rowsOf link r n (command a t oob) = row 9 n (dataLink r a) (flag oob) (typeOf t) (flag (isList t)) ++ inlineStruct a
-
-    abbrev pub tableFrom : (ℕ → Name → ℕ) → ℕ → List Definition → List ℕ
-    tableFrom link r [] = []
-    tableFrom link r (d ∷ ds) = rowsOf link r (d .name) (d .body) ++ tableFrom link (r + rowsTaken (d .body)) ds
-
-    -- the discriminator of the union at row r is looked for among the members of the union's base, as the other words say them
     abbrev pub discriminatorLink : ℕ → Name → ℕ
-    discriminatorLink r tag =
-        let T : List ℕ = tableFrom (λ _ _. 0) 0 schema in
-        memberOf T (bytesOf tag) (members T chain-structs (unionBase T r))
+    discriminatorLink r tag = memberOf untagged (bytesOf tag) (members untagged chain-structs (unionBase untagged r))
 
-    -- the definitions in schema order, each followed by its children
+    -- the table of the schema
     unfoldable pub table : List ℕ
-    table = tableFrom discriminatorLink 0 schema
+    table = tableFrom structLink typeNamed discriminatorLink 0 schema
 
     -- Schema answers 7: a type name names a type; a base, a named command data and a branch type name a struct
     abbrev pub isTypeName : TypeText → Bool
