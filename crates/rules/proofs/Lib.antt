@@ -12,4 +12,5 @@ pub mod NoQuotedDigits
 pub mod SchemaOutcome
 pub mod Commands
 pub mod MessageOutcome
+pub mod Acceptance
 pub mod Cases

@@ -1,7 +1,7 @@
 -- 01, Message answers: when each number applies, and the whole outcome: the lowest that applies, the command's row, the count, and every lent word.
-use Prim.Native.Nat.{ℕ, _-_, _/_, _<_}
+use Prim.Native.Nat.{ℕ, _-_, _/_, _≤_, _<_}
 use mathlib.Core.Path.{_≡_}
-use mathlib.Core.Bool.{false}
+use mathlib.Core.Bool.{true, false}
 use mathlib.Core.List.{List, _++_}
 use mathlib.Core.Option.{none, some}
 use lib.ListN.{length, replicate}
@@ -80,3 +80,21 @@ pub data MessageOutcome (S T m : List ℕ) (room : ℕ) (answer : MessageAnswer)
       → words ≡ recordsOf ts ++ replicate (room - length (recordsOf ts)) 0 → MessageOutcome S T m room answer words
   refused : {x : MessageRefusal} → MessageApplies x S T m room → ((y : MessageRefusal) → refusalNumber y < refusalNumber x → MessageApplies y S T m room → ⊥)
       → answer ≡ Refused x → words ≡ replicate room 0 → MessageOutcome S T m room answer words
+
+-- Demand 3, all but the room: the table is sound, the message within the limits and proper text with no key repeated, its envelope is proper, it names the
+-- command at row c, which it may use, and ts is a reading of its arguments.
+pub record Readable (S T m : List ℕ) (c : ℕ) (ts : List Typed) : Type 0 where
+  pub sound-table : sound S T ≡ true
+  pub short : length m ≤ message-bytes
+  pub value : Json
+  pub is-text : MessageText m value
+  pub keys-once : keysOnce value ≡ true
+  pub said : Envelope
+  pub proper : envelope value ≡ some said
+  pub names : Names S T (said .name) c
+  pub may-use : mayUse T c (said .outOfBand) ≡ true
+  pub reads : ReadsArguments S T c (said .arguments) ts
+
+-- the room can hold it
+abbrev pub Held : ℕ → List Typed → Type 0
+Held room ts = length ts ≤ room / record-words
