@@ -120,10 +120,10 @@ module _ (D : Dialect) (L : TokensComplete D) (lim : ℕ) where
   in-char-run char-whole d acc k = record { path = refl }
   in-char-run (char-on w) d acc k = then (byte (char-steps w d acc k)) (in-char-run w d acc k)
 
-  char-run : {p q c : ℕ} {l r : List ℕ} → CharStarts D p l q r c → (d : StringRole) (acc : List ℕ) (k : Stack) → Runs (InString d acc) k p l (InString d (c ∷ acc)) k q r
+  pub char-run : {p q c : ℕ} {l r : List ℕ} → CharStarts D p l q r c → (d : StringRole) (acc : List ℕ) (k : Stack) → Runs (InString d acc) k p l (InString d (c ∷ acc)) k q r
   char-run (char-starts t w) d acc k = then (byte (simp t (char-steps w d acc k))) (in-char-run w d acc k)
 
-  chars-run : {p q : ℕ} {l r cs : List ℕ} → Chars (D .lexis) p l q r cs → (d : StringRole) (acc : List ℕ) (k : Stack)
+  pub chars-run : {p q : ℕ} {l r cs : List ℕ} → Chars (D .lexis) p l q r cs → (d : StringRole) (acc : List ℕ) (k : Stack)
       → Runs (InString d acc) k p l (endString D d q (reverseAux acc cs)) k q r
   chars-run (close t) d acc k = byte (simp t)
   chars-run (char c w) d acc k = then (char-run (L .chars c) d acc k) (chars-run w d _ k)
@@ -181,10 +181,10 @@ module _ (D : Dialect) (L : TokensComplete D) (lim : ℕ) where
   first-member : {n p q : ℕ} {l r : List ℕ} {fs : Fields} → Members (D .lexis) n p l q r fs → (a : ℕ) (k : Stack) → Runs (AtFirstKey a) k p l (AtKey a no-fields) k p l
   first-member (member t c w u v e) a k = alike (let f = L .quote-first _ t in simp (f .solid .no-blank, f .solid .no-comment, f .no-end-object))
 
-  opens-array : (p : ℕ) (k : Stack) → depth k < lim → step D lim AtValue k p (code "[") ≡ to (AtElement p) k
+  pub opens-array : (p : ℕ) (k : Stack) → depth k < lim → step D lim AtValue k p (code "[") ≡ to (AtElement p) k
   opens-array p k h = skip-solid (L .solid begin-array) _ _ _ ∙ simp (L .no-quote begin-array, lt-ltb _ _ h)
 
-  opens-object : (p : ℕ) (k : Stack) → depth k < lim → step D lim AtValue k p (code "{") ≡ to (AtFirstKey p) k
+  pub opens-object : (p : ℕ) (k : Stack) → depth k < lim → step D lim AtValue k p (code "{") ≡ to (AtFirstKey p) k
   opens-object p k h = skip-solid (L .solid begin-object) _ _ _ ∙ simp (L .no-quote begin-object, lt-ltb _ _ h)
 
   mutual

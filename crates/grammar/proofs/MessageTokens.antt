@@ -23,7 +23,7 @@ use Rattle.grammar.proofs.TokenRuns.{TokenEnds}
 use Rattle.grammar.proofs.Words.{in-state, spells, Words, Spelled, word-sound, word-complete, word-ends}
 use Rattle.grammar.proofs.Numbers.{Accepts, Accepts.ends, Accepts.steps, number-accepted, accepted-number}
 
-words : Words message word
+pub words : Words message word
 unfolding tokenStep
 words = record { steps = λ w ws v b. refl; ends = λ w ws v. refl }
 
@@ -172,7 +172,7 @@ number-complete (steps {b = b} h a) acc (letter w) g = step-on h (number-complet
 pub first : (b : ℕ) → blank b ≡ false → eqb b (code "]") ≡ false → eqb b (code "}") ≡ false → First message b
 first b e f g = record { solid = record { no-blank = e; no-comment = refl }; no-end-array = f; no-end-object = g }
 
-begin-range : (b : ℕ) (t : NumberState) → numberStep begin b ≡ some t → (45 ≤ b) × (b ≤ 57)
+pub begin-range : (b : ℕ) (t : NumberState) → numberStep begin b ≡ some t → (45 ≤ b) × (b ≤ 57)
 unfolding numberStep
 begin-range b t =
     let P : Option NumberState → Type 0 = λ y. y ≡ some t → (45 ≤ b) × (b ≤ 57) in
@@ -180,7 +180,7 @@ begin-range b t =
     (λ _. by P (eqb b (code "0")) (λ u h. let e = eqb-true b (code "0") u in (omega arith, omega arith))
     (λ _. by P (within (code "1") (code "9") b) (λ u h. let e = within-true (code "1") (code "9") b u in (omega arith, omega arith)) (λ _ h. none-not-some h)))
 
-number-first : (b : ℕ) → 45 ≤ b → b ≤ 57 → First message b
+pub number-first : (b : ℕ) → 45 ≤ b → b ≤ 57 → First message b
 unfolding blank
 number-first b h g =
     first b (simp (ne-eqb b (code " ") (omega arith), ne-eqb b (code "\t") (omega arith), ne-eqb b (code "\n") (omega arith), ne-eqb b (code "\r") (omega arith)))

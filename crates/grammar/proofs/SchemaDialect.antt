@@ -50,7 +50,7 @@ char-complete (plain {p = p} {b = b} {r = r} h n m) =
     char-starts (ne-eqb b (code "'") n) z
 char-complete backslash = char-starts refl (char-on char-whole)
 
-words : Words schema word
+pub words : Words schema word
 unfolding tokenStep
 words = record { steps = λ w ws v b. refl; ends = λ w ws v. refl }
 

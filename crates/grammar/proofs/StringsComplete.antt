@@ -65,23 +65,23 @@ step-low0 : (b : ℕ) → hexDigit b ≡ some 13 → (h : ℕ) → charStep (low
 unfolding charStep
 step-low0 b e h = simp e
 
-step-low-backslash : (h : ℕ) → charStep (low-backslash h) (code "\\") ≡ stay (low-u h)
+pub step-low-backslash : (h : ℕ) → charStep (low-backslash h) (code "\\") ≡ stay (low-u h)
 unfolding charStep
 step-low-backslash h = refl
 
-step-low-u : (h : ℕ) → charStep (low-u h) (code "u") ≡ stay (low0 h)
+pub step-low-u : (h : ℕ) → charStep (low-u h) (code "u") ≡ stay (low0 h)
 unfolding charStep
 step-low-u h = refl
 
-step-backslash : charStart (code "\\") ≡ stay CharState.escape
+pub step-backslash : charStart (code "\\") ≡ stay CharState.escape
 unfolding charStart
 step-backslash = refl
 
-step-u : charStep CharState.escape (code "u") ≡ stay hex0
+pub step-u : charStep CharState.escape (code "u") ≡ stay hex0
 unfolding charStep
 step-u = refl
 
-step-escape : {b c : ℕ} → Escape b c → charStep CharState.escape b ≡ char c
+pub step-escape : {b c : ℕ} → Escape b c → charStep CharState.escape b ≡ char c
 unfolding charStep
 step-escape e = simp (escape-no-u e, escape-is e)
 
@@ -135,15 +135,15 @@ pair-run (hex4 {a = a} {b = b} {c = c} {d = d} {x = x} {y = y} {z = z} {w = w} e
     (turn (step-hex2 c ec (x * 16 + y)) (turn (step-hex3-high d ed ((x * 16 + y) * 16 + z) t) k))))
 
 -- the first byte of a code point
-lead-one : (b : ℕ) → 0x20 ≤ b → b ≤ 0x7F → b ≢ code "\\" → charStart b ≡ char b
+pub lead-one : (b : ℕ) → 0x20 ≤ b → b ≤ 0x7F → b ≢ code "\\" → charStart b ≡ char b
 unfolding charStart
 lead-one b h g n = simp (ne-eqb b (code "\\") n, within-is 0x20 0x7F b h g)
 
-lead-two : (a : ℕ) → 0xC2 ≤ a → a ≤ 0xDF → charStart a ≡ stay (utf8 Want.one (a - 0xC0))
+pub lead-two : (a : ℕ) → 0xC2 ≤ a → a ≤ 0xDF → charStart a ≡ stay (utf8 Want.one (a - 0xC0))
 unfolding charStart
 lead-two a h g = simp (ne-eqb a (code "\\") (omega arith), within-above 0x20 0x7F a (omega arith), within-is 0xC2 0xDF a h g)
 
-lead-three : (a : ℕ) → 0xE1 ≤ a → a ≤ 0xEF → a ≢ 0xED → charStart a ≡ stay (utf8 Want.two (a - 0xE0))
+pub lead-three : (a : ℕ) → 0xE1 ≤ a → a ≤ 0xEF → a ≢ 0xED → charStart a ≡ stay (utf8 Want.two (a - 0xE0))
 unfolding charStart
 lead-three a h g n =
     simp (
@@ -155,7 +155,7 @@ lead-three a h g n =
       within-is 0xE1 0xEF a h g,
     )
 
-lead-four : (a : ℕ) → 0xF1 ≤ a → a ≤ 0xF3 → charStart a ≡ stay (utf8 Want.three (a - 0xF0))
+pub lead-four : (a : ℕ) → 0xF1 ≤ a → a ≤ 0xF3 → charStart a ≡ stay (utf8 Want.three (a - 0xF0))
 unfolding charStart
 lead-four a h g =
     simp (
@@ -169,19 +169,19 @@ lead-four a h g =
       within-is 0xF1 0xF3 a h g,
     )
 
-lead-E0 : charStart 0xE0 ≡ stay (utf8 two-E0 0)
+pub lead-E0 : charStart 0xE0 ≡ stay (utf8 two-E0 0)
 unfolding charStart
 lead-E0 = refl
 
-lead-ED : charStart 0xED ≡ stay (utf8 two-ED 13)
+pub lead-ED : charStart 0xED ≡ stay (utf8 two-ED 13)
 unfolding charStart
 lead-ED = refl
 
-lead-F0 : charStart 0xF0 ≡ stay (utf8 three-F0 0)
+pub lead-F0 : charStart 0xF0 ≡ stay (utf8 three-F0 0)
 unfolding charStart
 lead-F0 = refl
 
-lead-F4 : charStart 0xF4 ≡ stay (utf8 three-F4 4)
+pub lead-F4 : charStart 0xF4 ≡ stay (utf8 three-F4 4)
 unfolding charStart
 lead-F4 = refl
 
