@@ -7,5 +7,6 @@ pub mod Grammar
 pub mod SchemaText
 pub mod MessageText
 pub mod Starts
+pub mod Integers
 pub mod Keys
 pub mod Machine

@@ -1,6 +1,5 @@
 -- 01, Schema text: the built-in types, the JSON kinds that they take, and the ranges of the integer types.
-use Prim.Native.Nat.{ℕ, _+_, _-_, _*_, _^_}
-use Prim.Native.Char.{code}
+use Prim.Native.Nat.{ℕ, _-_, _^_}
 use mathlib.Core.Bool.{Bool, true, false, cond, _&&_}
 use mathlib.Core.List.{List, [], _∷_, map}
 use mathlib.Core.Option.{Option, none, some}
@@ -10,6 +9,7 @@ use Rattle.grammar.specs.Notation.{text}
 use Rattle.grammar.specs.Tree.{Scalar, Kind, scalarKind}
 use Rattle.grammar.specs.Tree.Scalar.{null, bool, num, str}
 use Rattle.grammar.specs.Tree.Kind.{object, array, string, number, boolean, null-kind}
+use Rattle.grammar.specs.Integers.{negative, unsignedPart, decimal}
 
 -- the built-ins' names, by number from 1 on
 abbrev pub built-ins : List (List ℕ)
@@ -67,20 +67,7 @@ ranges =
     none ∷ none ∷ signed 64 ∷ signed 8 ∷ signed 16 ∷ signed 32 ∷ signed 64 ∷ unsigned 8
     ∷ unsigned 16 ∷ unsigned 32 ∷ unsigned 64 ∷ unsigned 64 ∷ none ∷ none ∷ none ∷ []
 
--- 01, Message text: the exact value of an integer token, as a sign and the number that its digits mean
-abbrev pub negative : List ℕ → Bool
-negative [] = false
-negative (b ∷ bs) = eqb b (code "-")
-
-abbrev pub unsignedPart : List ℕ → List ℕ
-unsignedPart [] = []
-unsignedPart (b ∷ bs) = cond (eqb b (code "-")) bs (b ∷ bs)
-
--- the digits after some whose value is n
-abbrev pub decimal : ℕ → List ℕ → ℕ
-decimal n [] = n
-decimal n (b ∷ bs) = decimal (n * 10 + (b - code "0")) bs
-
+-- the exact value of the token, never the value wrapped
 unfoldable pub inRange : Range → List ℕ → Bool
 inRange r token = leb (decimal 0 (unsignedPart token)) (cond (negative token) (r .low) (r .high))
 

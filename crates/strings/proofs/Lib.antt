@@ -1,0 +1,11 @@
+pub mod Tables
+pub mod CharRuns
+pub mod Utf8
+pub mod MessageChars
+pub mod SchemaChars
+pub mod PlainBytes
+pub mod Parts
+pub mod StringRuns
+pub mod StringReads
+pub mod Codes
+pub mod Comparisons

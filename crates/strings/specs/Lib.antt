@@ -1,0 +1,4 @@
+pub mod Classes
+pub mod Chars
+pub mod Strings
+pub mod Meanings

@@ -1,0 +1,5 @@
+// Strings in either dialect: classes of bytes, characters, whole strings, and what they mean.
+pub mod chars;
+pub mod classes;
+pub mod meanings;
+pub mod strings;

@@ -1,0 +1,170 @@
+// What strings mean, compared without decoding them. A string goes from its opening quote to past its closing one; any places may be asked.
+use crate::chars::Char;
+use crate::chars::next_char;
+use crate::chars::wide;
+ghost use mathlib.Core.Path.{_≡_};
+ghost use Prim.Native.Nat.{_+_, _≤_};
+ghost use lib.ListN.{length};
+ghost use Rattle.strings.specs.Strings.{dialect};
+ghost use Rattle.strings.specs.Meanings.{sameParts, BytesMean, BytesSame, CodesMean, CodesSame, MeansName, MeansSame};
+
+// Whether n bytes of `s` from i on are those of `t` from j on: the last of them first, in which names differ most.
+fn same_bytes(s: &[u8], i: usize, t: &[u8], j: usize, n: usize) -> bool
+    requires { ⌜ (i + n ≤ length (now s)) × (j + n ≤ length (now t)) ⌝ }
+    ensures { λ r. ⌜ r ≡ sameParts (now (s .entry)) i (now (t .entry)) j n ⌝ }
+{
+    if n == 0 {
+        return true;
+    }
+    let last = n - 1;
+    if s[i + last] != t[j + last] {
+        return false;
+    }
+    let mut k = 0;
+    while k < last {
+        if s[i + k] != t[j + k] {
+            return false;
+        }
+        k += 1;
+    }
+    true
+}
+
+fn bytes_mean(s: &[u8], a: usize, e: usize, name: &[u8]) -> bool
+    ensures { λ r. ⌜ BytesMean (now (s .entry)) a e (now (name .entry)) r ⌝ }
+{
+    if e < a {
+        return false;
+    }
+    if e - a != name.len() + 2 {
+        return false;
+    }
+    if s.len() < e {
+        return false;
+    }
+    same_bytes(s, a + 1, name, 0, name.len())
+}
+
+fn bytes_same(s: &[u8], a: usize, e: usize, b: usize, f: usize) -> bool
+    ensures { λ r. ⌜ BytesSame (now (s .entry)) a e b f r ⌝ }
+{
+    if e < a {
+        return false;
+    }
+    if f < b {
+        return false;
+    }
+    let n = e - a;
+    if n != f - b {
+        return false;
+    }
+    if n < 2 {
+        return false;
+    }
+    if s.len() < e {
+        return false;
+    }
+    if s.len() < f {
+        return false;
+    }
+    same_bytes(s, a + 1, s, b + 1, n - 2)
+}
+
+fn codes_mean(s: &[u8], schema: bool, a: usize, name: &[u8]) -> bool
+    ensures { λ r. ⌜ CodesMean (dialect schema) (now (s .entry)) a (now (name .entry)) r ⌝ }
+{
+    if s.len() <= a {
+        return false;
+    }
+    let mut i = a + 1;
+    let mut j = 0;
+    while i < s.len() {
+        match next_char(s, schema, i) {
+            Char::Fault(_e) => {
+                return j == name.len();
+            }
+            Char::Code(c, e) => {
+                if name.len() <= j {
+                    return false;
+                }
+                if c != wide(name[j]) {
+                    return false;
+                }
+                i = e;
+                j += 1;
+            }
+        }
+    }
+    false
+}
+
+fn codes_same(s: &[u8], schema: bool, a: usize, b: usize) -> bool
+    ensures { λ r. ⌜ CodesSame (dialect schema) (now (s .entry)) a b r ⌝ }
+{
+    if s.len() <= a {
+        return false;
+    }
+    if s.len() <= b {
+        return false;
+    }
+    let mut i = a + 1;
+    let mut j = b + 1;
+    while i < s.len() {
+        let x = next_char(s, schema, i);
+        let y = next_char(s, schema, j);
+        match x {
+            Char::Fault(_e) => match y {
+                Char::Fault(_f) => {
+                    return true;
+                }
+                Char::Code(_d, _f) => {
+                    return false;
+                }
+            },
+            Char::Code(c, e) => match y {
+                Char::Fault(_f) => {
+                    return false;
+                }
+                Char::Code(d, f) => {
+                    if c != d {
+                        return false;
+                    }
+                    i = e;
+                    j = f;
+                }
+            },
+        }
+    }
+    false
+}
+
+// Whether the string from a to e means the bytes `name`. `plain` says that the string's bytes are its code points.
+pub fn means(s: &[u8], schema: bool, a: usize, e: usize, plain: bool, name: &[u8]) -> bool
+    ensures { λ r. ⌜ MeansName (dialect schema) (now (s .entry)) a e plain (now (name .entry)) r ⌝ }
+{
+    if plain {
+        return bytes_mean(s, a, e, name);
+    }
+    codes_mean(s, schema, a, name)
+}
+
+// Whether the strings from a to e and from b to f mean the same.
+pub fn same_meaning(
+    s: &[u8],
+    schema: bool,
+    a: usize,
+    e: usize,
+    plain_a: bool,
+    b: usize,
+    f: usize,
+    plain_b: bool,
+) -> bool
+    ensures { λ r. ⌜ MeansSame (dialect schema) (now (s .entry)) a e «plain_a» b f «plain_b» r ⌝ }
+{
+    if plain_a {
+        if plain_b {
+            return bytes_same(s, a, e, b, f);
+        }
+    }
+    codes_same(s, schema, a, b)
+}

@@ -1,0 +1,10 @@
+pub mod Frames
+pub mod Places
+pub mod Inside
+pub mod Arrays
+pub mod Objects
+pub mod Pairs
+pub mod Values
+pub mod Wholes
+pub mod KeyLaws
+pub mod KeyLoops

@@ -1,0 +1,35 @@
+-- Serves contracts: what the search for repeated keys finds, for every tree that the nodes hold.
+use Prim.Native.Nat.{ℕ}
+use mathlib.Core.Path.{_≡_}
+use mathlib.Core.Bool.{Bool, not}
+use mathlib.Core.List.{List}
+use Rattle.grammar.specs.Notation.{same, all, apart}
+use Rattle.grammar.specs.Tree.{Items, Fields}
+use Rattle.grammar.specs.Keys.{keysOf, keysOnceI}
+use Rattle.grammar.specs.Machine.{Dialect}
+use Rattle.strings.specs.Strings.{Means}
+use Rattle.tokens.specs.Tokens.{keyNode}
+use Rattle.text.specs.Nodes.{Node, HoldsItems, HoldsFields}
+
+-- node a is a key that means cs
+pub record KeyAt (D : Dialect) (s w : List ℕ) (a : ℕ) (cs : List ℕ) : Type 0 where
+  pub start : ℕ
+  pub end : ℕ
+  pub node-is : Node w a (keyNode s start end) start end
+  pub means : Means D s start end cs
+
+-- two keys mean the same
+pub record SameKeys (D : Dialect) (s w : List ℕ) (a b : ℕ) (r : Bool) : Type 0 where
+  pub told : (cs ds : List ℕ) → KeyAt D s w a cs → KeyAt D s w b ds → r ≡ same cs ds
+
+-- no key from node b up to node n means what the key at node a does
+pub record NewKey (D : Dialect) (s w : List ℕ) (a b n : ℕ) (r : Bool) : Type 0 where
+  pub told : (cs : List ℕ) → KeyAt D s w a cs → (fs : Fields) (l : ℕ) → HoldsFields D s w fs l b n → r ≡ all (λ y. not (same cs y)) (keysOf fs)
+
+-- the keys from node b up to node n are apart
+pub record KeysApart (D : Dialect) (s w : List ℕ) (b n : ℕ) (r : Bool) : Type 0 where
+  pub told : (fs : Fields) (l : ℕ) → HoldsFields D s w fs l b n → r ≡ apart same (keysOf fs)
+
+-- no key is repeated in what the nodes below n hold
+pub record KeysOnce (D : Dialect) (s w : List ℕ) (n : ℕ) (r : Bool) : Type 0 where
+  pub told : (js : Items) (l : ℕ) → HoldsItems D s w js l 0 n → r ≡ keysOnceI js

@@ -1,0 +1,5 @@
+// The reader of a whole text, in either dialect, into nodes. `schema` says which dialect.
+pub mod keys;
+pub mod nodes;
+pub mod reader;
+pub mod texts;

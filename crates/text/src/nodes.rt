@@ -1,0 +1,33 @@
+// Nodes: four words each in a lent slice, written only where all four fit.
+ghost use mathlib.Core.Path.{_≡_};
+ghost use Prim.Native.Nat.{_^_, _<_};
+ghost use Rattle.text.specs.Nodes.{node, putNode};
+
+// Word i of node k; 0 past the end.
+pub fn node_word(nodes: &[u32], k: usize, i: usize) -> u32
+    ensures { λ r. ⌜ r ≡ node (now (nodes .entry)) k i ⌝ }
+{
+    if nodes.len() / 4 < k {
+        return 0;
+    }
+    let at = 4 * k;
+    if nodes.len() - at <= i {
+        return 0;
+    }
+    nodes[at + i]
+}
+
+// Node k: its kind, start, end, and the first node after it.
+pub fn put_node(nodes: &mut [u32], k: usize, kind: u32, start: usize, end: usize, next: usize)
+    requires { ⌜ (k < 2 ^ 32) × (start < 2 ^ 32) × (end < 2 ^ 32) × (next < 2 ^ 32) ⌝ }
+    ensures { λ _. ⌜ now (nodes .exit) ≡ putNode (now (nodes .entry)) k kind start end next ⌝ }
+{
+    let at = 4 * k;
+    if nodes.len() < at + 4 {
+        return;
+    }
+    nodes[at] = kind;
+    nodes[at + 1] = start as u32;
+    nodes[at + 2] = end as u32;
+    nodes[at + 3] = next as u32;
+}

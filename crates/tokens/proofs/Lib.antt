@@ -1,0 +1,11 @@
+pub mod Scanning
+pub mod ByteClasses
+pub mod BlankRuns
+pub mod NumberSteps
+pub mod NumberStates
+pub mod NumberRuns
+pub mod WordRuns
+pub mod StringTokens
+pub mod ScalarReads
+pub mod KeyReads
+pub mod IntegerValues

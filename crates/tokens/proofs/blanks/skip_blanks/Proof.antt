@@ -1,0 +1,21 @@
+-- `blanks::skip_blanks` meets its contract: it is one of the two readers of blanks.
+-- By the dialect that was asked for.
+use borrow.Author.Needs.{needs}
+use Rattle.tokens.proofs.blanks.skip_blanks.Statement.{statement}
+use Rattle.tokens.proofs.blanks.skip_blanks.Tie as tie
+
+schema-blanks-requires : tie.Need-schema-blanks-requires
+schema-blanks-requires c κs = search needs
+
+returns : tie.Need-returns
+returns c = rw (c .before .if1 .taken) (c .schema-blanks .ensures)
+
+message-blanks-requires : tie.Need-message-blanks-requires
+message-blanks-requires c κs = search needs
+
+returns-2 : tie.Need-returns-2
+returns-2 c = rw (c .before .if1 .left) (c .message-blanks .ensures)
+
+pub skip-blanks-spec : {M : Type 1} → statement M
+skip-blanks-spec =
+    tie.close (tie.spec schema-blanks-requires returns message-blanks-requires returns-2)

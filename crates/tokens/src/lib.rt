@@ -1,0 +1,6 @@
+// Blanks, numbers, words, keys and what stands between values. `schema` says which dialect.
+pub mod blanks;
+pub mod integers;
+pub mod members;
+pub mod numbers;
+pub mod scalars;

@@ -1,0 +1,93 @@
+// Values without brackets: strings, numbers, words.
+use crate::numbers::NumberRead;
+use crate::numbers::TokenRead;
+use crate::numbers::read_number;
+use crate::numbers::read_word;
+use strings::strings::StringRead;
+use strings::strings::read_string;
+ghost use mathlib.Core.Path.{_≡_};
+ghost use Prim.Native.Nat.{_<_};
+ghost use lib.ListN.{length};
+ghost use Rattle.grammar.specs.Machine.Message.{message};
+ghost use Rattle.grammar.specs.Machine.Schema.{schema};
+ghost use Rattle.strings.specs.Classes.{classOf, tabulate};
+ghost use Rattle.strings.specs.Strings.{dialect};
+ghost use Rattle.tokens.specs.Tokens.{Unbracketed, ReadsScalar};
+ghost use Rattle.tokens.specs.TokenParts.{stringNode, numberNode, wordNode};
+
+// The kind of a node and the place past the value; or the place of the first byte that no value could have there.
+pub enum ScalarRead {
+    Found(u32, usize),
+    Fault(usize),
+}
+
+fn string_node(r: StringRead) -> ScalarRead
+    ensures { λ n. ⌜ n ≡ stringNode r ⌝ }
+{
+    match r {
+        StringRead::Plain(e) => ScalarRead::Found(6, e),
+        StringRead::Coded(e) => ScalarRead::Found(7, e),
+        StringRead::Fault(e) => ScalarRead::Fault(e),
+    }
+}
+
+fn number_node(r: NumberRead) -> ScalarRead
+    ensures { λ n. ⌜ n ≡ numberNode r ⌝ }
+{
+    match r {
+        NumberRead::Integer(e) => ScalarRead::Found(4, e),
+        NumberRead::Other(e) => ScalarRead::Found(5, e),
+        NumberRead::Fault(e) => ScalarRead::Fault(e),
+    }
+}
+
+fn word_node(r: TokenRead, kind: u32) -> ScalarRead
+    ensures { λ n. ⌜ n ≡ wordNode r kind ⌝ }
+{
+    match r {
+        TokenRead::Past(e) => ScalarRead::Found(kind, e),
+        TokenRead::Fault(e) => ScalarRead::Fault(e),
+    }
+}
+
+fn message_scalar(s: &[u8], classes: &[u8; 256], i: usize) -> ScalarRead
+    requires { ⌜ (now classes ≡ tabulate classOf 0 256) × (i < length (now s)) × Unbracketed message (now s) i ⌝ }
+    ensures { λ r. ⌜ ReadsScalar message (now (s .entry)) i r ⌝ }
+{
+    let b = s[i];
+    match b {
+        b'"' => string_node(read_string(s, classes, false, i)),
+        b'-' | b'0'..=b'9' => number_node(read_number(s, classes, i)),
+        b't' => word_node(read_word(s, i + 1, b"rue"), 3),
+        b'f' => word_node(read_word(s, i + 1, b"alse"), 2),
+        b'n' => word_node(read_word(s, i + 1, b"ull"), 1),
+        _ => ScalarRead::Fault(i),
+    }
+}
+
+fn schema_scalar(s: &[u8], classes: &[u8; 256], i: usize) -> ScalarRead
+    requires { ⌜ (now classes ≡ tabulate classOf 0 256) × (i < length (now s)) × Unbracketed schema (now s) i ⌝ }
+    ensures { λ r. ⌜ ReadsScalar schema (now (s .entry)) i r ⌝ }
+{
+    let b = s[i];
+    match b {
+        b'\'' => string_node(read_string(s, classes, true, i)),
+        b't' => word_node(read_word(s, i + 1, b"rue"), 3),
+        b'f' => word_node(read_word(s, i + 1, b"alse"), 2),
+        _ => ScalarRead::Fault(i),
+    }
+}
+
+// The value without brackets at `i`, where no blank, comment or opening bracket stands.
+pub fn read_scalar(s: &[u8], classes: &[u8; 256], schema: bool, i: usize) -> ScalarRead
+    requires { ⌜ (now classes ≡ tabulate classOf 0 256) × Unbracketed (dialect schema) (now s) i ⌝ }
+    ensures { λ r. ⌜ ReadsScalar (dialect schema) (now (s .entry)) i r ⌝ }
+{
+    if s.len() <= i {
+        return ScalarRead::Fault(i);
+    }
+    if schema {
+        return schema_scalar(s, classes, i);
+    }
+    message_scalar(s, classes, i)
+}
