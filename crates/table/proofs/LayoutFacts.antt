@@ -1,0 +1,128 @@
+-- Laws of the layout: children of the right kind, where a definition begins, what is left to lay out, and words that a kind does not use.
+-- A table falls into at most as many definitions as it has rows; each takes one row at least, so what is left always suffices.
+use Prim.Native.Nat.{ℕ, zero, suc, _+_, _-_, _*_, _≤_, _<_}
+use mathlib.Core.Path.{_≡_, refl, sym, ap, _∙_}
+use mathlib.Core.Bool.{Bool, true, false, not, _&&_, _||_, and-false}
+use mathlib.Core.Logic.{inl, inr, ⊎-elim}
+use mathlib.Core.List.{List, [], _∷_}
+use native.Mathlib.Nat.{eq-or-lt-of-le}
+use native.Mathlib.Numerals.{add-one}
+use native.Mathlib.Omega.{arith}
+use lib.Dec.{eqb}
+use lib.ListN.{getD, List·getD-eq-default}
+use types.Run.{OneOf}
+use borrow.Author.Tests.{eq-eqb, ne-eqb}
+use Rattle.grammar.specs.Notation.{all}
+use Rattle.rules.specs.Rows.{upFrom, rowCount, word, kind, inline, inlineRows, childCount}
+use Rattle.rules.specs.Sound.{childrenFit, definitionAt, laidOut, lastUsed, restZero}
+use Rattle.table.proofs.Walks.{upTo, upTo-of}
+use Rattle.table.proofs.RowFacts.{children-from}
+
+-- children from a up to e, of the kind after their row's
+pub fit-upTo : (T : List ℕ) (r a e : ℕ) → a ≡ suc r + inlineRows T r → e ≡ a + childCount T r → childrenFit T r ≡ upTo (λ c. eqb (kind T c) (suc (kind T r))) a e
+unfolding upTo
+fit-upTo T r a e p q = rw (children-from T r a e p q)
+
+-- kinds of definitions
+abbrev pub DefinitionKind : ℕ → Type 0
+DefinitionKind = OneOf (1 ∷ 3 ∷ 5 ∷ 7 ∷ 9 ∷ [])
+
+abbrev pub ofDefinition : ℕ → Bool
+ofDefinition k = eqb k 1 || eqb k 3 || eqb k 5 || eqb k 7 || eqb k 9
+
+pub definition-kind : (k : ℕ) → DefinitionKind k → ofDefinition k ≡ true
+definition-kind k =
+    ⊎-elim (λ (e : k ≡ 1). rw e) (⊎-elim (λ (e : k ≡ 3). rw e) (⊎-elim (λ (e : k ≡ 5). rw e) (⊎-elim (λ (e : k ≡ 7). rw e) (λ (e : k ≡ 9). rw e))))
+
+pub other-kind : (k : ℕ) → (DefinitionKind k → ⊥) → ofDefinition k ≡ false
+other-kind k n =
+    rw (
+      ne-eqb k 1 (λ e. n (inl e)),
+      ne-eqb k 3 (λ e. n (inr (inl e))),
+      ne-eqb k 5 (λ e. n (inr (inr (inl e)))),
+      ne-eqb k 7 (λ e. n (inr (inr (inr (inl e))))),
+      ne-eqb k 9 (λ e. n (inr (inr (inr (inr e))))),
+    )
+
+-- where a definition begins
+module _ (T : List ℕ) (r k : ℕ) (p : k ≡ kind T r) where
+  pub no-definition-at : (DefinitionKind k → ⊥) → false ≡ definitionAt T r
+  no-definition-at n = let d : ofDefinition (kind T r) ≡ false = ap ofDefinition (sym p) ∙ other-kind k n in rw d
+
+  module _ (o : DefinitionKind k) (f : childrenFit T r ≡ true) where
+    definition-rest : definitionAt T r ≡ (not (inline T (r + 1)) || childrenFit T (r + 1))
+    definition-rest = let d : ofDefinition (kind T r) ≡ true = ap ofDefinition (sym p) ∙ definition-kind k o in rw (d, f, add-one)
+
+    pub definition-inline : inline T (r + 1) ≡ true → childrenFit T (r + 1) ≡ definitionAt T r
+    definition-inline i = sym (definition-rest ∙ rw i)
+
+    pub definition-plain : inline T (r + 1) ≡ false → true ≡ definitionAt T r
+    definition-plain i = sym (definition-rest ∙ rw i)
+
+pub children-unfit : (T : List ℕ) (r : ℕ) → childrenFit T r ≡ false → false ≡ definitionAt T r
+children-unfit T r f = rw (f, and-false)
+
+-- what is left to lay out from row r on
+pub record Left (T : List ℕ) (r : ℕ) : Type 0 where
+  pub most : ℕ
+  pub enough : rowCount T ≤ r + most
+  pub equal : laidOut T (rowCount T) 0 ≡ laidOut T most r
+
+module _ (T : List ℕ) where
+  pub left-all : Left T 0
+  left-all = record { most = rowCount T; enough = omega arith; equal = refl }
+
+  laid-on : (n r : ℕ) → r < rowCount T → laidOut T (suc n) r ≡ (definitionAt T r && laidOut T n (suc r + inlineRows T r + childCount T r))
+  unfolding laidOut
+  laid-on n r h = rw (ne-eqb r (rowCount T) (λ e. omega arith))
+
+  laid-past : (n r : ℕ) → rowCount T < r → laidOut T n r ≡ false
+  unfolding laidOut
+  laid-past zero r h = ne-eqb r (rowCount T) (λ e. omega arith)
+  laid-past (suc n) r h = rw (ne-eqb r (rowCount T) (λ e. omega arith), laid-past n (suc r + inlineRows T r + childCount T r) (omega arith), and-false)
+
+  laid-there : (n : ℕ) → laidOut T n (rowCount T) ≡ true
+  unfolding laidOut
+  laid-there zero = eq-eqb (rowCount T) (rowCount T) refl
+  laid-there (suc n) = rw (eq-eqb (rowCount T) (rowCount T) refl)
+
+  module _ (r : ℕ) (l : Left T r) where
+    pub left-stuck : r < rowCount T → definitionAt T r ≡ false → false ≡ laidOut T (rowCount T) 0
+    left-stuck h d = sym (l .equal ∙ go (l .most) (l .enough))
+      where
+        go : (n : ℕ) → rowCount T ≤ r + n → laidOut T n r ≡ false
+        go zero k = absurd (omega arith)
+        go (suc n) k = laid-on n r h ∙ rw d
+
+    pub left-on : (next : ℕ) → next ≡ suc r + inlineRows T r + childCount T r → r < rowCount T → definitionAt T r ≡ true → Left T next
+    left-on next p h d = go (l .most) (l .enough) (l .equal)
+      where
+        go : (n : ℕ) → rowCount T ≤ r + n → laidOut T (rowCount T) 0 ≡ laidOut T n r → Left T next
+        go zero k e = absurd (omega arith)
+        go (suc n) k e = record { most = n; enough = omega arith; equal = e ∙ laid-on n r h ∙ rw (d, p) }
+
+    pub left-none : rowCount T ≤ r → eqb r (rowCount T) ≡ laidOut T (rowCount T) 0
+    left-none h = ⊎-elim there (λ (k : rowCount T < r). ne-eqb r (rowCount T) (λ e. omega arith) ∙ sym (l .equal ∙ laid-past (l .most) r k)) (eq-or-lt-of-le h)
+      where
+        there : rowCount T ≡ r → eqb r (rowCount T) ≡ laidOut T (rowCount T) 0
+        there e = eq-eqb r (rowCount T) (sym e) ∙ sym (l .equal ∙ rw (← e) (laid-there (l .most)))
+
+-- words that a kind does not use; a number that is none of 1 to n, as a `match` leaves it, is 0 or above n
+abbrev pub NoneOf : ℕ → ℕ → Type 0
+NoneOf zero k = Unit
+NoneOf (suc n) k = NoneOf n k × (k ≡ suc n → ⊥)
+
+above : (n k : ℕ) → NoneOf n k → 0 < k → n < k
+above zero k h p = p
+above (suc n) k h p = let q : n < k = above n k (h .0) p in omega (arith, h .1)
+
+pub none-used : (k : ℕ) → NoneOf 9 k → 0 ≡ lastUsed [] k
+none-used zero h = refl
+none-used (suc k) h = sym (List·getD-eq-default (0 ∷ 4 ∷ 3 ∷ 5 ∷ 6 ∷ 6 ∷ 4 ∷ 4 ∷ 4 ∷ 7 ∷ []) 0 (above 9 (suc k) h (omega arith)))
+
+pub rest-upTo : (T : List ℕ) (r k i : ℕ) → k ≡ kind T r → i ≡ lastUsed [] k → restZero T r ≡ upTo (λ j. eqb (getD T (8 * r + j) 0) 0) i 8
+rest-upTo T r k i p q =
+    rw (q, p)
+    (upTo-of (λ j. eqb (getD T (8 * r + j) 0) 0) 8 (λ j. all (λ n. eqb (word T r n) 0) (upFrom (suc j) (8 - j)))
+    (λ j h. let m : 8 - j ≡ suc (8 - suc j) = omega arith in let n : suc j - 1 ≡ j = omega arith in rw (add-one, m, n))
+    (λ j h. let m : 8 - j ≡ 0 = omega arith in rw m) (lastUsed T (kind T r)))

@@ -1,0 +1,132 @@
+-- Rule 9 of a row: what each return of unions.rt says of a union's discriminator and of its branches.
+-- Where the base's chain ends there is a list of its members, and what the walks say of it is what the rule says.
+use Prim.Native.Nat.{ℕ, zero, suc, _-_, _≤_, _<_}
+use mathlib.Core.Path.{_≡_, refl, sym, ap, ap₂, _∙_}
+use mathlib.Core.Bool.{Bool, true, false, _&&_, and-assoc}
+use mathlib.Core.List.{List}
+use mathlib.Core.Option.{some}
+use native.Mathlib.Omega.{arith}
+use lib.Dec.{eqb, ltb, eqb·zero-suc, eqb·suc-suc}
+use borrow.Author.Tests.{lt-ltb, le-leb, lt-leb, eq-eqb, ne-eqb, ltb-true, leb-true}
+use Rattle.grammar.specs.Limits.{chain-structs, first-row}
+use Rattle.grammar.specs.Notation.{all}
+use Rattle.rules.specs.Rows.{kind, typeRef, arrayMark, optional, unionBase, branchCount, discriminator, branchStruct, children, members, nameOf}
+use Rattle.rules.specs.Rules.{any, is, namesOf, noClash, discriminatorRow, discriminatorEnum, discriminatorFits, branchFits, unionFits}
+use Rattle.rules.proofs.Lists.{and-left, and-right}
+use Rattle.table.specs.Chains.{chainEnds, hasChild, isMember, membersNew}
+use Rattle.table.specs.RuleParts.{isTag, tagFits, branchNew}
+use Rattle.table.proofs.ListLaws.{all-same, any-same, any-none, is-guard}
+use Rattle.table.proofs.ChainLaws.{ends-is, is-member-is, members-new-is}
+
+-- a tag: mandatory, no array, of an enum type
+module _ (T : List ℕ) (d : ℕ) {o : ℕ} (p : o ≡ optional T d) where
+  pub tag-optional : (o ≡ 0 → ⊥) → false ≡ isTag T d
+  unfolding isTag
+  tag-optional n = rw (← p, ne-eqb o 0 n)
+
+  module _ (z : o ≡ 0) {a : ℕ} (q : a ≡ arrayMark T d) where
+    pub tag-array : (a ≡ 0 → ⊥) → false ≡ isTag T d
+    unfolding isTag
+    tag-array n = rw (← p, eq-eqb o 0 z, ← q, ne-eqb a 0 n)
+
+    module _ (y : a ≡ 0) {t : ℕ} (u : t ≡ typeRef T d) where
+      pub tag-built-in : t < 16 → false ≡ isTag T d
+      unfolding isTag
+      tag-built-in h = rw (← p, eq-eqb o 0 z, ← q, eq-eqb a 0 y, ← u, lt-leb 16 t h)
+
+      pub tag-is : 16 ≤ t → {k : ℕ} → k ≡ kind T (t - 16) → eqb k 1 ≡ isTag T d
+      unfolding isTag
+      tag-is h k = rw (← p, eq-eqb o 0 z, ← q, eq-eqb a 0 y, ← u, le-leb 16 t h, k)
+
+-- the discriminator of a union: a tag that is a member of the base
+module _ (T : List ℕ) (r : ℕ) {d : ℕ} (p : d ≡ discriminator T r) where
+  pub discriminator-none : d ≡ 0 → false ≡ tagFits T r
+  unfolding tagFits
+  discriminator-none z = rw (← p, z)
+
+  module _ (n : d ≡ 0 → ⊥) {l : ℕ} (q : l ≡ unionBase T r) where
+    pub discriminator-strange : isMember T chain-structs l (d - 1) ≡ false → false ≡ tagFits T r
+    unfolding tagFits
+    discriminator-strange e = rw (← p, lt-ltb 0 d (omega arith), ← q, e)
+
+    pub discriminator-is : isMember T chain-structs l (d - 1) ≡ true → {b : Bool} → b ≡ isTag T (d - 1) → b ≡ tagFits T r
+    unfolding tagFits
+    discriminator-is e t = rw (← p, lt-ltb 0 d (omega arith), ← q, e) t
+
+module _ (T : List ℕ) (r : ℕ) where
+  pub tag-link : tagFits T r ≡ true → 0 < discriminator T r
+  unfolding tagFits
+  tag-link e = ltb-true 0 (discriminator T r) (search (and-left, and-right))
+
+  pub tag-type : {d t : ℕ} → d ≡ discriminator T r → t ≡ typeRef T (d - 1) → tagFits T r ≡ true → 16 ≤ t
+  unfolding tagFits isTag
+  tag-type {d} {t} p q e =
+      let h : first-row ≤ typeRef T (discriminatorRow T r) = leb-true first-row (typeRef T (discriminatorRow T r)) (search (and-left, and-right)) in
+      rw (q, p) h
+
+  pub tag-fits-is : (ms : List ℕ) → members T chain-structs (unionBase T r) ≡ some ms → tagFits T r ≡ discriminatorFits T r ms
+  unfolding tagFits isTag
+  tag-fits-is ms e = go (discriminator T r) refl
+    where
+      go : (d : ℕ) → discriminator T r ≡ d → tagFits T r ≡ discriminatorFits T r ms
+      go zero q = rw (q, any-none (λ m. eqb 0 (suc m)) ms (λ m. eqb·zero-suc m))
+      go (suc d) q =
+          let z : suc d - 1 ≡ d = omega arith in
+          let x : any (λ m. eqb (suc d) (suc m)) ms ≡ any (eqb d) ms = any-same _ (eqb d) ms (λ m. eqb·suc-suc d m) in
+          rw (q, z, lt-ltb 0 (suc d) (omega arith), is-member-is T d chain-structs (unionBase T r) ms e, x) (simp and-assoc)
+
+-- a branch: named by a value of the enum, and its struct's members are new
+module _ (S T : List ℕ) where
+  module _ (e base b : ℕ) where
+    pub branch-unnamed : hasChild S T e (nameOf S T b) ≡ false → false ≡ branchNew S T e base b
+    unfolding branchNew
+    branch-unnamed t = rw t
+
+    module _ (t : hasChild S T e (nameOf S T b) ≡ true) {l : ℕ} (p : l ≡ branchStruct T b) where
+      pub branch-endless : chainEnds T chain-structs l ≡ false → false ≡ branchNew S T e base b
+      unfolding branchNew
+      branch-endless f = rw (t, ← p, f)
+
+      pub branch-is : chainEnds T chain-structs l ≡ true → {a : Bool} → a ≡ membersNew S T chain-structs l base → a ≡ branchNew S T e base b
+      unfolding branchNew
+      branch-is f m = rw (t, ← p, f) m
+
+  -- of a union whose base has members
+  module _ (r base : ℕ) (ms : List ℕ) (m : members T chain-structs base ≡ some ms) where
+    struct-new : (l : ℕ) → chainEnds T chain-structs l && membersNew S T chain-structs l base
+        ≡ is (members T chain-structs l) (λ bs. noClash (namesOf S T ms) (namesOf S T bs))
+    struct-new l =
+        rw (ends-is T chain-structs l)
+        (is-guard (members T chain-structs l) _ (membersNew S T chain-structs l base) (λ bs q. members-new-is S T chain-structs l base ms bs m q))
+
+    branch-fits-is : (b : ℕ) → branchNew S T (discriminatorEnum T r) base b ≡ branchFits S T r ms b
+    unfolding branchNew hasChild
+    branch-fits-is b = rw (and-assoc, struct-new (branchStruct T b))
+
+  -- a union: some branch, a chain that ends, a discriminator that fits and branches that fit
+  pub union-fits-is : (r : ℕ) → unionFits S T r ≡ ltb 0 (branchCount T r) && (chainEnds T chain-structs (unionBase T r)
+      && (tagFits T r && all (branchNew S T (discriminatorEnum T r) (unionBase T r)) (children T r)))
+  union-fits-is r =
+      let fits : Bool = tagFits T r && all (branchNew S T (discriminatorEnum T r) (unionBase T r)) (children T r) in
+      ap (λ (t : Bool). ltb 0 (branchCount T r) && t)
+      (sym (rw (ends-is T chain-structs (unionBase T r)) (is-guard (members T chain-structs (unionBase T r)) _ fits
+      (λ ms m. ap₂ _&&_ (tag-fits-is T r ms m)
+      (all-same (branchNew S T (discriminatorEnum T r) (unionBase T r)) (branchFits S T r ms) (children T r) (branch-fits-is r (unionBase T r) ms m))))))
+
+  module _ (r : ℕ) {n : ℕ} (p : n ≡ branchCount T r) where
+    pub union-empty : n ≡ 0 → false ≡ unionFits S T r
+    union-empty z = rw (← p, z)
+
+    module _ (h : n ≡ 0 → ⊥) {base : ℕ} (q : base ≡ unionBase T r) where
+      some-branch : unionFits S T r ≡ chainEnds T chain-structs base && (tagFits T r && all (branchNew S T (discriminatorEnum T r) base) (children T r))
+      some-branch = union-fits-is r ∙ rw (← p, lt-ltb 0 n (omega arith), ← q)
+
+      pub union-endless : chainEnds T chain-structs base ≡ false → false ≡ unionFits S T r
+      union-endless e = sym (some-branch ∙ rw e)
+
+      pub union-untagged : chainEnds T chain-structs base ≡ true → tagFits T r ≡ false → false ≡ unionFits S T r
+      union-untagged e t = sym (some-branch ∙ rw (e, t))
+
+      pub union-is : chainEnds T chain-structs base ≡ true → tagFits T r ≡ true → {d t : ℕ} → d ≡ discriminator T r → t ≡ typeRef T (d - 1)
+          → {b : Bool} → b ≡ all (branchNew S T (t - 16) base) (children T r) → b ≡ unionFits S T r
+      union-is e t {d} u v f = f ∙ sym (some-branch ∙ rw (e, t, ← u, ← v))

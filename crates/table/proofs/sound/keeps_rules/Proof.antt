@@ -1,0 +1,55 @@
+-- `keeps_rules` meets its contract.
+-- The first of three tests that fails decides.
+use borrow.Author.Needs.{needs}
+use Rattle.table.specs.RuleParts.{keepsRules}
+use Rattle.table.proofs.ListLaws.{failed, passed}
+use Rattle.table.proofs.sound.keeps_rules.Statement.{statement}
+use Rattle.table.proofs.sound.keeps_rules.Tie as tie
+
+good-names-requires : tie.Need-good-names-requires
+good-names-requires c κs = search needs
+
+returns : tie.Need-returns
+unfolding keepsRules
+returns c = rw (failed (c .before .good-names .ensures) (c .if1 .taken))
+
+distinct-names-requires : tie.Need-distinct-names-requires
+distinct-names-requires c κs = search needs
+
+same-length : tie.Need-same-length
+same-length c = search needs
+
+returns-2 : tie.Need-returns-2
+unfolding keepsRules
+returns-2 c =
+    rw (
+      passed (c .before .before .before .before .before .before .good-names .ensures) (c .before .before .before .before .before .if1 .left),
+      failed (c .before .before .before .distinct-names .ensures) (c .if2 .taken),
+    )
+
+definitions-fit-requires : tie.Need-definitions-fit-requires
+definitions-fit-requires c κs = search needs
+
+same-length-2 : tie.Need-same-length-2
+same-length-2 c = search needs
+
+returns-3 : tie.Need-returns-3
+unfolding keepsRules
+returns-3 c =
+    rw (
+      passed (c .before .before .before .before .before .before .before .good-names .ensures) (c .before .before .before .before .before .before .if1 .left),
+      passed (c .before .before .before .before .distinct-names .ensures) (c .before .if2 .left),
+    ) (c .definitions-fit .ensures)
+
+pub keeps-rules-spec : {M : Type 1} → statement M
+keeps-rules-spec =
+    tie.close
+    (tie.spec
+    good-names-requires
+    returns
+    distinct-names-requires
+    same-length
+    returns-2
+    definitions-fit-requires
+    same-length-2
+    returns-3)

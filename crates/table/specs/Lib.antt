@@ -1,0 +1,5 @@
+-- What the contracts of the inner functions cite, in terms of the rules.
+pub mod Rows
+pub mod Definitions
+pub mod Chains
+pub mod RuleParts

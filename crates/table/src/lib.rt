@@ -1,0 +1,11 @@
+// The judge of sound tables: rules 5 to 11 over rows, the layout, and references, for any words over any schema bytes.
+pub mod alternates;
+pub mod chains;
+pub mod definitions;
+pub mod layout;
+pub mod names;
+pub mod references;
+pub mod returns;
+pub mod rows;
+pub mod sound;
+pub mod unions;

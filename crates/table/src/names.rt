@@ -1,0 +1,171 @@
+// Names: parts of the schema's bytes that rows point to.
+use crate::rows::wide;
+use crate::rows::word;
+ghost use mathlib.Core.Path.{_≡_};
+ghost use Prim.Native.Nat.{_-_};
+ghost use lib.ListN.{take, drop};
+ghost use mathlib.Core.Bool.{not, _&&_, _||_};
+ghost use Rattle.grammar.specs.Notation.{text, same, all, apart};
+ghost use Rattle.rules.specs.Names.{letter, digit, nameByte, goodName, clash};
+ghost use Rattle.rules.specs.Rows.{upFrom, nameOf};
+ghost use Rattle.rules.specs.Rules.{namesOf};
+
+// The n bytes from a on, or those of them that there are.
+pub fn part_of(s: &[u8], a: usize, n: usize) -> &[u8]
+    ensures { λ r. ⌜ now r ≡ take n (drop a (now (s .entry))) ⌝ }
+{
+    let m = s.len();
+    if m <= a {
+        return &s[m..];
+    }
+    if m - a <= n {
+        return &s[a..];
+    }
+    let e = a + n;
+    &s[a..e]
+}
+
+// Whether two slices are equal: their lengths, their last bytes, then the rest.
+pub fn same_bytes(x: &[u8], y: &[u8]) -> bool
+    ensures { λ r. ⌜ r ≡ same (now (x .entry)) (now (y .entry)) ⌝ }
+{
+    let n = x.len();
+    if n != y.len() {
+        return false;
+    }
+    if n == 0 {
+        return true;
+    }
+    if x[n - 1] != y[n - 1] {
+        return false;
+    }
+    let mut i = 0;
+    while i < n {
+        if x[i] != y[i] {
+            return false;
+        }
+        i += 1;
+    }
+    true
+}
+
+// The name of row r.
+pub fn name_of<'a>(schema: &'a [u8], rows: &[u32], r: usize) -> &'a [u8]
+    ensures { λ w. ⌜ now w ≡ nameOf (now (schema .entry)) (now (rows .entry)) r ⌝ }
+{
+    let a = wide(word(rows, r, 1));
+    let n = wide(word(rows, r, 2));
+    part_of(schema, a, n)
+}
+
+pub fn same_name(schema: &[u8], rows: &[u32], a: usize, b: usize) -> bool
+    ensures { λ r. ⌜ r ≡ same (nameOf (now (schema .entry)) (now (rows .entry)) a) (nameOf (now (schema .entry)) (now (rows .entry)) b) ⌝ }
+{
+    same_bytes(name_of(schema, rows, a), name_of(schema, rows, b))
+}
+
+fn is_letter(b: u8) -> bool
+    ensures { λ r. ⌜ r ≡ letter b ⌝ }
+{
+    match b {
+        b'A'..=b'Z' => true,
+        b'a'..=b'z' => true,
+        _ => false,
+    }
+}
+
+fn is_name_byte(b: u8) -> bool
+    ensures { λ r. ⌜ r ≡ nameByte b ⌝ }
+{
+    match b {
+        b'0'..=b'9' => true,
+        b'-' => true,
+        b'_' => true,
+        _ => is_letter(b),
+    }
+}
+
+// Whether every byte from there on is one of a name.
+fn name_bytes(name: &[u8], from: usize) -> bool
+    ensures { λ r. ⌜ r ≡ all nameByte (drop from (now (name .entry))) ⌝ }
+{
+    let mut i = from;
+    while i < name.len() {
+        if !is_name_byte(name[i]) {
+            return false;
+        }
+        i += 1;
+    }
+    true
+}
+
+// Whether a name may begin with that byte: with a digit where `digits` says so.
+fn good_start(b: u8, digits: bool) -> bool
+    ensures { λ r. ⌜ r ≡ (letter b || digits && digit b) ⌝ }
+{
+    match b {
+        b'0'..=b'9' => digits,
+        _ => is_letter(b),
+    }
+}
+
+// Whether a name begins with q_.
+fn is_reserved(name: &[u8]) -> bool
+    ensures { λ r. ⌜ r ≡ same (take 2 (now (name .entry))) (text "q_") ⌝ }
+{
+    if name.len() < 2 {
+        return false;
+    }
+    if name[0] != b'q' {
+        return false;
+    }
+    name[1] == b'_'
+}
+
+// Whether a name is good: a digit may be its first byte where `digits` says so.
+pub fn good_name(name: &[u8], digits: bool) -> bool
+    ensures { λ r. ⌜ r ≡ goodName digits (now (name .entry)) ⌝ }
+{
+    let n = name.len();
+    if n == 0 {
+        return false;
+    }
+    if 63 < n {
+        return false;
+    }
+    if !good_start(name[0], digits) {
+        return false;
+    }
+    if is_reserved(name) {
+        return false;
+    }
+    name_bytes(name, 1)
+}
+
+// Whether the name of row a clashes with none of the rows from b up to e.
+pub fn is_fresh(schema: &[u8], rows: &[u32], a: usize, b: usize, e: usize) -> bool
+    ensures { λ r. ⌜ r ≡ all (λ y. not (clash (nameOf (now (schema .entry)) (now (rows .entry)) a) y)) (namesOf (now (schema .entry)) (now (rows .entry)) (upFrom b (e - b))) ⌝ }
+{
+    let mut i = b;
+    while i < e {
+        if same_name(schema, rows, a, i) {
+            return false;
+        }
+        i += 1;
+    }
+    true
+}
+
+// Whether no two names of the rows from a up to e clash.
+pub fn all_apart(schema: &[u8], rows: &[u32], a: usize, e: usize) -> bool
+    ensures { λ r. ⌜ r ≡ apart clash (namesOf (now (schema .entry)) (now (rows .entry)) (upFrom a (e - a))) ⌝ }
+{
+    let mut i = a;
+    while i < e {
+        if !is_fresh(schema, rows, i, i + 1, e) {
+            return false;
+        }
+        i += 1;
+    }
+    true
+}

@@ -1,0 +1,145 @@
+// References: every link and every type reference is to a row of a fitting kind, and flags are 0 or 1.
+use crate::rows::is_inline;
+use crate::rows::wide;
+use crate::rows::word;
+ghost use mathlib.Core.Path.{_≡_};
+ghost use mathlib.Core.Bool.{_||_};
+ghost use Prim.Native.Nat.{_<_, _^_};
+ghost use Rattle.rules.specs.Sound.{toStruct, toOwnInline, toType, referencesFit};
+ghost use Rattle.table.specs.RuleParts.{memberRefers, unionRefers, argumentsRefer, commandRefers};
+
+// A link to a struct that has a name.
+pub fn to_struct(rows: &[u32], link: usize) -> bool
+    requires { ⌜ link < 2 ^ 39 ⌝ }
+    ensures { λ b. ⌜ b ≡ toStruct (now (rows .entry)) link ⌝ }
+{
+    if link == 0 {
+        return false;
+    }
+    if word(rows, link - 1, 0) != 3 {
+        return false;
+    }
+    !is_inline(rows, link - 1)
+}
+
+// A link of row r to its own inline struct.
+fn to_own_inline(rows: &[u32], r: usize, link: usize) -> bool
+    requires { ⌜ r < 2 ^ 38 ⌝ }
+    ensures { λ b. ⌜ b ≡ toOwnInline (now (rows .entry)) r link ⌝ }
+{
+    if link != r + 2 {
+        return false;
+    }
+    is_inline(rows, r + 1)
+}
+
+// A link of row r to its own inline struct or to a struct that has a name.
+fn to_own_or_struct(rows: &[u32], r: usize, link: usize) -> bool
+    requires { ⌜ (r < 2 ^ 38) × (link < 2 ^ 39) ⌝ }
+    ensures { λ b. ⌜ b ≡ toOwnInline (now (rows .entry)) r link || toStruct (now (rows .entry)) link ⌝ }
+{
+    if to_own_inline(rows, r, link) {
+        return true;
+    }
+    to_struct(rows, link)
+}
+
+// A reference to a built-in or to a type that has a name.
+pub fn to_type(rows: &[u32], t: usize) -> bool
+    requires { ⌜ t < 2 ^ 39 ⌝ }
+    ensures { λ b. ⌜ b ≡ toType (now (rows .entry)) t ⌝ }
+{
+    if t < 16 {
+        return t != 0;
+    }
+    let k = word(rows, t - 16, 0);
+    match k {
+        1 => true,
+        3 => !is_inline(rows, t - 16),
+        5 => true,
+        7 => true,
+        _ => false,
+    }
+}
+
+fn member_fits(rows: &[u32], r: usize) -> bool
+    ensures { λ b. ⌜ b ≡ memberRefers (now (rows .entry)) r ⌝ }
+{
+    if !to_type(rows, wide(word(rows, r, 3))) {
+        return false;
+    }
+    if 1 < word(rows, r, 4) {
+        return false;
+    }
+    word(rows, r, 5) <= 1
+}
+
+fn union_fits(rows: &[u32], r: usize) -> bool
+    requires { ⌜ r < 2 ^ 38 ⌝ }
+    ensures { λ b. ⌜ b ≡ unionRefers (now (rows .entry)) r ⌝ }
+{
+    if !to_own_or_struct(rows, r, wide(word(rows, r, 3))) {
+        return false;
+    }
+    let d = wide(word(rows, r, 5));
+    if d == 0 {
+        return false;
+    }
+    word(rows, d - 1, 0) == 4
+}
+
+// The argument link of command r.
+fn arguments_fit(rows: &[u32], r: usize) -> bool
+    requires { ⌜ r < 2 ^ 38 ⌝ }
+    ensures { λ b. ⌜ b ≡ argumentsRefer (now (rows .entry)) r ⌝ }
+{
+    let link = wide(word(rows, r, 3));
+    if link == 0 {
+        return true;
+    }
+    to_own_or_struct(rows, r, link)
+}
+
+fn command_fits(rows: &[u32], r: usize) -> bool
+    requires { ⌜ r < 2 ^ 38 ⌝ }
+    ensures { λ b. ⌜ b ≡ commandRefers (now (rows .entry)) r ⌝ }
+{
+    if !arguments_fit(rows, r) {
+        return false;
+    }
+    if 1 < word(rows, r, 4) {
+        return false;
+    }
+    let t = wide(word(rows, r, 5));
+    let array = word(rows, r, 6);
+    if t == 0 {
+        return array == 0;
+    }
+    if 1 < array {
+        return false;
+    }
+    to_type(rows, t)
+}
+
+// Whether every reference of row r fits.
+pub fn references_fit(rows: &[u32], r: usize) -> bool
+    requires { ⌜ r < 2 ^ 38 ⌝ }
+    ensures { λ b. ⌜ b ≡ referencesFit (now (rows .entry)) r ⌝ }
+{
+    let k = word(rows, r, 0);
+    match k {
+        3 => {
+            let link = wide(word(rows, r, 4));
+            if link == 0 {
+                return true;
+            }
+            to_struct(rows, link)
+        }
+        4 => member_fits(rows, r),
+        5 => union_fits(rows, r),
+        6 => to_struct(rows, wide(word(rows, r, 3))),
+        8 => to_type(rows, wide(word(rows, r, 3))),
+        9 => command_fits(rows, r),
+        _ => true,
+    }
+}

@@ -1,0 +1,41 @@
+// What commands return: rule 11.
+use crate::rows::wide;
+use crate::rows::word;
+ghost use mathlib.Core.Path.{_≡_};
+ghost use Prim.Native.Nat.{_<_, _^_};
+ghost use lib.ListN.{length};
+ghost use Rattle.rules.specs.Rules.{returnFits, goodReturns};
+
+fn return_fits(rows: &[u32], t: usize) -> bool
+    ensures { λ b. ⌜ b ≡ returnFits (now (rows .entry)) t ⌝ }
+{
+    if t == 0 {
+        return true;
+    }
+    if t < 16 {
+        return false;
+    }
+    let k = word(rows, t - 16, 0);
+    match k {
+        3 => true,
+        5 => true,
+        _ => false,
+    }
+}
+
+pub fn good_returns(rows: &[u32]) -> bool
+    requires { ⌜ length (now rows) < 2 ^ 32 ⌝ }
+    ensures { λ b. ⌜ b ≡ goodReturns (now (rows .entry)) ⌝ }
+{
+    let n = rows.len() / 8;
+    let mut r = 0;
+    while r < n {
+        if word(rows, r, 0) == 9 {
+            if !return_fits(rows, wide(word(rows, r, 5))) {
+                return false;
+            }
+        }
+        r += 1;
+    }
+    true
+}

@@ -1,0 +1,117 @@
+// Whether a table is sound: any words, over any schema bytes.
+use crate::alternates::good_alternates;
+use crate::chains::good_chains;
+use crate::definitions::distinct_names;
+use crate::definitions::good_names;
+use crate::layout::is_laid_out;
+use crate::layout::rest_zero;
+use crate::references::references_fit;
+use crate::returns::good_returns;
+use crate::rows::wide;
+use crate::rows::word;
+use crate::unions::good_unions;
+ghost use mathlib.Core.Path.{_≡_};
+ghost use Prim.Native.Nat.{_*_, _≤_, _<_, _^_};
+ghost use lib.ListN.{length};
+ghost use Rattle.rules.specs.Sound.{sound};
+ghost use Rattle.table.specs.RuleParts.{namesWithin, rowsFit, shaped, definitionsFit, keepsRules};
+
+// Whether every name lies within the schema.
+fn names_within(schema: &[u8], rows: &[u32]) -> bool
+    requires { ⌜ length (now rows) < 2 ^ 32 ⌝ }
+    ensures { λ b. ⌜ b ≡ namesWithin (now (schema .entry)) (now (rows .entry)) ⌝ }
+{
+    let n = rows.len() / 8;
+    let mut r = 0;
+    while r < n {
+        if schema.len() < wide(word(rows, r, 1)) + wide(word(rows, r, 2)) {
+            return false;
+        }
+        r += 1;
+    }
+    true
+}
+
+// Whether every row uses its words and refers as it should.
+fn rows_fit(rows: &[u32]) -> bool
+    requires { ⌜ length (now rows) < 2 ^ 32 ⌝ }
+    ensures { λ b. ⌜ b ≡ rowsFit (now (rows .entry)) ⌝ }
+{
+    let n = rows.len() / 8;
+    let mut r = 0;
+    while r < n {
+        if !rest_zero(rows, r) {
+            return false;
+        }
+        if !references_fit(rows, r) {
+            return false;
+        }
+        r += 1;
+    }
+    true
+}
+
+// Whether the words are rows that fall into definitions, with names and references that fit.
+fn is_shaped(schema: &[u8], rows: &[u32]) -> bool
+    requires { ⌜ length (now rows) < 2 ^ 32 ⌝ }
+    ensures { λ b. ⌜ b ≡ shaped (now (schema .entry)) (now (rows .entry)) ⌝ }
+{
+    if !names_within(schema, rows) {
+        return false;
+    }
+    if !is_laid_out(rows) {
+        return false;
+    }
+    rows_fit(rows)
+}
+
+// Rules 8 to 11: chains, unions, alternates and what commands return.
+fn definitions_fit(schema: &[u8], rows: &[u32]) -> bool
+    requires { ⌜ length (now rows) < 2 ^ 32 ⌝ }
+    ensures { λ b. ⌜ b ≡ definitionsFit (now (schema .entry)) (now (rows .entry)) ⌝ }
+{
+    if !good_chains(schema, rows) {
+        return false;
+    }
+    if !good_unions(schema, rows) {
+        return false;
+    }
+    if !good_alternates(rows) {
+        return false;
+    }
+    good_returns(rows)
+}
+
+// Rules 5 to 11, of which 7 is that references fit; with room for two words for each row lent.
+fn keeps_rules(schema: &[u8], rows: &[u32], list: &mut [u32]) -> bool
+    requires { ⌜ (length (now rows) < 2 ^ 32) × (length (now rows) ≤ 4 * length (now list)) ⌝ }
+    ensures { λ b. ⌜ b ≡ keepsRules (now (schema .entry)) (now (rows .entry)) ⌝ }
+{
+    if !good_names(schema, rows) {
+        return false;
+    }
+    if !distinct_names(schema, rows, list) {
+        return false;
+    }
+    definitions_fit(schema, rows)
+}
+
+// Whether the table is sound.
+pub fn is_sound(schema: &[u8], rows: &[u32]) -> bool
+    ensures { λ b. ⌜ b ≡ sound (now (schema .entry)) (now (rows .entry)) ⌝ }
+{
+    if rows.len() % 8 != 0 {
+        return false;
+    }
+    if 8192 < rows.len() {
+        return false;
+    }
+    if 32768 < schema.len() {
+        return false;
+    }
+    if !is_shaped(schema, rows) {
+        return false;
+    }
+    let mut list = [0u32; 2048];
+    keeps_rules(schema, rows, &mut list)
+}

@@ -1,0 +1,116 @@
+// Unions: rule 9.
+use crate::chains::chain_ends;
+use crate::chains::has_child;
+use crate::chains::is_member;
+use crate::chains::members_new;
+use crate::names::name_of;
+use crate::rows::child_count;
+use crate::rows::first_child;
+use crate::rows::wide;
+use crate::rows::word;
+ghost use mathlib.Core.Path.{_≡_};
+ghost use Prim.Native.Nat.{_<_, _^_};
+ghost use lib.ListN.{length};
+ghost use Rattle.grammar.specs.Notation.{all};
+ghost use Rattle.rules.specs.Rows.{children};
+ghost use Rattle.rules.specs.Rules.{unionFits, goodUnions};
+ghost use Rattle.table.specs.RuleParts.{isTag, tagFits, branchNew};
+
+// Whether row d is a mandatory member, no array, of an enum type.
+fn is_tag(rows: &[u32], d: usize) -> bool
+    ensures { λ b. ⌜ b ≡ isTag (now (rows .entry)) d ⌝ }
+{
+    if word(rows, d, 5) != 0 {
+        return false;
+    }
+    if word(rows, d, 4) != 0 {
+        return false;
+    }
+    let t = wide(word(rows, d, 3));
+    if t < 16 {
+        return false;
+    }
+    word(rows, t - 16, 0) == 1
+}
+
+// Whether the discriminator of union r fits: a tag that is a member of the base.
+fn discriminator_fits(rows: &[u32], r: usize) -> bool
+    ensures { λ b. ⌜ b ≡ tagFits (now (rows .entry)) r ⌝ }
+{
+    let link = wide(word(rows, r, 5));
+    if link == 0 {
+        return false;
+    }
+    if !is_member(rows, wide(word(rows, r, 3)), 16, link - 1) {
+        return false;
+    }
+    is_tag(rows, link - 1)
+}
+
+// Whether branch b is named by a value of the enum at row e, and its struct repeats no member of the one with the link `base`.
+fn branch_fits(schema: &[u8], rows: &[u32], b: usize, e: usize, base: usize) -> bool
+    requires { ⌜ (e < 2 ^ 39) × (base < 2 ^ 39) ⌝ }
+    ensures { λ r. ⌜ r ≡ branchNew (now (schema .entry)) (now (rows .entry)) e base b ⌝ }
+{
+    if !has_child(schema, rows, e, name_of(schema, rows, b)) {
+        return false;
+    }
+    let link = wide(word(rows, b, 3));
+    if !chain_ends(rows, link, 16) {
+        return false;
+    }
+    members_new(schema, rows, link, 16, base)
+}
+
+// Whether every branch of union r fits.
+fn branches_fit(schema: &[u8], rows: &[u32], r: usize, e: usize, base: usize) -> bool
+    requires { ⌜ (r < 2 ^ 38) × (e < 2 ^ 39) × (base < 2 ^ 39) ⌝ }
+    ensures { λ b. ⌜ b ≡ all (branchNew (now (schema .entry)) (now (rows .entry)) e base) (children (now (rows .entry)) r) ⌝ }
+{
+    let a = first_child(rows, r);
+    let end = a + child_count(rows, r);
+    let mut b = a;
+    while b < end {
+        if !branch_fits(schema, rows, b, e, base) {
+            return false;
+        }
+        b += 1;
+    }
+    true
+}
+
+fn union_is_good(schema: &[u8], rows: &[u32], r: usize) -> bool
+    requires { ⌜ r < 2 ^ 38 ⌝ }
+    ensures { λ b. ⌜ b ≡ unionFits (now (schema .entry)) (now (rows .entry)) r ⌝ }
+{
+    if word(rows, r, 4) == 0 {
+        return false;
+    }
+    let base = wide(word(rows, r, 3));
+    if !chain_ends(rows, base, 16) {
+        return false;
+    }
+    if !discriminator_fits(rows, r) {
+        return false;
+    }
+    let tag = wide(word(rows, r, 5)) - 1;
+    let e = wide(word(rows, tag, 3)) - 16;
+    branches_fit(schema, rows, r, e, base)
+}
+
+pub fn good_unions(schema: &[u8], rows: &[u32]) -> bool
+    requires { ⌜ length (now rows) < 2 ^ 32 ⌝ }
+    ensures { λ b. ⌜ b ≡ goodUnions (now (schema .entry)) (now (rows .entry)) ⌝ }
+{
+    let n = rows.len() / 8;
+    let mut r = 0;
+    while r < n {
+        if word(rows, r, 0) == 5 {
+            if !union_is_good(schema, rows, r) {
+                return false;
+            }
+        }
+        r += 1;
+    }
+    true
+}
