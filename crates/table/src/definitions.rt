@@ -115,7 +115,7 @@ pub fn is_definition(rows: &[u32], r: usize) -> bool
 }
 
 // A number that equal names share: the length, the first and the last byte.
-fn mark_of(name: &[u8]) -> u32
+pub fn mark_of(name: &[u8]) -> u32
     ensures { λ r. ⌜ r ≡ markOf (now (name .entry)) ⌝ }
 {
     let n = name.len();
