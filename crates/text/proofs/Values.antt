@@ -40,8 +40,8 @@ module _ {s : List ℕ} {i b : ℕ} {r : Bool} (f : Stands s i b r) where
 
 -- a value without brackets
 module _ {D : Dialect} {s : List ℕ} {i : ℕ} {r : ScalarRead} (f : ReadsScalar D s i r) where
-  pub leaf-fits : {k kind e : ℕ} → Ready s i k → r ≡ Scalars.Found kind e → (k < 2 ^ 32) × (i < 2 ^ 32) × (e < 2 ^ 32) × (k + 1 < 2 ^ 32)
-  leaf-fits x g = let t = subst (λ (y : ScalarRead). ScalarTold D s i y) g (f .told) in let l = t .1 .within in omega arith
+  pub leaf-fits : {k kind e n : ℕ} → Ready s i k → r ≡ Scalars.Found kind e → n ≤ k + 2 → (k < 2 ^ 32) × (i < 2 ^ 32) × (e < 2 ^ 32) × (n < 2 ^ 32)
+  leaf-fits x g h = let t = subst (λ (y : ScalarRead). ScalarTold D s i y) g (f .told) in let l = t .1 .within in omega arith
 
   pub leaf-read : {w new : List ℕ} {k kind e : ℕ} → r ≡ Scalars.Found kind e → new ≡ putNode w k kind i e (k + 1) → ReadsLeaf D s w new i k (Past e (k + 1))
   leaf-read {w} {k = k} {kind = kind} {e = e} g q =

@@ -1,5 +1,6 @@
 -- `reader::scalar_node` meets its contract: the scalar's run is the value's, and its one node says it.
 -- Assumes nothing.
+use native.Mathlib.Omega.{arith}
 use borrow.Author.Needs.{needs}
 use Rattle.text.proofs.Values.{leaf-fits, leaf-read, leaf-stop}
 use Rattle.text.proofs.reader.scalar_node.Statement.{statement}
@@ -20,6 +21,7 @@ add-n c = search needs
 put-node-requires : tie.Need-put-node-requires
 put-node-requires c κs =
     leaf-fits (c .before .before .before .before .read-scalar .ensures) (c .before .before .before .before .before .before .before .pre .1) (c .before .before .kind .given .1)
+    (omega arith)
 
 returns : tie.Need-returns
 returns c = leaf-stop (c .before .before .before .read-scalar .ensures) (c .before .e .given .1)
