@@ -6,7 +6,6 @@ use native.Mathlib.Numerals.{add-one}
 use native.Mathlib.Omega.{arith}
 use native.Mathlib.Decide.{decLt}
 use mathlib.Core.Path.{_≡_, refl, sym, ap, _∙_}
-use mathlib.Core.Bool.{Bool, true, false}
 use mathlib.Core.List.{List, _∷_}
 use lib.ListN.{length, getD, drop, drop-of-length-le}
 use lib.Seq.{drop-cons}
@@ -19,15 +18,7 @@ use Rattle.grammar.proofs.Steps.{goes-on, scan-cons}
 use Rattle.grammar.proofs.TokenRuns.{TokensComplete}
 use Rattle.grammar.proofs.TokenRuns.Structural.{begin-array, begin-object, end-array, end-object, value-separator}
 use Rattle.grammar.proofs.Complete.{skip-solid, opens-array, opens-object}
-use Rattle.grammar.proofs.SchemaDialect.{schema-tokens-complete}
-use Rattle.grammar.proofs.MessageDialect.{message-tokens-complete}
-use Rattle.strings.specs.Strings.{dialect}
 use Rattle.tokens.specs.Tokens.{Skips, Solid, Skipped}
-
--- the laws of the dialect that a reader was asked for
-pub laws : (schema : Bool) → TokensComplete (dialect schema)
-laws true = schema-tokens-complete
-laws false = message-tokens-complete
 
 module _ (D : Dialect) (s : List ℕ) (lim : ℕ) where
   -- from control c and stack K at place p the machine comes to d and M at place q

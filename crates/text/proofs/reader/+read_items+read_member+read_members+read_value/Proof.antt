@@ -5,7 +5,7 @@ use native.Mathlib.Omega.{arith}
 use lib.ListN.{length}
 use borrow.Author.Needs.{needs}
 use Rattle.strings.specs.Strings.{dialect}
-use Rattle.text.proofs.Places.{laws}
+use Rattle.tokens.proofs.StringTokens.{dialect-complete as laws}
 use Rattle.text.proofs.Inside.{value-past, member-past, comma-on, close-on, reached-ready, reached-fits}
 use Rattle.text.proofs.Values.{stood, missed, ready-after, opens, unbracketed, value-after, value-within, array-too-deep, object-too-deep}
 use Rattle.text.proofs.Pairs.{key-ready, pair-fits, pair-read, pair-stop, key-stop}
