@@ -20,7 +20,7 @@ use Rattle.rules.proofs.Lists.{all-true, in-upFrom}
 use Rattle.rules.proofs.Grid.{built-in-kind, row-kind}
 use Rattle.table.specs.RuleParts.{columnOr6, rowColumn, kindNew, kindsFit}
 use Rattle.table.proofs.ListLaws.{all-map, all-same, eqb-sym}
-use Rattle.table.proofs.LoopLaws.{rows-on, rows-end}
+use Rattle.table.proofs.Walks.{upFrom-end, upFrom-on}
 
 -- the column of a type
 module _ (T : List ℕ) where
@@ -103,18 +103,18 @@ pub record KindsLeft (T : List ℕ) (whole : Bool) (b e : ℕ) : Type 0 where
 module _ {T : List ℕ} {whole : Bool} {b e : ℕ} (l : KindsLeft T whole b e) where
   pub kinds-end : e ≤ b → true ≡ whole
   unfolding kindsFit
-  kinds-end h = sym (l .left ∙ rw (rows-end b e h))
+  kinds-end h = sym (l .left ∙ rw (upFrom-end b e h))
 
   module _ (h : b < e) {k : ℕ} (p : k ≡ columnOr6 (typeKind T (typeRef T b))) where
     pub kinds-fail : k ≡ 6 → false ≡ whole
-    kinds-fail z = sym (l .left ∙ rw (rows-on b e h) (kinds-none T b (upFrom (b + 1) (e - (b + 1))) p z))
+    kinds-fail z = sym (l .left ∙ rw (upFrom-on b e h) (kinds-none T b (upFrom (b + 1) (e - (b + 1))) p z))
 
     module _ (n : k ≡ 6 → ⊥) where
       pub kinds-clash : kindNew T k (upFrom (b + 1) (e - (b + 1))) ≡ false → false ≡ whole
-      kinds-clash f = sym (l .left ∙ rw (rows-on b e h) (kinds-more T b (upFrom (b + 1) (e - (b + 1))) p n ∙ rw f))
+      kinds-clash f = sym (l .left ∙ rw (upFrom-on b e h) (kinds-more T b (upFrom (b + 1) (e - (b + 1))) p n ∙ rw f))
 
       pub kinds-on : kindNew T k (upFrom (b + 1) (e - (b + 1))) ≡ true → KindsLeft T whole (b + 1) e
-      kinds-on f = record { left = l .left ∙ rw (rows-on b e h) (kinds-more T b (upFrom (b + 1) (e - (b + 1))) p n ∙ rw f) }
+      kinds-on f = record { left = l .left ∙ rw (upFrom-on b e h) (kinds-more T b (upFrom (b + 1) (e - (b + 1))) p n ∙ rw f) }
 
 -- an alternate: some alternative, and alternatives that fit
 module _ (T : List ℕ) (r : ℕ) {n : ℕ} (p : n ≡ count T r) where

@@ -10,13 +10,6 @@ use borrow.Author.Tests.{not-true, not-false, eqb-true, eqb-false, eq-eqb, ne-eq
 use Rattle.grammar.specs.Notation.{all, same}
 use Rattle.rules.specs.Rules.{any, is, noClash}
 
--- a test whose answer was turned round
-pub failed : {x y : Bool} → x ≡ y → not x ≡ true → y ≡ false
-failed {x} e t = sym e ∙ not-true x t
-
-pub passed : {x y : Bool} → x ≡ y → not x ≡ false → y ≡ true
-passed {x} e t = sym e ∙ not-false x t
-
 module _ {A : Type 0} (f : A → Bool) where
   pub all-append : (l k : List A) → all f (l ++ k) ≡ all f l && all f k
   all-append [] k = refl

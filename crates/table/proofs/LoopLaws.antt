@@ -13,12 +13,7 @@ use mir.Val.{Fits}
 use Rattle.grammar.specs.Notation.{all}
 use Rattle.rules.specs.Rows.{upFrom, rowCount, kind}
 use Rattle.rules.specs.Rules.{any, everyRow}
-
-pub rows-on : (b e : ℕ) → b < e → upFrom b (e - b) ≡ b ∷ upFrom (b + 1) (e - (b + 1))
-rows-on b e h = let k : e - b ≡ suc (e - (b + 1)) = omega arith in rw (k, add-one)
-
-pub rows-end : (b e : ℕ) → e ≤ b → upFrom b (e - b) ≡ []
-rows-end b e h = let k : e - b ≡ 0 = omega arith in rw k
+use Rattle.table.proofs.Walks.{upFrom-end, upFrom-on}
 
 -- the next row's number fits where the end does
 pub next-fits : {b e : ℕ} → b < e → Fits w64 e → Fits w64 (b + 1)
@@ -37,13 +32,13 @@ every-starts T f h = record { left = h ∙ rows-start (all f) 0 (rowCount T) (ro
 
 module _ {whole : Bool} {f : ℕ → Bool} {b e : ℕ} (l : AllLeft whole f b e) where
   pub all-fails : b < e → f b ≡ false → false ≡ whole
-  all-fails h q = sym (l .left ∙ rw (rows-on b e h, q))
+  all-fails h q = sym (l .left ∙ rw (upFrom-on b e h, q))
 
   pub all-on : b < e → f b ≡ true → AllLeft whole f (b + 1) e
-  all-on h q = record { left = l .left ∙ rw (rows-on b e h, q) }
+  all-on h q = record { left = l .left ∙ rw (upFrom-on b e h, q) }
 
   pub all-ends : e ≤ b → true ≡ whole
-  all-ends h = sym (l .left ∙ rw (rows-end b e h))
+  all-ends h = sym (l .left ∙ rw (upFrom-end b e h))
 
 -- `whole` is true where `fits` holds of every row of kind k from b up to e
 abbrev pub ofKind : List ℕ → ℕ → (ℕ → Bool) → ℕ → Bool
@@ -75,10 +70,10 @@ pub record AnyLeft (whole : Bool) (f : ℕ → Bool) (b e : ℕ) : Type 0 where
 
 module _ {whole : Bool} {f : ℕ → Bool} {b e : ℕ} (l : AnyLeft whole f b e) where
   pub any-hit : b < e → f b ≡ true → true ≡ whole
-  any-hit h q = sym (l .left ∙ rw (rows-on b e h, q))
+  any-hit h q = sym (l .left ∙ rw (upFrom-on b e h, q))
 
   pub any-on : b < e → f b ≡ false → AnyLeft whole f (b + 1) e
-  any-on h q = record { left = l .left ∙ rw (rows-on b e h, q) }
+  any-on h q = record { left = l .left ∙ rw (upFrom-on b e h, q) }
 
   pub any-ends : e ≤ b → false ≡ whole
-  any-ends h = sym (l .left ∙ rw (rows-end b e h))
+  any-ends h = sym (l .left ∙ rw (upFrom-end b e h))

@@ -6,7 +6,7 @@ use native.Mathlib.Omega.{arith}
 use borrow.Author.Needs.{needs}
 use Rattle.rules.specs.Rows.{upFrom}
 use Rattle.table.specs.RuleParts.{kindsFit}
-use Rattle.table.proofs.ListLaws.{failed, passed}
+use Rattle.table.proofs.Walks.{denied, granted}
 use Rattle.table.proofs.KindLaws.{column-at, KindsLeft, kinds-fail, kinds-clash, kinds-on, kinds-end}
 use Rattle.table.proofs.alternates.kinds_apart.Statement.{statement}
 use Rattle.table.proofs.alternates.kinds_apart.Tie as tie
@@ -45,7 +45,7 @@ returns-2 c =
     kinds-clash (c .before .before .before .before .before .before .before .loop .inv) (omega arith)
     (column-at _ _ (c .before .before .before .type-kind .ensures)
     (c .before .before .before .before .wide .ensures ∙ c .before .before .before .before .before .word .ensures)) (c .before .before .if1 .left)
-    (failed (c .before .kind-is-new .ensures) (c .if2 .taken))
+    (denied (c .before .kind-is-new .ensures) (c .if2 .taken))
 
 add-i : tie.Need-add-i Inv-loop μ-loop
 add-i c = search needs
@@ -58,7 +58,7 @@ loop-again c =
     kinds-on (c .before .before .before .before .before .before .before .loop .inv) (omega arith)
     (column-at _ _ (c .before .before .before .type-kind .ensures)
     (c .before .before .before .before .wide .ensures ∙ c .before .before .before .before .before .word .ensures)) (c .before .before .if1 .left)
-    (passed (c .before .kind-is-new .ensures) (c .if2 .left))
+    (granted (c .before .kind-is-new .ensures) (c .if2 .left))
 
 returns-3 : tie.Need-returns-3 Inv-loop μ-loop
 returns-3 c = kinds-end (c .before .loop .inv) (omega arith)

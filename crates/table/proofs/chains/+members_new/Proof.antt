@@ -5,7 +5,7 @@ use mathlib.Core.Path.{sym, _∙_}
 use borrow.Author.Needs.{needs}
 use borrow.Fn.Kinds.{In}
 use borrow.Fn.PlainCycle.{Measures, is, falls, and}
-use Rattle.table.proofs.ListLaws.{failed, passed}
+use Rattle.table.proofs.Walks.{denied, granted}
 use Rattle.table.proofs.ChainLaws.{walk-none, walk-out, walk-on, members-new-walk}
 use Rattle.table.proofs.chains.members_new.Reads as members-new
 use Rattle.table.proofs.chains.members_new.Kinds as members-new-kinds
@@ -63,7 +63,7 @@ members-new-members-new-requires t c κs = search needs
 members-new-returns-3 : (t : ℕ) → members-new-lts.Need-returns-3 (members-new-calls t) (members-new-at t) members-new.Post
 members-new-returns-3 t c =
     walk-on (members-new-walk _ _ _) (c .before .before .before .before .before .if1 .left) (c .before .before .before .before .if2 .left)
-    (c .before .before .wide .ensures ∙ c .before .before .before .word .ensures) (sym (failed (c .before .members-new .ensures) (c .if3 .taken)))
+    (c .before .before .wide .ensures ∙ c .before .before .before .word .ensures) (sym (denied (c .before .members-new .ensures) (c .if3 .taken)))
 
 members-new-children-new-requires : (t : ℕ) → members-new-lts.Need-children-new-requires (members-new-calls t) (members-new-at t) members-new.Post
 members-new-children-new-requires t c κs = search needs
@@ -73,7 +73,7 @@ members-new-returns-4 t c =
     c .children-new .ensures ∙ walk-on (members-new-walk _ _ _) (c .before .before .before .before .before .before .if1 .left)
     (c .before .before .before .before .before .if2 .left)
     (c .before .before .before .wide .ensures ∙ c .before .before .before .before .word .ensures)
-    (sym (passed (c .before .before .members-new .ensures) (c .before .if3 .left)))
+    (sym (granted (c .before .before .members-new .ensures) (c .before .if3 .left)))
 
 pub +members-new-spec : {M : Type 1} → statement M
 +members-new-spec = close μ-members-new λ t. members-new-lts.spec (members-new-calls t) (members-new-at t)

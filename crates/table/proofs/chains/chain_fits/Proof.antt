@@ -2,7 +2,7 @@
 -- What the walks say of the list of inherited members.
 use mathlib.Core.Path.{_∙_}
 use borrow.Author.Needs.{needs}
-use Rattle.table.proofs.ListLaws.{failed, passed}
+use Rattle.table.proofs.Walks.{denied, granted}
 use Rattle.table.proofs.ChainLaws.{chain-fails, chain-holds}
 use Rattle.table.proofs.chains.chain_fits.Statement.{statement}
 use Rattle.table.proofs.chains.chain_fits.Tie as tie
@@ -19,7 +19,7 @@ chain-ends-requires c κs = search needs
 returns : tie.Need-returns
 returns c =
     chain-fails _ _ _ (c .before .before .wide .ensures ∙ c .before .before .before .word .ensures)
-    (failed (c .before .chain-ends .ensures) (c .if1 .taken))
+    (denied (c .before .chain-ends .ensures) (c .if1 .taken))
 
 children-new-requires : tie.Need-children-new-requires
 children-new-requires c κs = search needs
@@ -27,7 +27,7 @@ children-new-requires c κs = search needs
 returns-2 : tie.Need-returns-2
 returns-2 c =
     chain-holds _ _ _ (c .before .before .before .wide .ensures ∙ c .before .before .before .before .word .ensures)
-    (passed (c .before .before .chain-ends .ensures) (c .before .if1 .left)) (c .children-new .ensures)
+    (granted (c .before .before .chain-ends .ensures) (c .before .if1 .left)) (c .children-new .ensures)
 
 pub chain-fits-spec : {M : Type 1} → statement M
 chain-fits-spec =

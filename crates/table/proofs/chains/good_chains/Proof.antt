@@ -6,7 +6,7 @@ use mathlib.Core.Logic.{⊎-elim}
 use native.Mathlib.Omega.{arith}
 use borrow.Author.Needs.{needs}
 use Rattle.rules.specs.Rules.{chainFits, goodChains}
-use Rattle.table.proofs.ListLaws.{failed, passed}
+use Rattle.table.proofs.Walks.{denied, granted}
 use Rattle.table.proofs.LoopLaws.{KindLeft, kind-starts, kind-fails, kind-on, kind-other, kind-ends}
 use Rattle.table.proofs.chains.good_chains.Statement.{statement}
 use Rattle.table.proofs.chains.good_chains.Tie as tie
@@ -30,7 +30,7 @@ chain-fits-requires c κs = search needs
 returns : tie.Need-returns Inv-loop μ-loop
 returns c =
     kind-fails (c .before .before .before .before .before .loop .inv) (omega arith) (c .before .before .before .word .ensures)
-    (c .before .before .if1 .taken) (failed (c .before .chain-fits .ensures) (c .if2 .taken))
+    (c .before .before .if1 .taken) (denied (c .before .chain-fits .ensures) (c .if2 .taken))
 
 add-r : tie.Need-add-r Inv-loop μ-loop
 add-r c = search needs
@@ -41,7 +41,7 @@ loop-less c = search needs
 loop-again : tie.Need-loop-again Inv-loop μ-loop
 loop-again c =
     ⊎-elim
-    (λ w. kind-on (c .before .before .before .loop .inv) (omega arith) (c .before .word .ensures) (w .0 .taken) (passed (w .1 .ensures) (w .2 .left)))
+    (λ w. kind-on (c .before .before .before .loop .inv) (omega arith) (c .before .word .ensures) (w .0 .taken) (granted (w .1 .ensures) (w .2 .left)))
     (λ w. kind-other (c .before .before .before .loop .inv) (omega arith) (c .before .word .ensures) (w .left))
     (c .if1 .came)
 

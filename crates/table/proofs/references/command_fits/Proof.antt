@@ -2,7 +2,7 @@
 -- A law for each return: no arguments, no flag, nothing returned, no flag of an array, or the type returned.
 use mathlib.Core.Path.{_∙_}
 use borrow.Author.Needs.{needs}
-use Rattle.table.proofs.ListLaws.{failed, passed}
+use Rattle.table.proofs.Walks.{denied, granted}
 use Rattle.table.proofs.ReferenceLaws.{command-no-arguments, command-no-flag, command-nothing, command-no-array, command-is}
 use Rattle.table.proofs.references.command_fits.Statement.{statement}
 use Rattle.table.proofs.references.command_fits.Tie as tie
@@ -11,14 +11,14 @@ arguments-fit-requires : tie.Need-arguments-fit-requires
 arguments-fit-requires c κs = search needs
 
 returns : tie.Need-returns
-returns c = command-no-arguments _ _ (failed (c .before .arguments-fit .ensures) (c .if1 .taken))
+returns c = command-no-arguments _ _ (denied (c .before .arguments-fit .ensures) (c .if1 .taken))
 
 word-requires : tie.Need-word-requires
 word-requires c κs = search needs
 
 returns-2 : tie.Need-returns-2
 returns-2 c =
-    command-no-flag _ _ (passed (c .before .before .before .arguments-fit .ensures) (c .before .before .if1 .left)) (c .before .word .ensures)
+    command-no-flag _ _ (granted (c .before .before .before .arguments-fit .ensures) (c .before .before .if1 .left)) (c .before .word .ensures)
     (c .if2 .taken)
 
 word-requires-2 : tie.Need-word-requires-2
@@ -33,7 +33,7 @@ word-requires-3 c κs = search needs
 returns-3 : tie.Need-returns-3
 returns-3 c =
     command-nothing _ _
-    (passed (c .before .before .before .before .before .before .before .arguments-fit .ensures)
+    (granted (c .before .before .before .before .before .before .before .arguments-fit .ensures)
     (c .before .before .before .before .before .before .if1 .left)) (c .before .before .before .before .before .word .ensures)
     (c .before .before .before .before .if2 .left) (c .before .before .wide .ensures ∙ c .before .before .before .word2 .ensures)
     (c .before .word3 .ensures) (c .if3 .taken)
@@ -41,7 +41,7 @@ returns-3 c =
 returns-4 : tie.Need-returns-4
 returns-4 c =
     command-no-array _ _
-    (passed (c .before .before .before .before .before .before .before .before .arguments-fit .ensures)
+    (granted (c .before .before .before .before .before .before .before .before .arguments-fit .ensures)
     (c .before .before .before .before .before .before .before .if1 .left)) (c .before .before .before .before .before .before .word .ensures)
     (c .before .before .before .before .before .if2 .left)
     (c .before .before .before .wide .ensures ∙ c .before .before .before .before .word2 .ensures) (c .before .before .word3 .ensures)
@@ -53,7 +53,7 @@ to-type-requires c κs = search needs
 returns-5 : tie.Need-returns-5
 returns-5 c =
     command-is _ _
-    (passed (c .before .before .before .before .before .before .before .before .before .arguments-fit .ensures)
+    (granted (c .before .before .before .before .before .before .before .before .before .arguments-fit .ensures)
     (c .before .before .before .before .before .before .before .before .if1 .left))
     (c .before .before .before .before .before .before .before .word .ensures) (c .before .before .before .before .before .before .if2 .left)
     (c .before .before .before .before .wide .ensures ∙ c .before .before .before .before .before .word2 .ensures)

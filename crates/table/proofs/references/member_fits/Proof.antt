@@ -2,7 +2,7 @@
 -- A law for each return: no type, a mark that is no flag, or the last flag.
 use mathlib.Core.Path.{_∙_}
 use borrow.Author.Needs.{needs}
-use Rattle.table.proofs.ListLaws.{failed, passed}
+use Rattle.table.proofs.Walks.{denied, granted}
 use Rattle.table.proofs.ReferenceLaws.{member-no-type, member-no-flag, member-is}
 use Rattle.table.proofs.references.member_fits.Statement.{statement}
 use Rattle.table.proofs.references.member_fits.Tie as tie
@@ -19,7 +19,7 @@ to-type-requires c κs = search needs
 returns : tie.Need-returns
 returns c =
     member-no-type _ _ (c .before .before .wide .ensures ∙ c .before .before .before .word .ensures)
-    (failed (c .before .to-type .ensures) (c .if1 .taken))
+    (denied (c .before .to-type .ensures) (c .if1 .taken))
 
 word-requires-2 : tie.Need-word-requires-2
 word-requires-2 c κs = search needs
@@ -27,7 +27,7 @@ word-requires-2 c κs = search needs
 returns-2 : tie.Need-returns-2
 returns-2 c =
     member-no-flag _ _ (c .before .before .before .before .wide .ensures ∙ c .before .before .before .before .before .word .ensures)
-    (passed (c .before .before .before .to-type .ensures) (c .before .before .if1 .left)) (c .before .word2 .ensures) (c .if2 .taken)
+    (granted (c .before .before .before .to-type .ensures) (c .before .before .if1 .left)) (c .before .word2 .ensures) (c .if2 .taken)
 
 word-requires-3 : tie.Need-word-requires-3
 word-requires-3 c κs = search needs
@@ -35,7 +35,7 @@ word-requires-3 c κs = search needs
 returns-3 : tie.Need-returns-3
 returns-3 c =
     member-is _ _ (c .before .before .before .before .before .wide .ensures ∙ c .before .before .before .before .before .before .word .ensures)
-    (passed (c .before .before .before .before .to-type .ensures) (c .before .before .before .if1 .left)) (c .before .before .word2 .ensures)
+    (granted (c .before .before .before .before .to-type .ensures) (c .before .before .before .if1 .left)) (c .before .before .word2 .ensures)
     (c .before .if2 .left) (c .word3 .ensures)
 
 pub member-fits-spec : {M : Type 1} → statement M

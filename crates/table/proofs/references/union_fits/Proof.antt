@@ -2,7 +2,7 @@
 -- A law for each return: no base, no discriminator, or the kind of its row.
 use mathlib.Core.Path.{_∙_}
 use borrow.Author.Needs.{needs}
-use Rattle.table.proofs.ListLaws.{failed, passed}
+use Rattle.table.proofs.Walks.{denied, granted}
 use Rattle.table.proofs.ReferenceLaws.{union-no-base, union-no-tag, union-is}
 use Rattle.table.proofs.references.union_fits.Statement.{statement}
 use Rattle.table.proofs.references.union_fits.Tie as tie
@@ -19,7 +19,7 @@ to-own-or-struct-requires c κs = search needs
 returns : tie.Need-returns
 returns c =
     union-no-base _ _ (c .before .before .wide .ensures ∙ c .before .before .before .word .ensures)
-    (failed (c .before .to-own-or-struct .ensures) (c .if1 .taken))
+    (denied (c .before .to-own-or-struct .ensures) (c .if1 .taken))
 
 word-requires-2 : tie.Need-word-requires-2
 word-requires-2 c κs = search needs
@@ -30,7 +30,7 @@ wide-requires-2 c κs = search needs
 returns-2 : tie.Need-returns-2
 returns-2 c =
     union-no-tag _ _ (c .before .before .before .before .before .wide .ensures ∙ c .before .before .before .before .before .before .word .ensures)
-    (passed (c .before .before .before .before .to-own-or-struct .ensures) (c .before .before .before .if1 .left))
+    (granted (c .before .before .before .before .to-own-or-struct .ensures) (c .before .before .before .if1 .left))
     (c .before .wide2 .ensures ∙ c .before .before .word2 .ensures) (c .if2 .taken)
 
 sub-word : tie.Need-sub-word
@@ -43,7 +43,7 @@ returns-3 : tie.Need-returns-3
 returns-3 c =
     union-is _ _
     (c .before .before .before .before .before .before .wide .ensures ∙ c .before .before .before .before .before .before .before .word .ensures)
-    (passed (c .before .before .before .before .before .to-own-or-struct .ensures) (c .before .before .before .before .if1 .left))
+    (granted (c .before .before .before .before .before .to-own-or-struct .ensures) (c .before .before .before .before .if1 .left))
     (c .before .before .wide2 .ensures ∙ c .before .before .before .word2 .ensures) (c .before .if2 .left) (c .word3 .ensures)
 
 pub union-fits-spec : {M : Type 1} → statement M

@@ -7,7 +7,7 @@ use native.Mathlib.Omega.{arith}
 use borrow.Author.Needs.{needs}
 use Rattle.rules.specs.Rows
 use Rattle.rules.specs.Rules.{returnFits, goodReturns}
-use Rattle.table.proofs.ListLaws.{failed, passed}
+use Rattle.table.proofs.Walks.{denied, granted}
 use Rattle.table.proofs.LoopLaws.{KindLeft, kind-starts, kind-fails, kind-on, kind-other, kind-ends}
 use Rattle.table.proofs.KindLaws.{return-at}
 use Rattle.table.proofs.returns.good_returns.Statement.{statement}
@@ -41,7 +41,7 @@ returns c =
     (c .before .before .before .before .before .word .ensures) (c .before .before .before .before .if1 .taken)
     (return-at (c .before .before .before .before .before .before .before .before .before .args .rows .now)
     (c .before .before .before .before .before .before .before .loop .r)
-    (c .before .before .wide .ensures ∙ c .before .before .before .word2 .ensures) (failed (c .before .return-fits .ensures) (c .if2 .taken)))
+    (c .before .before .wide .ensures ∙ c .before .before .before .word2 .ensures) (denied (c .before .return-fits .ensures) (c .if2 .taken)))
 
 add-r : tie.Need-add-r Inv-loop μ-loop
 add-r c = search needs
@@ -54,7 +54,7 @@ loop-again c =
     ⊎-elim
     (λ w. kind-on (c .before .before .before .loop .inv) (omega arith) (c .before .word .ensures) (w .0 .taken)
     (return-at (c .before .before .before .before .before .args .rows .now) (c .before .before .before .loop .r) (w .2 .ensures ∙ w .1 .ensures)
-    (passed (w .3 .ensures) (w .4 .left))))
+    (granted (w .3 .ensures) (w .4 .left))))
     (λ w. kind-other (c .before .before .before .loop .inv) (omega arith) (c .before .word .ensures) (w .left))
     (c .if1 .came)
 

@@ -2,7 +2,7 @@
 -- The first of four tests that fails decides.
 use borrow.Author.Needs.{needs}
 use Rattle.table.specs.RuleParts.{definitionsFit}
-use Rattle.table.proofs.ListLaws.{failed, passed}
+use Rattle.table.proofs.Walks.{denied, granted}
 use Rattle.table.proofs.sound.definitions_fit.Statement.{statement}
 use Rattle.table.proofs.sound.definitions_fit.Tie as tie
 
@@ -11,7 +11,7 @@ good-chains-requires c κs = search needs
 
 returns : tie.Need-returns
 unfolding definitionsFit
-returns c = rw (failed (c .before .good-chains .ensures) (c .if1 .taken))
+returns c = rw (denied (c .before .good-chains .ensures) (c .if1 .taken))
 
 good-unions-requires : tie.Need-good-unions-requires
 good-unions-requires c κs = search needs
@@ -20,8 +20,8 @@ returns-2 : tie.Need-returns-2
 unfolding definitionsFit
 returns-2 c =
     rw (
-      passed (c .before .before .before .good-chains .ensures) (c .before .before .if1 .left),
-      failed (c .before .good-unions .ensures) (c .if2 .taken),
+      granted (c .before .before .before .good-chains .ensures) (c .before .before .if1 .left),
+      denied (c .before .good-unions .ensures) (c .if2 .taken),
     )
 
 good-alternates-requires : tie.Need-good-alternates-requires
@@ -31,9 +31,9 @@ returns-3 : tie.Need-returns-3
 unfolding definitionsFit
 returns-3 c =
     rw (
-      passed (c .before .before .before .before .before .good-chains .ensures) (c .before .before .before .before .if1 .left),
-      passed (c .before .before .before .good-unions .ensures) (c .before .before .if2 .left),
-      failed (c .before .good-alternates .ensures) (c .if3 .taken),
+      granted (c .before .before .before .before .before .good-chains .ensures) (c .before .before .before .before .if1 .left),
+      granted (c .before .before .before .good-unions .ensures) (c .before .before .if2 .left),
+      denied (c .before .good-alternates .ensures) (c .if3 .taken),
     )
 
 good-returns-requires : tie.Need-good-returns-requires
@@ -43,9 +43,9 @@ returns-4 : tie.Need-returns-4
 unfolding definitionsFit
 returns-4 c =
     rw (
-      passed (c .before .before .before .before .before .before .good-chains .ensures) (c .before .before .before .before .before .if1 .left),
-      passed (c .before .before .before .before .good-unions .ensures) (c .before .before .before .if2 .left),
-      passed (c .before .before .good-alternates .ensures) (c .before .if3 .left),
+      granted (c .before .before .before .before .before .before .good-chains .ensures) (c .before .before .before .before .before .if1 .left),
+      granted (c .before .before .before .before .good-unions .ensures) (c .before .before .before .if2 .left),
+      granted (c .before .before .good-alternates .ensures) (c .before .if3 .left),
     ) (c .good-returns .ensures)
 
 pub definitions-fit-spec : {M : Type 1} → statement M

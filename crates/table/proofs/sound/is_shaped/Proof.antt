@@ -2,7 +2,7 @@
 -- The first of three tests that fails decides.
 use borrow.Author.Needs.{needs}
 use Rattle.table.specs.RuleParts.{shaped}
-use Rattle.table.proofs.ListLaws.{failed, passed}
+use Rattle.table.proofs.Walks.{denied, granted}
 use Rattle.table.proofs.sound.is_shaped.Statement.{statement}
 use Rattle.table.proofs.sound.is_shaped.Tie as tie
 
@@ -11,7 +11,7 @@ names-within-requires c κs = search needs
 
 returns : tie.Need-returns
 unfolding shaped
-returns c = rw (failed (c .before .names-within .ensures) (c .if1 .taken))
+returns c = rw (denied (c .before .names-within .ensures) (c .if1 .taken))
 
 is-laid-out-requires : tie.Need-is-laid-out-requires
 is-laid-out-requires c κs = search needs
@@ -20,8 +20,8 @@ returns-2 : tie.Need-returns-2
 unfolding shaped
 returns-2 c =
     rw (
-      passed (c .before .before .before .names-within .ensures) (c .before .before .if1 .left),
-      failed (c .before .is-laid-out .ensures) (c .if2 .taken),
+      granted (c .before .before .before .names-within .ensures) (c .before .before .if1 .left),
+      denied (c .before .is-laid-out .ensures) (c .if2 .taken),
     )
 
 rows-fit-requires : tie.Need-rows-fit-requires
@@ -31,8 +31,8 @@ returns-3 : tie.Need-returns-3
 unfolding shaped
 returns-3 c =
     rw (
-      passed (c .before .before .before .before .names-within .ensures) (c .before .before .before .if1 .left),
-      passed (c .before .before .is-laid-out .ensures) (c .before .if2 .left),
+      granted (c .before .before .before .before .names-within .ensures) (c .before .before .before .if1 .left),
+      granted (c .before .before .is-laid-out .ensures) (c .before .if2 .left),
     ) (c .rows-fit .ensures)
 
 pub is-shaped-spec : {M : Type 1} → statement M

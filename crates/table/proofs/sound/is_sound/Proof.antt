@@ -1,7 +1,7 @@
 -- `is_sound` meets its contract.
 -- A law for each return: the lengths, the shape, then the rules.
 use borrow.Author.Needs.{needs}
-use Rattle.table.proofs.ListLaws.{failed, passed}
+use Rattle.table.proofs.Walks.{denied, granted}
 use Rattle.table.proofs.SoundLaws.{not-whole-rows, too-many-rows, too-long-schema, not-shaped, sound-is}
 use Rattle.table.proofs.sound.is_sound.Statement.{statement}
 use Rattle.table.proofs.sound.is_sound.Tie as tie
@@ -21,7 +21,7 @@ is-shaped-requires c κs = search needs
 returns-4 : tie.Need-returns-4
 returns-4 c =
     not-shaped _ _ (c .before .before .before .before .if1 .left) (c .before .before .before .if2 .left) (c .before .before .if3 .left)
-    (failed (c .before .is-shaped .ensures) (c .if4 .taken))
+    (denied (c .before .is-shaped .ensures) (c .if4 .taken))
 
 slice-aggregate-keeps-rules : tie.Need-slice-aggregate-keeps-rules
 slice-aggregate-keeps-rules c = search needs
@@ -33,7 +33,7 @@ returns-5 : tie.Need-returns-5
 returns-5 c =
     sound-is _ _ (c .before .before .before .before .before .before .before .if1 .left) (c .before .before .before .before .before .before .if2 .left)
     (c .before .before .before .before .before .if3 .left)
-    (passed (c .before .before .before .before .is-shaped .ensures) (c .before .before .before .if4 .left)) (c .before .keeps-rules .ensures)
+    (granted (c .before .before .before .before .is-shaped .ensures) (c .before .before .before .if4 .left)) (c .before .keeps-rules .ensures)
 
 pub is-sound-spec : {M : Type 1} → statement M
 is-sound-spec =

@@ -2,7 +2,7 @@
 -- The first of three tests that fails decides.
 use borrow.Author.Needs.{needs}
 use Rattle.table.specs.RuleParts.{keepsRules}
-use Rattle.table.proofs.ListLaws.{failed, passed}
+use Rattle.table.proofs.Walks.{denied, granted}
 use Rattle.table.proofs.sound.keeps_rules.Statement.{statement}
 use Rattle.table.proofs.sound.keeps_rules.Tie as tie
 
@@ -11,7 +11,7 @@ good-names-requires c κs = search needs
 
 returns : tie.Need-returns
 unfolding keepsRules
-returns c = rw (failed (c .before .good-names .ensures) (c .if1 .taken))
+returns c = rw (denied (c .before .good-names .ensures) (c .if1 .taken))
 
 distinct-names-requires : tie.Need-distinct-names-requires
 distinct-names-requires c κs = search needs
@@ -23,8 +23,8 @@ returns-2 : tie.Need-returns-2
 unfolding keepsRules
 returns-2 c =
     rw (
-      passed (c .before .before .before .before .before .before .good-names .ensures) (c .before .before .before .before .before .if1 .left),
-      failed (c .before .before .before .distinct-names .ensures) (c .if2 .taken),
+      granted (c .before .before .before .before .before .before .good-names .ensures) (c .before .before .before .before .before .if1 .left),
+      denied (c .before .before .before .distinct-names .ensures) (c .if2 .taken),
     )
 
 definitions-fit-requires : tie.Need-definitions-fit-requires
@@ -37,8 +37,8 @@ returns-3 : tie.Need-returns-3
 unfolding keepsRules
 returns-3 c =
     rw (
-      passed (c .before .before .before .before .before .before .before .good-names .ensures) (c .before .before .before .before .before .before .if1 .left),
-      passed (c .before .before .before .before .distinct-names .ensures) (c .before .if2 .left),
+      granted (c .before .before .before .before .before .before .before .good-names .ensures) (c .before .before .before .before .before .before .if1 .left),
+      granted (c .before .before .before .before .distinct-names .ensures) (c .before .if2 .left),
     ) (c .definitions-fit .ensures)
 
 pub keeps-rules-spec : {M : Type 1} → statement M

@@ -7,7 +7,7 @@ use native.Mathlib.Omega.{arith}
 use borrow.Author.Needs.{needs}
 use Rattle.rules.specs.Sound.{restZero, referencesFit}
 use Rattle.table.specs.RuleParts.{rowsFit}
-use Rattle.table.proofs.ListLaws.{failed, passed}
+use Rattle.table.proofs.Walks.{denied, granted}
 use Rattle.table.proofs.LoopLaws.{AllLeft, every-starts, all-fails, all-on, all-ends}
 use Rattle.table.proofs.sound.rows_fit.Statement.{statement}
 use Rattle.table.proofs.sound.rows_fit.Tie as tie
@@ -26,7 +26,7 @@ rest-zero-requires : tie.Need-rest-zero-requires Inv-loop μ-loop
 rest-zero-requires c κs = search needs
 
 returns : tie.Need-returns Inv-loop μ-loop
-returns c = all-fails (c .before .before .before .loop .inv) (omega arith) (rw (failed (c .before .rest-zero .ensures) (c .if1 .taken)))
+returns c = all-fails (c .before .before .before .loop .inv) (omega arith) (rw (denied (c .before .rest-zero .ensures) (c .if1 .taken)))
 
 references-fit-requires : tie.Need-references-fit-requires Inv-loop μ-loop
 references-fit-requires c κs = search needs
@@ -34,8 +34,8 @@ references-fit-requires c κs = search needs
 returns-2 : tie.Need-returns-2 Inv-loop μ-loop
 returns-2 c =
     all-fails (c .before .before .before .before .before .loop .inv) (omega arith)
-    (rw (passed (c .before .before .before .rest-zero .ensures) (c .before .before .if1 .left))
-    (failed (c .before .references-fit .ensures) (c .if2 .taken)))
+    (rw (granted (c .before .before .before .rest-zero .ensures) (c .before .before .if1 .left))
+    (denied (c .before .references-fit .ensures) (c .if2 .taken)))
 
 add-r : tie.Need-add-r Inv-loop μ-loop
 add-r c = search needs
@@ -46,8 +46,8 @@ loop-less c = search needs
 loop-again : tie.Need-loop-again Inv-loop μ-loop
 loop-again c =
     all-on (c .before .before .before .before .before .loop .inv) (omega arith)
-    (rw (passed (c .before .before .before .rest-zero .ensures) (c .before .before .if1 .left))
-    (passed (c .before .references-fit .ensures) (c .if2 .left)))
+    (rw (granted (c .before .before .before .rest-zero .ensures) (c .before .before .if1 .left))
+    (granted (c .before .references-fit .ensures) (c .if2 .left)))
 
 returns-3 : tie.Need-returns-3 Inv-loop μ-loop
 returns-3 c = all-ends (c .before .loop .inv) (omega arith)

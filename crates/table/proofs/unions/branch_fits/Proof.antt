@@ -3,7 +3,7 @@
 use mathlib.Core.Path.{ap, _∙_}
 use borrow.Author.Needs.{needs}
 use Rattle.table.specs.Chains.{hasChild}
-use Rattle.table.proofs.ListLaws.{failed, passed}
+use Rattle.table.proofs.Walks.{denied, granted}
 use Rattle.table.proofs.UnionLaws.{branch-unnamed, branch-endless, branch-is}
 use Rattle.table.proofs.unions.branch_fits.Statement.{statement}
 use Rattle.table.proofs.unions.branch_fits.Tie as tie
@@ -16,7 +16,7 @@ has-child-requires c κs = search needs
 
 returns : tie.Need-returns
 returns c =
-    branch-unnamed _ _ _ _ _ (failed (c .before .has-child .ensures ∙ ap (hasChild _ _ _) (c .before .before .name-of .ensures)) (c .if1 .taken))
+    branch-unnamed _ _ _ _ _ (denied (c .before .has-child .ensures ∙ ap (hasChild _ _ _) (c .before .before .name-of .ensures)) (c .if1 .taken))
 
 word-requires : tie.Need-word-requires
 word-requires c κs = search needs
@@ -30,10 +30,10 @@ chain-ends-requires c κs = search needs
 returns-2 : tie.Need-returns-2
 returns-2 c =
     branch-endless _ _ _ _ _
-    (passed
+    (granted
     (c .before .before .before .before .before .has-child .ensures ∙ ap (hasChild _ _ _)
     (c .before .before .before .before .before .before .name-of .ensures)) (c .before .before .before .before .if1 .left))
-    (c .before .before .wide .ensures ∙ c .before .before .before .word .ensures) (failed (c .before .chain-ends .ensures) (c .if2 .taken))
+    (c .before .before .wide .ensures ∙ c .before .before .before .word .ensures) (denied (c .before .chain-ends .ensures) (c .if2 .taken))
 
 members-new-requires : tie.Need-members-new-requires
 members-new-requires c κs = search needs
@@ -41,11 +41,11 @@ members-new-requires c κs = search needs
 returns-3 : tie.Need-returns-3
 returns-3 c =
     branch-is _ _ _ _ _
-    (passed
+    (granted
     (c .before .before .before .before .before .before .has-child .ensures ∙ ap (hasChild _ _ _)
     (c .before .before .before .before .before .before .before .name-of .ensures)) (c .before .before .before .before .before .if1 .left))
     (c .before .before .before .wide .ensures ∙ c .before .before .before .before .word .ensures)
-    (passed (c .before .before .chain-ends .ensures) (c .before .if2 .left)) (c .members-new .ensures)
+    (granted (c .before .before .chain-ends .ensures) (c .before .if2 .left)) (c .members-new .ensures)
 
 pub branch-fits-spec : {M : Type 1} → statement M
 branch-fits-spec =

@@ -7,7 +7,7 @@ use borrow.Author.Needs.{needs}
 use Rattle.grammar.specs.Notation.{all}
 use Rattle.rules.specs.Rows.{children}
 use Rattle.table.specs.RuleParts.{branchNew}
-use Rattle.table.proofs.ListLaws.{failed, passed}
+use Rattle.table.proofs.Walks.{denied, granted}
 use Rattle.table.proofs.LoopLaws.{AllLeft, all-fails, all-on, all-ends, next-fits}
 use Rattle.table.proofs.ChildLaws.{all-children, end-fits}
 use Rattle.table.proofs.unions.branches_fit.Statement.{statement}
@@ -35,7 +35,7 @@ branch-fits-requires : tie.Need-branch-fits-requires Inv-loop μ-loop
 branch-fits-requires c κs = search needs
 
 returns : tie.Need-returns Inv-loop μ-loop
-returns c = all-fails (c .before .before .before .loop .inv) (omega arith) (failed (c .before .branch-fits .ensures) (c .if1 .taken))
+returns c = all-fails (c .before .before .before .loop .inv) (omega arith) (denied (c .before .branch-fits .ensures) (c .if1 .taken))
 
 add-b : tie.Need-add-b Inv-loop μ-loop
 add-b c =
@@ -47,7 +47,7 @@ loop-less : tie.Need-loop-less Inv-loop μ-loop
 loop-less c = search needs
 
 loop-again : tie.Need-loop-again Inv-loop μ-loop
-loop-again c = all-on (c .before .before .before .loop .inv) (omega arith) (passed (c .before .branch-fits .ensures) (c .if1 .left))
+loop-again c = all-on (c .before .before .before .loop .inv) (omega arith) (granted (c .before .branch-fits .ensures) (c .if1 .left))
 
 returns-2 : tie.Need-returns-2 Inv-loop μ-loop
 returns-2 c = all-ends (c .before .loop .inv) (omega arith)

@@ -2,7 +2,7 @@
 -- A law for each return: no link, no member of the base, or whether it is a tag.
 use mathlib.Core.Path.{_∙_}
 use borrow.Author.Needs.{needs}
-use Rattle.table.proofs.ListLaws.{failed, passed}
+use Rattle.table.proofs.Walks.{denied, granted}
 use Rattle.table.proofs.UnionLaws.{discriminator-none, discriminator-strange, discriminator-is}
 use Rattle.table.proofs.unions.discriminator_fits.Statement.{statement}
 use Rattle.table.proofs.unions.discriminator_fits.Tie as tie
@@ -33,7 +33,7 @@ returns-2 c =
     discriminator-strange _ _
     (c .before .before .before .before .before .wide .ensures ∙ c .before .before .before .before .before .before .word .ensures)
     (c .before .before .before .before .if1 .left) (c .before .before .wide2 .ensures ∙ c .before .before .before .word2 .ensures)
-    (failed (c .before .is-member .ensures) (c .if2 .taken))
+    (denied (c .before .is-member .ensures) (c .if2 .taken))
 
 sub-is-tag : tie.Need-sub-is-tag
 sub-is-tag c = search needs
@@ -47,7 +47,7 @@ returns-3 c =
     (c .before .before .before .before .before .before .wide .ensures ∙ c .before .before .before .before .before .before .before .word .ensures)
     (c .before .before .before .before .before .if1 .left)
     (c .before .before .before .wide2 .ensures ∙ c .before .before .before .before .word2 .ensures)
-    (passed (c .before .before .is-member .ensures) (c .before .if2 .left)) (c .is-tag .ensures)
+    (granted (c .before .before .is-member .ensures) (c .before .if2 .left)) (c .is-tag .ensures)
 
 pub discriminator-fits-spec : {M : Type 1} → statement M
 discriminator-fits-spec =

@@ -3,7 +3,7 @@
 use mathlib.Core.Path.{_∙_}
 use native.Mathlib.Omega.{arith}
 use borrow.Author.Needs.{needs}
-use Rattle.table.proofs.ListLaws.{failed, passed}
+use Rattle.table.proofs.Walks.{denied, granted}
 use Rattle.table.proofs.UnionLaws.{tag-link, tag-type, union-empty, union-endless, union-untagged, union-is}
 use Rattle.table.proofs.unions.union_is_good.Statement.{statement}
 use Rattle.table.proofs.unions.union_is_good.Tie as tie
@@ -31,7 +31,7 @@ returns-2 c =
     (c .before .before .before .before .before .before .before .before .args .rows .now)
     (c .before .before .before .before .before .before .before .before .args .r) (c .before .before .before .before .before .word .ensures)
     (c .before .before .before .before .if1 .left) (c .before .before .wide .ensures ∙ c .before .before .before .word2 .ensures)
-    (failed (c .before .chain-ends .ensures) (c .if2 .taken))
+    (denied (c .before .chain-ends .ensures) (c .if2 .taken))
 
 discriminator-fits-requires : tie.Need-discriminator-fits-requires
 discriminator-fits-requires c κs = search needs
@@ -43,8 +43,8 @@ returns-3 c =
     (c .before .before .before .before .before .before .before .before .before .before .args .r)
     (c .before .before .before .before .before .before .before .word .ensures) (c .before .before .before .before .before .before .if1 .left)
     (c .before .before .before .before .wide .ensures ∙ c .before .before .before .before .before .word2 .ensures)
-    (passed (c .before .before .before .chain-ends .ensures) (c .before .before .if2 .left))
-    (failed (c .before .discriminator-fits .ensures) (c .if3 .taken))
+    (granted (c .before .before .before .chain-ends .ensures) (c .before .before .if2 .left))
+    (denied (c .before .discriminator-fits .ensures) (c .if3 .taken))
 
 word-requires-3 : tie.Need-word-requires-3
 word-requires-3 c κs = search needs
@@ -53,7 +53,7 @@ wide-requires-2 : tie.Need-wide-requires-2
 wide-requires-2 c κs = search needs
 
 sub-tag : tie.Need-sub-tag
-sub-tag c = omega (arith, tag-link _ _ (passed (c .before .before .before .discriminator-fits .ensures) (c .before .before .if3 .left)))
+sub-tag c = omega (arith, tag-link _ _ (granted (c .before .before .before .discriminator-fits .ensures) (c .before .before .if3 .left)))
 
 word-requires-4 : tie.Need-word-requires-4
 word-requires-4 c κs = search needs
@@ -64,7 +64,7 @@ wide-requires-3 c κs = search needs
 sub-e : tie.Need-sub-e
 sub-e c =
     tag-type _ _ (c .before .before .wide2 .ensures ∙ c .before .before .before .word3 .ensures) (c .wide3 .ensures ∙ c .before .word4 .ensures)
-    (passed (c .before .before .before .before .before .discriminator-fits .ensures) (c .before .before .before .before .if3 .left))
+    (granted (c .before .before .before .before .before .discriminator-fits .ensures) (c .before .before .before .before .if3 .left))
 
 branches-fit-requires : tie.Need-branches-fit-requires
 branches-fit-requires c κs = search needs
@@ -79,9 +79,9 @@ returns-4 c =
     (c .before .before .before .before .before .before .before .before .before .before .before .if1 .left)
     (c .before .before .before .before .before .before .before .before .before .wide .ensures ∙ c .before .before .before .before .before .before
     .before .before .before .before .word2 .ensures)
-    (passed (c .before .before .before .before .before .before .before .before .chain-ends .ensures)
+    (granted (c .before .before .before .before .before .before .before .before .chain-ends .ensures)
     (c .before .before .before .before .before .before .before .if2 .left))
-    (passed (c .before .before .before .before .before .before .discriminator-fits .ensures) (c .before .before .before .before .before .if3 .left))
+    (granted (c .before .before .before .before .before .before .discriminator-fits .ensures) (c .before .before .before .before .before .if3 .left))
     (c .before .before .before .wide2 .ensures ∙ c .before .before .before .before .word3 .ensures)
     (c .before .wide3 .ensures ∙ c .before .before .word4 .ensures) (c .branches-fit .ensures)
 
