@@ -16,18 +16,24 @@ const MESSAGE_LEVELS: usize = 32;
 
 const SCHEMA_LEVELS: usize = 8;
 
-// The number of nodes of a whole text; or the place of the first byte that fits nothing; or that of a bracket that opens a level too many.
+// The most bytes whose places a node's words can hold.
+const MOST_BYTES: usize = 0x7FFF_FFFF;
+
+// The number of nodes of a whole text; or the place of the first byte that fits nothing; or that of a bracket that opens a level too many; or more bytes than nodes can speak of.
 pub enum Text {
     Whole(usize),
     Fault(usize),
     Deep(usize),
+    TooLong,
 }
 
 // A message's value, from node 0 on.
 pub fn read_message(s: &[u8], nodes: &mut [u32]) -> Text
-    requires { ⌜ length (now s) < 2 ^ 31 ⌝ }
     ensures { λ r. ⌜ ReadsMessage (now (s .entry)) (now (nodes .entry)) (now (nodes .exit)) r ⌝ }
 {
+    if MOST_BYTES < s.len() {
+        return Text::TooLong;
+    }
     let classes = class_table();
     match read_value(s, &classes, false, nodes, 0, 0, MESSAGE_LEVELS) {
         Read::Past(e, n) => {
@@ -74,9 +80,11 @@ fn read_objects(s: &[u8], classes: &[u8; 256], nodes: &mut [u32]) -> Text
 
 // A schema's objects, from node 0 on.
 pub fn read_schema(s: &[u8], nodes: &mut [u32]) -> Text
-    requires { ⌜ length (now s) < 2 ^ 31 ⌝ }
     ensures { λ r. ⌜ ReadsSchema (now (s .entry)) (now (nodes .entry)) (now (nodes .exit)) r ⌝ }
 {
+    if MOST_BYTES < s.len() {
+        return Text::TooLong;
+    }
     let classes = class_table();
     read_objects(s, &classes, nodes)
 }

@@ -1,0 +1,2 @@
+-- Laws of the probe's proofs.
+pub mod Dialects

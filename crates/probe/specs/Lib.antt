@@ -1,0 +1,2 @@
+-- Definitions that the probe's contracts cite.
+pub mod Probe
