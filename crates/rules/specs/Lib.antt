@@ -1,4 +1,4 @@
--- What a reader must believe, in the paper's order. ReadingOf and Answers serve proofs only.
+-- What a reader must believe, in the paper's order. RawTable, ReadingOf and Answers serve proofs only.
 pub mod Types
 pub mod Values
 pub mod Definitions
@@ -12,5 +12,6 @@ pub mod Envelope
 pub mod Readings
 pub mod MessageAnswers
 pub mod Cases
+pub mod RawTable
 pub mod ReadingOf
 pub mod Answers

@@ -1,17 +1,9 @@
 // Repeated keys, over the nodes: one loop over all of them, and no value is read again.
+use crate::nodes::node_number;
 use crate::nodes::node_word;
 use strings::meanings::same_meaning;
-ghost use mathlib.Core.Path.{_≡_};
 ghost use Rattle.strings.specs.Strings.{dialect};
-ghost use Rattle.text.specs.Nodes.{node};
 ghost use Rattle.text.specs.Keys.{SameKeys, NewKey, KeysApart, KeysOnce};
-
-// Word i of node k, as a number of a place or a node.
-fn node_number(nodes: &[u32], k: usize, i: usize) -> usize
-    ensures { λ r. ⌜ r ≡ node (now (nodes .entry)) k i ⌝ }
-{
-    node_word(nodes, k, i) as usize
-}
 
 // Whether the keys at nodes a and b mean the same.
 fn same_key(s: &[u8], schema: bool, nodes: &[u32], a: usize, b: usize) -> bool

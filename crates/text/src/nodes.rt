@@ -17,6 +17,13 @@ pub fn node_word(nodes: &[u32], k: usize, i: usize) -> u32
     nodes[at + i]
 }
 
+// Word i of node k, as a number of a place or a node.
+pub fn node_number(nodes: &[u32], k: usize, i: usize) -> usize
+    ensures { λ r. ⌜ r ≡ node (now (nodes .entry)) k i ⌝ }
+{
+    node_word(nodes, k, i) as usize
+}
+
 // Node k: its kind, start, end, and the first node after it.
 pub fn put_node(nodes: &mut [u32], k: usize, kind: u32, start: usize, end: usize, next: usize)
     requires { ⌜ (k < 2 ^ 32) × (start < 2 ^ 32) × (end < 2 ^ 32) × (next < 2 ^ 32) ⌝ }

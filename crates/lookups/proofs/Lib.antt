@@ -1,0 +1,3 @@
+-- Laws of looking into nodes.
+pub mod NodeLaws
+pub mod FieldLaws

@@ -1,0 +1,35 @@
+-- Serves contracts: what is found in nodes, for every tree that they hold.
+use Prim.Native.Nat.{ℕ, suc, _<_}
+use mathlib.Core.Path.{_≡_}
+use mathlib.Core.Bool.{Bool, _||_}
+use mathlib.Core.List.{List}
+use mathlib.Core.Option.{Option, none, some}
+use lib.Dec.{eqb}
+use Rattle.grammar.specs.Notation.{same}
+use Rattle.grammar.specs.Tree.{Json, Fields}
+use Rattle.grammar.specs.Tree.Scalar.{str}
+use Rattle.grammar.specs.Tree.Json.{leaf}
+use Rattle.grammar.specs.Machine.{Dialect}
+use Rattle.rules.specs.Values.{valueAt}
+use Rattle.text.specs.Nodes.{next, Holds, HoldsFields}
+use Rattle.text.specs.Keys.{KeyAt}
+
+-- a node's kind is that of a string; that of a string or a key whose bytes are its code points
+abbrev pub stringKind : ℕ → Bool
+stringKind k = eqb k 6 || eqb k 7
+
+abbrev pub plainKind : ℕ → Bool
+plainKind k = eqb k 6 || eqb k 10
+
+-- the key or the string at node k means a name
+pub record NodeMeans (D : Dialect) (s w : List ℕ) (k : ℕ) (name : List ℕ) (r : Bool) : Type 0 where
+  pub key : (cs : List ℕ) → KeyAt D s w k cs → r ≡ same cs name
+  pub string : (a e l : ℕ) (cs : List ℕ) → Holds D s w (leaf a e (str cs)) l k → r ≡ same cs name
+
+-- where the value under a key stands: at a node, or nowhere
+abbrev pub ValueFound : Dialect → List ℕ → List ℕ → ℕ → Option Json → ℕ → Type 0
+ValueFound D s w l none r = r ≡ 0
+ValueFound D s w l (some j) r = (0 < r) × Holds D s w j l r
+
+pub record FindsValue (D : Dialect) (s w : List ℕ) (k : ℕ) (name : List ℕ) (r : ℕ) : Type 0 where
+  pub told : (fs : Fields) (l : ℕ) → HoldsFields D s w fs l (suc k) (next w k) → ValueFound D s w l (valueAt name fs) r

@@ -1,0 +1,68 @@
+// Strings, keys, and the value under a key. Any node may be asked.
+use strings::meanings::means;
+use text::nodes::node_number;
+use text::nodes::node_word;
+ghost use mathlib.Core.Path.{_≡_};
+ghost use Rattle.strings.specs.Strings.{dialect};
+ghost use Rattle.text.specs.Nodes.{node};
+ghost use Rattle.lookups.specs.Lookups.{stringKind, plainKind, NodeMeans, FindsValue};
+
+fn string_kind(kind: u32) -> bool
+    ensures { λ r. ⌜ r ≡ stringKind kind ⌝ }
+{
+    match kind {
+        6 => true,
+        7 => true,
+        _ => false,
+    }
+}
+
+// Whether the kind is that of a string or a key whose bytes are its code points.
+fn plain_kind(kind: u32) -> bool
+    ensures { λ r. ⌜ r ≡ plainKind kind ⌝ }
+{
+    match kind {
+        6 => true,
+        10 => true,
+        _ => false,
+    }
+}
+
+// Whether the value at node k is a string.
+pub fn is_string(nodes: &[u32], k: usize) -> bool
+    ensures { λ r. ⌜ r ≡ stringKind (node (now (nodes .entry)) k 0) ⌝ }
+{
+    string_kind(node_word(nodes, k, 0))
+}
+
+// Whether the string or key at node k means the bytes `name`.
+pub fn node_means(s: &[u8], schema: bool, nodes: &[u32], k: usize, name: &[u8]) -> bool
+    ensures { λ r. ⌜ NodeMeans (dialect schema) (now (s .entry)) (now (nodes .entry)) k (now (name .entry)) r ⌝ }
+{
+    let a = node_number(nodes, k, 1);
+    let e = node_number(nodes, k, 2);
+    let plain = plain_kind(node_word(nodes, k, 0));
+    means(s, schema, a, e, plain, name)
+}
+
+// The node of the value under a key of the object at node k; 0 if it has no such key.
+pub fn value_at(s: &[u8], schema: bool, nodes: &[u32], k: usize, name: &[u8]) -> usize
+    ensures { λ r. ⌜ FindsValue (dialect schema) (now (s .entry)) (now (nodes .entry)) k (now (name .entry)) r ⌝ }
+{
+    let end = node_number(nodes, k, 3);
+    if end <= k {
+        return 0;
+    }
+    let mut a = k + 1;
+    while a < end {
+        if node_means(s, schema, nodes, a, name) {
+            return a + 1;
+        }
+        let n = node_number(nodes, a, 3);
+        if n <= a {
+            return 0;
+        }
+        a = n;
+    }
+    0
+}
