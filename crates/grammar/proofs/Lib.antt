@@ -20,4 +20,5 @@ pub mod Numbers
 pub mod MessageTokens
 pub mod MessageDialect
 pub mod Texts
+pub mod Spans
 pub mod Vectors

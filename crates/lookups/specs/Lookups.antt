@@ -5,12 +5,13 @@ use mathlib.Core.Bool.{Bool, _||_}
 use mathlib.Core.List.{List}
 use mathlib.Core.Option.{Option, none, some}
 use lib.Dec.{eqb}
-use Rattle.grammar.specs.Notation.{same}
+use Rattle.grammar.specs.Notation.{same, all}
 use Rattle.grammar.specs.Tree.{Json, Fields}
 use Rattle.grammar.specs.Tree.Scalar.{str}
 use Rattle.grammar.specs.Tree.Json.{leaf}
+use Rattle.grammar.specs.Keys.{keysOf}
 use Rattle.grammar.specs.Machine.{Dialect}
-use Rattle.rules.specs.Values.{valueAt}
+use Rattle.rules.specs.Values.{valueAt, anyOf}
 use Rattle.text.specs.Nodes.{next, Holds, HoldsFields}
 use Rattle.text.specs.Keys.{KeyAt}
 
@@ -25,6 +26,14 @@ plainKind k = eqb k 6 || eqb k 10
 pub record NodeMeans (D : Dialect) (s w : List ℕ) (k : ℕ) (name : List ℕ) (r : Bool) : Type 0 where
   pub key : (cs : List ℕ) → KeyAt D s w k cs → r ≡ same cs name
   pub string : (a e l : ℕ) (cs : List ℕ) → Holds D s w (leaf a e (str cs)) l k → r ≡ same cs name
+
+-- the key at node a is one of these
+pub record OneOf (D : Dialect) (s w : List ℕ) (a : ℕ) (names : List (List ℕ)) (r : Bool) : Type 0 where
+  pub told : (cs : List ℕ) → KeyAt D s w a cs → r ≡ anyOf names cs
+
+-- the object at node k has no key but these
+pub record OnlyKeys (D : Dialect) (s w : List ℕ) (k : ℕ) (names : List (List ℕ)) (r : Bool) : Type 0 where
+  pub told : (fs : Fields) (l : ℕ) → HoldsFields D s w fs l (suc k) (next w k) → r ≡ all (anyOf names) (keysOf fs)
 
 -- where the value under a key stands: at a node, or nowhere
 abbrev pub ValueFound : Dialect → List ℕ → List ℕ → ℕ → Option Json → ℕ → Type 0

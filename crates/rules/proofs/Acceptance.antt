@@ -27,7 +27,7 @@ use Rattle.rules.proofs.ReadingExact.{arguments-unique}
 use Rattle.rules.proofs.MessageOutcome.{message-outcome, message-outcome-only}
 
 -- a test that is not false is true
-true-of : (b : Bool) → (b ≡ false → ⊥) → b ≡ true
+pub true-of : (b : Bool) → (b ≡ false → ⊥) → b ≡ true
 true-of true h = refl
 true-of false h = absurd (h refl)
 

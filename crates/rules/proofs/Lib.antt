@@ -1,8 +1,12 @@
--- In the order of the argument: general laws; what a sound table gives; readings; answers; the P table.
+-- In the order of the argument: general laws; rows as they are written; what a sound table gives; readings; answers; accepted schemas; the P table.
 pub mod Lists
 pub mod First
 pub mod Chains
 pub mod TableRows
+pub mod Cells
+pub mod CellRows
+pub mod CellLayout
+pub mod CellFinds
 pub mod SoundFacts
 pub mod Grid
 pub mod Lookups
@@ -13,4 +17,11 @@ pub mod SchemaOutcome
 pub mod Commands
 pub mod MessageOutcome
 pub mod Acceptance
+pub mod DefinitionForms
+pub mod CellBases
+pub mod NameSpans
+pub mod EntryLinks
+pub mod SchemaLinks
+pub mod Room
+pub mod AcceptedSound
 pub mod Cases

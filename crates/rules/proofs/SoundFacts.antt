@@ -47,13 +47,34 @@ pub record SoundFacts (S T : List ℕ) : Type 0 where
   -- commands
   pub one-command : (x : List ℕ) (c c′ : ℕ) → Names S T x c → Names S T x c′ → c ≡ c′
 
-module _ (S T : List ℕ) (h : sound S T ≡ true) where
-  every : (f : ℕ → Bool) → everyRow T f ≡ true → (r : ℕ) → r < rowCount T → f r ≡ true
+module _ (T : List ℕ) where
+  -- a test that every row passes
+  pub every : (f : ℕ → Bool) → everyRow T f ≡ true → (r : ℕ) → r < rowCount T → f r ≡ true
   every f e r l = all-true f (upFrom 0 (rowCount T)) e r (in-upFrom (rowCount T) 0 r zero-le (omega arith))
 
-  every-one : (test fits : ℕ → Bool) → everyRow T (λ x. not (test x) || fits x) ≡ true → (r : ℕ) → r < rowCount T → test r ≡ true → fits r ≡ true
+  pub every-one : (test fits : ℕ → Bool) → everyRow T (λ x. not (test x) || fits x) ≡ true → (r : ℕ) → r < rowCount T → test r ≡ true → fits r ≡ true
   every-one test fits e r l t = or-implies (test r) (fits r) (every (λ x. not (test x) || fits x) e r l) t
 
+  -- what links say
+  pub to-struct : (l : ℕ) → toStruct T l ≡ true → StructLink T l
+  to-struct l e s p =
+      let z : l - 1 ≡ s = omega arith in
+      subst (λ x. kind T x ≡ 3) z (eqb-true (kind T (l - 1)) 3 (search (and-left, and-right)))
+
+  pub to-own-inline : (r l : ℕ) → toOwnInline T r l ≡ true → StructLink T l
+  to-own-inline r l e s p =
+      let z : l ≡ suc (suc r) = eqb-true l (suc (suc r)) (and-left (eqb l (suc (suc r))) (inline T (suc r)) e) in
+      let y : suc r ≡ s = omega arith in
+      subst (λ x. kind T x ≡ 3) y (inline-struct T (suc r) (and-right (eqb l (suc (suc r))) (inline T (suc r)) e))
+
+  pub base-refers : (r : ℕ) → referencesFit T r ≡ true → kind T r ≡ 3 → StructLink T (base T r)
+  base-refers r f k s p =
+      ⊎-elim
+      (λ e. let z : base T r ≡ 0 = eqb-true (base T r) 0 (or-implies (isStruct T r) (eqb (base T r) 0) e (eq-eqb (kind T r) 3 k)) in absurd (omega arith))
+      (λ e. to-struct (base T r) e s p)
+      (or-cases (not (isStruct T r) || eqb (base T r) 0) (toStruct T (base T r)) (search (and-left, and-right)))
+
+module _ (S T : List ℕ) (h : sound S T ≡ true) where
   past-end : (r : ℕ) → rowCount T ≤ r → kind T r ≡ 0
   unfolding sound
   past-end r l =
@@ -78,20 +99,10 @@ module _ (S T : List ℕ) (h : sound S T ≡ true) where
   -- references
   refers : (r : ℕ) → (kind T r ≡ 0 → ⊥) → referencesFit T r ≡ true
   unfolding sound
-  refers r n = and-right (restZero T r) (referencesFit T r) (every (λ x. restZero T x && referencesFit T x) (search (and-left, and-right) depth 13) r (there r n))
-
-  to-struct : (l : ℕ) → toStruct T l ≡ true → StructLink T l
-  to-struct l e s p =
-      let z : l - 1 ≡ s = omega arith in
-      subst (λ x. kind T x ≡ 3) z (eqb-true (kind T (l - 1)) 3 (search (and-left, and-right)))
+  refers r n = and-right (restZero T r) (referencesFit T r) (every T (λ x. restZero T x && referencesFit T x) (search (and-left, and-right) depth 13) r (there r n))
 
   base-to : (r : ℕ) → kind T r ≡ 3 → StructLink T (base T r)
-  base-to r k s p =
-      let f : referencesFit T r ≡ true = refers r (omega arith) in
-      ⊎-elim
-      (λ e. let z : base T r ≡ 0 = eqb-true (base T r) 0 (or-implies (isStruct T r) (eqb (base T r) 0) e (eq-eqb (kind T r) 3 k)) in absurd (omega arith))
-      (λ e. to-struct (base T r) e s p)
-      (or-cases (not (isStruct T r) || eqb (base T r) 0) (toStruct T (base T r)) (search (and-left, and-right)))
+  base-to r k = base-refers T r (refers r (omega arith)) k
 
   -- what a union refers to
   abbrev unionRefers : ℕ → Bool
@@ -102,16 +113,10 @@ module _ (S T : List ℕ) (h : sound S T ≡ true) where
       let f : referencesFit T r ≡ true = refers r (omega arith) in
       or-implies (isUnion T r) (unionRefers r) (search (and-left, and-right)) (eq-eqb (kind T r) 5 k)
 
-  to-own-inline : (r l : ℕ) → toOwnInline T r l ≡ true → StructLink T l
-  to-own-inline r l e s p =
-      let z : l ≡ suc (suc r) = eqb-true l (suc (suc r)) (and-left (eqb l (suc (suc r))) (inline T (suc r)) e) in
-      let y : suc r ≡ s = omega arith in
-      subst (λ x. kind T x ≡ 3) y (inline-struct T (suc r) (and-right (eqb l (suc (suc r))) (inline T (suc r)) e))
-
   union-to : (r : ℕ) → kind T r ≡ 5 → StructLink T (unionBase T r)
   union-to r k =
       let f : unionRefers r ≡ true = union-refers r k in
-      ⊎-elim (to-own-inline r (unionBase T r)) (to-struct (unionBase T r))
+      ⊎-elim (to-own-inline T r (unionBase T r)) (to-struct T (unionBase T r))
       (or-cases (toOwnInline T r (unionBase T r)) (toStruct T (unionBase T r)) (search (and-left, and-right)))
 
   discriminator-to : (r : ℕ) → kind T r ≡ 5 → (d : ℕ) × (discriminator T r ≡ suc d)
@@ -124,7 +129,7 @@ module _ (S T : List ℕ) (h : sound S T ≡ true) where
   branch-to r b k m =
       let k′ : kind T b ≡ suc (kind T r) = fit r b m in
       let f : referencesFit T b ≡ true = refers b (omega arith) in
-      to-struct (branchStruct T b)
+      to-struct T (branchStruct T b)
       (or-implies (eqb (kind T b) 6) (toStruct T (branchStruct T b)) (search (and-left, and-right)) (eq-eqb (kind T b) 6 (omega arith)))
 
   -- names
@@ -133,13 +138,13 @@ module _ (S T : List ℕ) (h : sound S T ≡ true) where
   own-apart r = go (ltb r (rowCount T)) refl
     where
       go : (b : Bool) → ltb r (rowCount T) ≡ b → apart same (namesOf S T (children T r)) ≡ true
-      go true e = every (λ x. apart same (namesOf S T (children T x))) (search (and-left, and-right) depth 15) r (ltb-true r (rowCount T) e)
+      go true e = every T (λ x. apart same (namesOf S T (children T x))) (search (and-left, and-right) depth 15) r (ltb-true r (rowCount T) e)
       go false e = let z : kind T r ≡ 0 = past-end r (ltb-false r (rowCount T) e) in rw (no-children T r (omega arith))
 
   -- what a struct inherits and what it has of its own do not clash
   inherits : (r : ℕ) → kind T r ≡ 3 → chainFits S T r ≡ true
   unfolding sound goodChains
-  inherits r k = every-one (isStruct T) (chainFits S T) (search (and-left, and-right) depth 13) r (there r (omega arith)) (eq-eqb (kind T r) 3 k)
+  inherits r k = every-one T (isStruct T) (chainFits S T) (search (and-left, and-right) depth 13) r (there r (omega arith)) (eq-eqb (kind T r) 3 k)
 
   chain-apart : (n l : ℕ) → StructLink T l → (ms : List ℕ) → members T n l ≡ some ms → apart same (namesOf S T ms) ≡ true
   unfolding members
@@ -161,7 +166,7 @@ module _ (S T : List ℕ) (h : sound S T ≡ true) where
   -- a union's branches repeat no member of its base
   union-fits : (r : ℕ) → kind T r ≡ 5 → unionFits S T r ≡ true
   unfolding sound goodUnions
-  union-fits r k = every-one (isUnion T) (unionFits S T) (search (and-left, and-right) depth 13) r (there r (omega arith)) (eq-eqb (kind T r) 5 k)
+  union-fits r k = every-one T (isUnion T) (unionFits S T) (search (and-left, and-right) depth 13) r (there r (omega arith)) (eq-eqb (kind T r) 5 k)
 
   branch-fits : (r b : ℕ) (ms : List ℕ) → kind T r ≡ 5 → members T chain-structs (unionBase T r) ≡ some ms → List·Memᴰ b (children T r) → branchFits S T r ms b ≡ true
   branch-fits r b ms k e m =
@@ -181,7 +186,7 @@ module _ (S T : List ℕ) (h : sound S T ≡ true) where
   -- alternatives
   alternate-fits : (r : ℕ) → kind T r ≡ 7 → alternateFits T r ≡ true
   unfolding sound goodAlternates
-  alternate-fits r k = every-one (isAlternate T) (alternateFits T) (search (and-left, and-right) depth 13) r (there r (omega arith)) (eq-eqb (kind T r) 7 k)
+  alternate-fits r k = every-one T (isAlternate T) (alternateFits T) (search (and-left, and-right) depth 13) r (there r (omega arith)) (eq-eqb (kind T r) 7 k)
 
   kind-of : (r c : ℕ) → kind T r ≡ 7 → List·Memᴰ c (children T r) → (k : Kind) × (typeKind T (typeRef T c) ≡ some k)
   kind-of r c e m =

@@ -13,5 +13,6 @@ pub mod Readings
 pub mod MessageAnswers
 pub mod Cases
 pub mod RawTable
+pub mod Cells
 pub mod ReadingOf
 pub mod Answers

@@ -42,3 +42,10 @@ pub enum MessageAnswer {
     Accepted(u32, u32),
     Refused(MessageRefusal),
 }
+
+// The limits and widths of the paper, as grammar's specs/Limits has them.
+pub const SCHEMA_BYTES: usize = 32768;
+
+pub const TABLE_ROWS: usize = 1024;
+
+pub const ROW_WORDS: usize = 8;

@@ -29,7 +29,7 @@ and-false : (a b : Bool) → b ≡ false → a && b ≡ false
 and-false true b e = e
 and-false false b e = refl
 
-scalar-not-9 : (s : List ℕ) (a e : ℕ) (v : Scalar) → scalarNode s a e v ≡ 9 → ⊥
+pub scalar-not-9 : (s : List ℕ) (a e : ℕ) (v : Scalar) → scalarNode s a e v ≡ 9 → ⊥
 scalar-not-9 s a e null h = omega arith
 scalar-not-9 s a e (bool true) h = omega arith
 scalar-not-9 s a e (bool false) h = omega arith

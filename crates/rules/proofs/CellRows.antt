@@ -1,0 +1,138 @@
+-- What the words of entries say, row by row: kinds, names, inline structs, definitions, and where definitions are found.
+-- The idea: an inline struct is the only struct whose name has start 0, and it stands behind its owner alone.
+use Prim.Native.Nat.{ℕ, zero, suc, _+_, _*_, _/_, _≤_, _<_}
+use mathlib.Core.Path.{_≡_, refl, sym, ap, _∙_}
+use mathlib.Core.Bool.{Bool, true, false, not, cond, _&&_, _||_, and-false}
+use mathlib.Core.Logic.{⊎-elim}
+use mathlib.Core.List.{List, [], _∷_, _++_, map}
+use native.Mathlib.Nat.{add-zero}
+use native.Mathlib.Omega.{arith}
+use lib.Dec.{eqb, ltb}
+use lib.ListN.{length, getD, List·getD-eq-default}
+use borrow.Author.Tests.{eq-eqb, ne-eqb, ltb-true, ltb-false}
+use Rattle.rules.specs.Definitions.{Name, Data}
+use Rattle.rules.specs.Definitions.Data.{absent, inline, named}
+use Rattle.rules.specs.SchemaTable.{bytesOf}
+use Rattle.rules.specs.RawTable.{Every}
+use Rattle.rules.specs.Rows.{upFrom, rowCount, word, kind, start, size, isEnum, isStruct, isUnion, isAlternate, isCommand, nameOf}
+use Rattle.rules.specs.Rows as Rows
+use Rattle.rules.specs.Rules.{those, isDefinition}
+use Rattle.rules.specs.Cells.{Entry, blank, wordsOf, wordsFrom, entryKind, entryName, isInlineRow, isOwn, owns, EntryNames}
+use Rattle.rules.specs.Cells.Entry.{enumRow, alternateRow, valueRow, structRow, inlineRow, memberRow, unionRow, branchRow, alternativeRow, commandRow}
+use Rattle.rules.proofs.Lists.{clash}
+use Rattle.rules.proofs.Cells.{entry-words, length-words, word-at, every-at, Follow, follow-at, follow-last}
+
+-- a name that stands behind something
+abbrev pub Behind : Name → Type 0
+Behind n = 0 < n .start
+
+-- of its kind a definition, and no inline struct
+pub definition-of : (e : Entry) → ((eqb (entryKind e) 1 || eqb (entryKind e) 3 || eqb (entryKind e) 5 || eqb (entryKind e) 7 || eqb (entryKind e) 9) && not (isInlineRow e)) ≡ isOwn e
+definition-of (enumRow n c) = refl
+definition-of (alternateRow n c) = refl
+definition-of (valueRow n) = refl
+definition-of (structRow n b c) = refl
+definition-of (inlineRow c) = refl
+definition-of (memberRow m) = refl
+definition-of (unionRow n b tag c) = refl
+definition-of (branchRow p) = refl
+definition-of (alternativeRow p) = refl
+definition-of (commandRow n a t oob) = refl
+
+module _ (f g : Name → ℕ) (h : ℕ → Name → ℕ) where
+  -- two rows one after the other
+  abbrev inlineNext : ℕ → Entry → Entry → Bool
+  inlineNext r p e =
+      (eqb (getD (wordsOf f g h r p) 0 0) 5 || eqb (getD (wordsOf f g h r p) 0 0) 9) && eqb (getD (wordsOf f g h r p) 3 0) (suc (suc r))
+      && eqb (getD (wordsOf f g h (suc r) e) 0 0) 3 && eqb (getD (wordsOf f g h (suc r) e) 1 0) 0 && eqb (getD (wordsOf f g h (suc r) e) 2 0) 0
+      && eqb (getD (wordsOf f g h (suc r) e) 4 0) 0
+
+  owner-next : (r c : ℕ) (p : Entry) → true ≡ owns p → inlineNext r p (inlineRow c) ≡ true
+  owner-next r c (unionRow n (inline ms) tag k) o = rw (eq-eqb (suc (suc r)) (suc (suc r)) refl)
+  owner-next r c (commandRow n (inline ms) t oob) o = rw (eq-eqb (suc (suc r)) (suc (suc r)) refl)
+  owner-next r c (unionRow n absent tag k) o = absurd (clash refl o)
+  owner-next r c (unionRow n (named m) tag k) o = absurd (clash refl o)
+  owner-next r c (commandRow n absent t oob) o = absurd (clash refl o)
+  owner-next r c (commandRow n (named m) t oob) o = absurd (clash refl o)
+  owner-next r c (enumRow n k) o = absurd (clash refl o)
+  owner-next r c (alternateRow n k) o = absurd (clash refl o)
+  owner-next r c (valueRow n) o = absurd (clash refl o)
+  owner-next r c (structRow n b k) o = absurd (clash refl o)
+  owner-next r c (inlineRow k) o = absurd (clash refl o)
+  owner-next r c (memberRow m) o = absurd (clash refl o)
+  owner-next r c (branchRow m) o = absurd (clash refl o)
+  owner-next r c (alternativeRow m) o = absurd (clash refl o)
+
+  inline-next : (r : ℕ) (p e : Entry) → isInlineRow e ≡ owns p → EntryNames Behind e → inlineNext r p e ≡ isInlineRow e
+  inline-next r p (inlineRow c) o b = owner-next r c p o
+  inline-next r p (structRow n d c) o b = let k : n .start ≡ 0 → ⊥ = omega (arith, b .0) in rw (ne-eqb (n .start) 0 k, and-false)
+  inline-next r p (enumRow n c) o b = rw and-false
+  inline-next r p (alternateRow n c) o b = rw and-false
+  inline-next r p (valueRow n) o b = rw and-false
+  inline-next r p (memberRow m) o b = rw and-false
+  inline-next r p (unionRow n d tag c) o b = rw and-false
+  inline-next r p (branchRow m) o b = rw and-false
+  inline-next r p (alternativeRow m) o b = rw and-false
+  inline-next r p (commandRow n a t oob) o b = rw and-false
+
+  module _ (es : List Entry) where
+    -- the words of row r, counted from 0, and past the end
+    pub word-is : (r i : ℕ) → r < length es → i < 8 → getD (wordsFrom f g h 0 es) (8 * r + i) 0 ≡ getD (wordsOf f g h r (getD es r blank)) i 0
+    word-is r i l k = let z : 0 + r ≡ r = omega arith in word-at f g h 0 es r i l k ∙ rw z
+
+    pub word-past : (r i : ℕ) → length es ≤ r → getD (wordsFrom f g h 0 es) (8 * r + i) 0 ≡ 0
+    word-past r i l =
+        let n : length (wordsFrom f g h 0 es) ≡ 8 * length es = length-words f g h 0 es in
+        List·getD-eq-default (wordsFrom f g h 0 es) 0 {n = 8 * r + i} (omega arith)
+
+    pub rows-are : rowCount (wordsFrom f g h 0 es) ≡ length es
+    rows-are = let n : length (wordsFrom f g h 0 es) ≡ 8 * length es = length-words f g h 0 es in omega arith
+
+    module _ (r : ℕ) (l : r < length es) where
+      pub kind-is : kind (wordsFrom f g h 0 es) r ≡ entryKind (getD es r blank)
+      kind-is = word-is r 0 l (omega arith) ∙ ap (λ w. getD w 0 0) (entry-words f g h r (getD es r blank))
+
+      pub start-is : start (wordsFrom f g h 0 es) r ≡ entryName (getD es r blank) .start
+      start-is = word-is r 1 l (omega arith) ∙ ap (λ w. getD w 1 0) (entry-words f g h r (getD es r blank))
+
+      pub size-is : size (wordsFrom f g h 0 es) r ≡ entryName (getD es r blank) .size
+      size-is = word-is r 2 l (omega arith) ∙ ap (λ w. getD w 2 0) (entry-words f g h r (getD es r blank))
+
+      pub name-is : (S : List ℕ) → nameOf S (wordsFrom f g h 0 es) r ≡ bytesOf S (entryName (getD es r blank))
+      unfolding nameOf
+      name-is S = rw (start-is, size-is)
+
+    pub kind-past : (r : ℕ) → length es ≤ r → kind (wordsFrom f g h 0 es) r ≡ 0
+    kind-past r l = word-past r 0 l
+
+    module _ (follow : Follow blank es) (behind : Every (EntryNames Behind) es) where
+      -- inline structs are the entries that say so
+      pub inline-is : (r : ℕ) → r < length es → Rows.inline (wordsFrom f g h 0 es) r ≡ isInlineRow (getD es r blank)
+      unfolding Rows.inline
+      inline-is zero l = first es follow l
+        where
+          first : (es : List Entry) → Follow blank es → 0 < length es → false ≡ isInlineRow (getD es 0 blank)
+          first [] k l = absurd (omega arith)
+          first (e ∷ es) k l = sym (k .0)
+      inline-is (suc r) l =
+          let m : r < length es = omega arith in
+          rw (word-is r 0 m (omega arith), word-is r 3 m (omega arith), word-is (suc r) 0 l (omega arith), word-is (suc r) 1 l (omega arith), word-is (suc r) 2 l (omega arith), word-is (suc r) 4 l (omega arith))
+          (inline-next r (getD es r blank) (getD es (suc r) blank) (follow-at blank es follow r l) (every-at (EntryNames Behind) blank es behind (suc r) l))
+
+      pub inline-past : (r : ℕ) → length es ≤ r → Rows.inline (wordsFrom f g h 0 es) r ≡ false
+      unfolding Rows.inline
+      inline-past zero l = refl
+      inline-past (suc r) l = rw (kind-past (suc r) l, and-false)
+
+      -- an owner's inline struct follows it
+      pub inline-after : (r : ℕ) → r < length es → Rows.inline (wordsFrom f g h 0 es) (suc r) ≡ owns (getD es r blank)
+      inline-after r l = go (ltb (suc r) (length es)) refl
+        where
+          go : (b : Bool) → ltb (suc r) (length es) ≡ b → Rows.inline (wordsFrom f g h 0 es) (suc r) ≡ owns (getD es r blank)
+          go true e = let k : suc r < length es = ltb-true (suc r) (length es) e in inline-is (suc r) k ∙ follow-at blank es follow r k
+          go false e =
+              let k : length es ≤ suc r = ltb-false (suc r) (length es) e in
+              inline-past (suc r) k ∙ sym (follow-last blank es follow r (omega arith))
+
+      pub definition-is : (r : ℕ) → r < length es → isDefinition (wordsFrom f g h 0 es) r ≡ isOwn (getD es r blank)
+      definition-is r l = rw (kind-is r l, inline-is r l) (definition-of (getD es r blank))

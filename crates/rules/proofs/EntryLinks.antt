@@ -1,0 +1,168 @@
+-- What a sound table asks of each row, of a row that was written from an entry: unused words 0, flags 0 or 1, and references to rows of fitting kinds,
+-- given that the names which refer became such references. By the ten kinds of entries.
+use Prim.Native.Nat.{ℕ, suc, _-_, _<_}
+use mathlib.Core.Path.{_≡_, refl}
+use mathlib.Core.Bool.{Bool, true, false, _&&_, _||_}
+use mathlib.Core.List.{List}
+use native.Mathlib.Omega.{arith}
+use lib.Dec.{eqb, ltb}
+use lib.ListN.{length, getD}
+use borrow.Author.Tests.{eq-eqb}
+use Rattle.rules.specs.Definitions.{Name, TypeText, Data}
+use Rattle.rules.specs.Definitions.TypeText.{nothing, one, listOf}
+use Rattle.rules.specs.Definitions.Data.{absent, inline, named}
+use Rattle.rules.specs.Rows.{word, kind, unionBase, discriminator}
+use Rattle.rules.specs.Rows as Rows
+use Rattle.rules.specs.SchemaTable.{flag, isList, typeOf, dataLink}
+use Rattle.rules.specs.Sound.{restZero, referencesFit, isFlag, toStruct, toOwnInline, toType}
+use Rattle.rules.specs.Cells.{Entry, blank, wordsOf, wordsFrom, isInlineData, owns}
+use Rattle.rules.specs.Cells.Entry.{enumRow, alternateRow, valueRow, structRow, inlineRow, memberRow, unionRow, branchRow, alternativeRow, commandRow}
+use Rattle.rules.proofs.Lists.{clash, or-left, or-right}
+use Rattle.rules.proofs.CellRows.{word-is}
+
+-- the words of row r of T, which follow each other in ws
+pub record RowIs (T : List ℕ) (r : ℕ) (ws : List ℕ) : Type 0 where
+  pub word-1 : kind T r ≡ getD ws 0 0
+  pub word-4 : word T r 4 ≡ getD ws 3 0
+  pub word-5 : word T r 5 ≡ getD ws 4 0
+  pub word-6 : word T r 6 ≡ getD ws 5 0
+  pub word-7 : word T r 7 ≡ getD ws 6 0
+  pub word-8 : word T r 8 ≡ getD ws 7 0
+
+pub row-is : (f g : Name → ℕ) (h : ℕ → Name → ℕ) (es : List Entry) (r : ℕ) → r < length es → RowIs (wordsFrom f g h 0 es) r (wordsOf f g h r (getD es r blank))
+row-is f g h es r l = record {
+  word-1 = word-is f g h es r 0 l (omega arith);
+  word-4 = word-is f g h es r 3 l (omega arith);
+  word-5 = word-is f g h es r 4 l (omega arith);
+  word-6 = word-is f g h es r 5 l (omega arith);
+  word-7 = word-is f g h es r 6 l (omega arith);
+  word-8 = word-is f g h es r 7 l (omega arith);
+}
+
+module _ (T : List ℕ) (f g : Name → ℕ) where
+  -- a type that must be given, a return that may be absent
+  abbrev pub TypeLinked : TypeText → Type 0
+  TypeLinked nothing = ⊥
+  TypeLinked (one n) = toType T (g n) ≡ true
+  TypeLinked (listOf n) = toType T (g n) ≡ true
+
+  abbrev pub ReturnLinked : TypeText → Type 0
+  ReturnLinked nothing = Unit {0}
+  ReturnLinked (one n) = toType T (g n) ≡ true
+  ReturnLinked (listOf n) = toType T (g n) ≡ true
+
+  -- a struct's base, which is never written out; a union's, which is never absent; a command's data
+  abbrev pub BaseLinked : Data → Type 0
+  BaseLinked absent = Unit {0}
+  BaseLinked (inline ms) = ⊥
+  BaseLinked (named n) = toStruct T (f n) ≡ true
+
+  abbrev pub UnionLinked : Data → Type 0
+  UnionLinked absent = ⊥
+  UnionLinked (inline ms) = Unit {0}
+  UnionLinked (named n) = toStruct T (f n) ≡ true
+
+  abbrev pub DataLinked : Data → Type 0
+  DataLinked absent = Unit {0}
+  DataLinked (inline ms) = Unit {0}
+  DataLinked (named n) = toStruct T (f n) ≡ true
+
+  -- every name of the entry that refers became a reference to a fitting row; but for a discriminator, on which number 9 decides
+  abbrev pub EntryLinked : Entry → Type 0
+  EntryLinked (enumRow n c) = Unit {0}
+  EntryLinked (valueRow n) = Unit {0}
+  EntryLinked (structRow n b c) = BaseLinked b
+  EntryLinked (inlineRow c) = Unit {0}
+  EntryLinked (memberRow m) = TypeLinked (m .type)
+  EntryLinked (unionRow n b tag c) = UnionLinked b
+  EntryLinked (branchRow p) = toStruct T (f (p .type)) ≡ true
+  EntryLinked (alternateRow n c) = Unit {0}
+  EntryLinked (alternativeRow p) = toType T (g (p .type)) ≡ true
+  EntryLinked (commandRow n a t oob) = DataLinked a × ReturnLinked t
+
+  is-flag : (b : Bool) → isFlag T (flag b) ≡ true
+  is-flag true = refl
+  is-flag false = refl
+
+  module _ (h : ℕ → Name → ℕ) where
+    -- the same of the words
+    type-linked : (t : TypeText) → TypeLinked t → toType T (typeOf f g h t) ≡ true
+    type-linked nothing k = absurd k
+    type-linked (one n) k = k
+    type-linked (listOf n) k = k
+
+    return-linked : (t : TypeText) → ReturnLinked t
+        → (eqb (typeOf f g h t) 0 && eqb (flag (isList t)) 0 || toType T (typeOf f g h t) && isFlag T (flag (isList t))) ≡ true
+    return-linked nothing k = refl
+    return-linked (one n) k = or-right (eqb (g n) 0 && true) (toType T (g n) && true) (rw k)
+    return-linked (listOf n) k = or-right (eqb (g n) 0 && false) (toType T (g n) && true) (rw k)
+
+    base-linked : (r : ℕ) (b : Data) → BaseLinked b → (eqb (dataLink f g h r b) 0 || toStruct T (dataLink f g h r b)) ≡ true
+    base-linked r absent k = refl
+    base-linked r (inline ms) k = absurd k
+    base-linked r (named n) k = or-right (eqb (f n) 0) (toStruct T (f n)) k
+
+    own-inline : (r : ℕ) → Rows.inline T (suc r) ≡ true → toOwnInline T r (suc (suc r)) ≡ true
+    own-inline r i = rw (eq-eqb (suc (suc r)) (suc (suc r)) refl, i)
+
+    union-linked : (r : ℕ) (b : Data) → UnionLinked b → Rows.inline T (suc r) ≡ isInlineData b
+        → (toOwnInline T r (dataLink f g h r b) || toStruct T (dataLink f g h r b)) ≡ true
+    union-linked r absent k i = absurd k
+    union-linked r (inline ms) k i = rw (own-inline r i)
+    union-linked r (named n) k i = or-right (toOwnInline T r (f n)) (toStruct T (f n)) k
+
+    data-linked : (r : ℕ) (a : Data) → DataLinked a → Rows.inline T (suc r) ≡ isInlineData a
+        → (eqb (dataLink f g h r a) 0 || toOwnInline T r (dataLink f g h r a) || toStruct T (dataLink f g h r a)) ≡ true
+    data-linked r absent k i = refl
+    data-linked r (inline ms) k i =
+        let l = suc (suc r) in
+        or-left (eqb l 0 || toOwnInline T r l) (toStruct T l) (or-right (eqb l 0) (toOwnInline T r l) (own-inline r i))
+    data-linked r (named n) k i = or-right (eqb (f n) 0 || toOwnInline T r (f n)) (toStruct T (f n)) k
+
+    -- unused words are 0
+    pub rest-zero : (r : ℕ) (e : Entry) → RowIs T r (wordsOf f g h r e) → restZero T r ≡ true
+    rest-zero r (enumRow n c) w = rw (w .word-1) (rw (w .word-5, w .word-6, w .word-7, w .word-8))
+    rest-zero r (valueRow n) w = rw (w .word-1) (rw (w .word-4, w .word-5, w .word-6, w .word-7, w .word-8))
+    rest-zero r (structRow n b c) w = rw (w .word-1) (rw (w .word-6, w .word-7, w .word-8))
+    rest-zero r (inlineRow c) w = rw (w .word-1) (rw (w .word-6, w .word-7, w .word-8))
+    rest-zero r (memberRow m) w = rw (w .word-1) (rw (w .word-7, w .word-8))
+    rest-zero r (unionRow n b tag c) w = rw (w .word-1) (rw (w .word-7, w .word-8))
+    rest-zero r (branchRow p) w = rw (w .word-1) (rw (w .word-5, w .word-6, w .word-7, w .word-8))
+    rest-zero r (alternateRow n c) w = rw (w .word-1) (rw (w .word-5, w .word-6, w .word-7, w .word-8))
+    rest-zero r (alternativeRow p) w = rw (w .word-1) (rw (w .word-5, w .word-6, w .word-7, w .word-8))
+    rest-zero r (commandRow n a t oob) w = rw (w .word-1) (rw (w .word-8))
+
+    -- references fit, given that a union's discriminator is a member
+    abbrev pub TagLinked : ℕ → Type 0
+    TagLinked r = kind T r ≡ 5 → (ltb 0 (discriminator T r) && eqb (kind T (discriminator T r - 1)) 4) ≡ true
+
+    pub references-fit : (r : ℕ) (e : Entry) → RowIs T r (wordsOf f g h r e) → EntryLinked e → Rows.inline T (suc r) ≡ owns e → TagLinked r → referencesFit T r ≡ true
+    references-fit r (enumRow n c) w k i t = rw (w .word-1)
+    references-fit r (valueRow n) w k i t = rw (w .word-1)
+    references-fit r (structRow n b c) w k i t = rw (w .word-1) (rw (w .word-5, base-linked r b k))
+    references-fit r (inlineRow c) w k i t = rw (w .word-1) (rw (w .word-5))
+    references-fit r (memberRow m) w k i t =
+        rw (w .word-1) (rw (w .word-4, w .word-5, w .word-6, type-linked (m .type) k, is-flag (isList (m .type)), is-flag (m .optional)))
+    references-fit r (unionRow n b tag c) w k i t = rw (w .word-1) (rw (w .word-4, union-linked r b k i, t (w .word-1)))
+    references-fit r (branchRow p) w k i t = rw (w .word-1) (rw (w .word-4, k))
+    references-fit r (alternateRow n c) w k i t = rw (w .word-1)
+    references-fit r (alternativeRow p) w k i t = rw (w .word-1) (rw (w .word-4, k))
+    references-fit r (commandRow n a x oob) w k i t =
+        rw (w .word-1) (rw (w .word-4, w .word-5, w .word-6, w .word-7, data-linked r a (k .0) i, is-flag oob, return-linked x (k .1)))
+
+    -- a union's base is its own inline struct or a struct that has a name
+    no-union : {A : Type 0} {a k : ℕ} → a ≡ k → a ≡ 5 → eqb k 5 ≡ false → A
+    no-union {k = k} p q e = let z : k ≡ 5 = cc in clash (eq-eqb k 5 z) e
+
+    pub union-base : (r : ℕ) (e : Entry) → RowIs T r (wordsOf f g h r e) → EntryLinked e → Rows.inline T (suc r) ≡ owns e → kind T r ≡ 5
+        → (toOwnInline T r (unionBase T r) || toStruct T (unionBase T r)) ≡ true
+    union-base r (enumRow n c) w k i e = no-union (w .word-1) e refl
+    union-base r (valueRow n) w k i e = no-union (w .word-1) e refl
+    union-base r (structRow n b c) w k i e = no-union (w .word-1) e refl
+    union-base r (inlineRow c) w k i e = no-union (w .word-1) e refl
+    union-base r (memberRow m) w k i e = no-union (w .word-1) e refl
+    union-base r (unionRow n b tag c) w k i e = rw (w .word-4) (union-linked r b k i)
+    union-base r (branchRow p) w k i e = no-union (w .word-1) e refl
+    union-base r (alternateRow n c) w k i e = no-union (w .word-1) e refl
+    union-base r (alternativeRow p) w k i e = no-union (w .word-1) e refl
+    union-base r (commandRow n a t oob) w k i e = no-union (w .word-1) e refl
