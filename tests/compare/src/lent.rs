@@ -1,0 +1,86 @@
+//! What the product is lent: words between others that it must leave alone, and a text amid other bytes.
+
+use generate::damage::telling_byte;
+use generate::Random;
+
+/// Words on either side of those lent, and what they hold.
+const GUARDS: usize = 16;
+const GUARD: u32 = 0xA5A5_A5A5;
+
+pub struct LentWords {
+    all: Vec<u32>,
+}
+
+impl LentWords {
+    /// So many words, each holding `word`.
+    pub fn new(count: usize, word: u32) -> Self {
+        let mut all = vec![GUARD; count + 2 * GUARDS];
+        all[GUARDS..GUARDS + count].fill(word);
+        LentWords { all }
+    }
+
+    pub fn words(&self) -> &[u32] {
+        &self.all[GUARDS..self.all.len() - GUARDS]
+    }
+
+    pub fn words_mut(&mut self) -> &mut [u32] {
+        let end = self.all.len() - GUARDS;
+        &mut self.all[GUARDS..end]
+    }
+
+    /// Whether nothing was written beside the words lent.
+    pub fn is_intact_around(&self) -> bool {
+        let (before, rest) = self.all.split_at(GUARDS);
+        let after = &rest[rest.len() - GUARDS..];
+        before.iter().chain(after).all(|&word| word == GUARD)
+    }
+}
+
+/// A text between bytes that would change its meaning if they were read too.
+pub struct PlacedText {
+    all: Vec<u8>,
+    start: usize,
+    length: usize,
+}
+
+/// Bytes before and after a text.
+const AROUND: usize = 8;
+
+impl PlacedText {
+    pub fn new(random: &mut Random, text: &[u8]) -> Self {
+        let start = random.below(AROUND);
+        let mut all = Vec::with_capacity(start + text.len() + AROUND);
+        all.extend((0..start).map(|_| telling_byte(random)));
+        all.extend(text);
+        all.extend((0..AROUND).map(|_| telling_byte(random)));
+        PlacedText { all, start, length: text.len() }
+    }
+
+    pub fn bytes(&self) -> &[u8] {
+        &self.all[self.start..self.start + self.length]
+    }
+}
+
+#[cfg(test)]
+mod tests {
+    use super::*;
+
+    #[test]
+    fn a_word_written_beside_those_lent_is_noticed() {
+        let mut lent = LentWords::new(3, 7);
+        assert_eq!(lent.words(), [7; 3]);
+        lent.words_mut().fill(8);
+        assert!(lent.is_intact_around());
+        for place in [0, GUARDS - 1, GUARDS + 3, 2 * GUARDS + 2] {
+            let mut lent = LentWords::new(3, 7);
+            lent.all[place] = 0;
+            assert!(!lent.is_intact_around(), "{place}");
+        }
+    }
+
+    #[test]
+    fn a_placed_text_is_the_text() {
+        let mut random = Random::new(1);
+        assert!((0..20).all(|_| PlacedText::new(&mut random, b"[1]").bytes() == b"[1]"));
+    }
+}

@@ -1,0 +1,24 @@
+//! Seeded generators of test inputs for Windosprio, written from 01-scope.md alone. One seed reproduces everything.
+//!
+//! `texts` for the reader, `schemas` for compiling, `tables` for soundness, `messages` for checking. Where an input's
+//! answer follows from how it was made, the case carries it.
+
+#![forbid(unsafe_code)]
+
+pub mod random;
+
+pub mod damage;
+pub mod integers;
+pub mod print;
+pub mod shrink;
+pub mod tree;
+
+pub mod texts;
+
+pub mod model;
+pub mod schemas;
+pub mod tables;
+
+pub mod messages;
+
+pub use random::Random;

@@ -1,0 +1,22 @@
+//! An independent reference for Windosprio, written from 01-scope.md and the decisions on its open points alone.
+//!
+//! Modules in the order that data flows: `text` and its tokens, `keys`, the rows and the rules over them, then the two
+//! calls `schema::compile` and `message::check`, with `table::is_sound` between them.
+
+#![forbid(unsafe_code)]
+
+pub mod text;
+
+pub mod integers;
+pub mod keys;
+pub mod strings;
+
+pub mod builtins;
+pub mod names;
+pub mod rows;
+pub mod rules;
+
+pub mod schema;
+pub mod table;
+
+pub mod message;

@@ -1,0 +1,117 @@
+//! Numbers 5, 6 and 8 to 11, judged of rows: of those a schema compiles to and of those of a table alike.
+//! From 8 on, all references are filled in and fit.
+
+use std::collections::HashMap;
+
+use crate::builtins;
+use crate::names::{self, NameSet};
+use crate::rows::{Rows, ALTERNATE, BRANCH, COMMAND, ENUM, LONGEST_CHAIN, STRUCT, UNION, VALUE};
+
+/// 5: a bad name.
+pub fn has_bad_name(rows: Rows) -> bool {
+    rows.numbers().any(|row| !rows.is_inline(row) && !is_good_name(rows, row))
+}
+
+fn is_good_name(rows: Rows, row: usize) -> bool {
+    names::is_good(rows.name(row), matches!(rows.kind(row), VALUE | BRANCH))
+}
+
+/// The definitions by name; none where 6 holds of their names.
+pub fn definitions_by_name(rows: Rows<'_>) -> Option<HashMap<&[u8], usize>> {
+    let mut definitions = HashMap::new();
+    for row in rows.numbers().filter(|&row| rows.is_definition(row)) {
+        let name = rows.name(row);
+        if builtins::number_of(name).is_some() || definitions.insert(name, row).is_some() {
+            return None;
+        }
+    }
+    Some(definitions)
+}
+
+/// 6: a list of children has one name twice.
+pub fn has_equal_names_in_a_list(rows: Rows) -> bool {
+    let mut lists = rows.numbers().map(|row| rows.list(row)).filter(|list| list.len() > 1);
+    lists.any(|list| names::first_repeat(list.map(|row| rows.name(row))).is_some())
+}
+
+/// 8: going up from a struct doesn't end soon enough, or meets a member's name again.
+pub fn has_bad_chain(rows: Rows) -> bool {
+    let mut structs = rows.of_kind(STRUCT);
+    structs.clone().any(|row| rows.whole_chain(row).nth(LONGEST_CHAIN).is_some())
+        || structs.any(|row| repeats_inherited_member(rows, row))
+}
+
+fn repeats_inherited_member(rows: Rows, structure: usize) -> bool {
+    let Some(base) = rows.struct_base(structure) else {
+        return false;
+    };
+    let mut own = rows.list(structure);
+    own.any(|member| has_member_named(rows, base, rows.name(member)))
+}
+
+fn has_member_named(rows: Rows, structure: usize, name: &[u8]) -> bool {
+    rows.members(structure).any(|member| rows.name(member) == name)
+}
+
+/// 9: a union without a branch, or with a bad discriminator or branch.
+pub fn has_bad_union(rows: Rows) -> bool {
+    rows.of_kind(UNION).any(|union| {
+        rows.list(union).is_empty()
+            || !has_good_discriminator(rows, union)
+            || has_branch_without_value(rows, union)
+            || has_branch_repeating_base(rows, union)
+    })
+}
+
+/// A member that the base has itself or inherits, and whose value is always one enum value.
+fn has_good_discriminator(rows: Rows, union: usize) -> bool {
+    let (Some(base), Some(member)) = (rows.union_base(union), rows.discriminator(union)) else {
+        return false;
+    };
+    rows.members(base).any(|row| row == member)
+        && rows.is_mandatory(member)
+        && !rows.is_array(member)
+        && discriminator_enum(rows, member).is_some()
+}
+
+fn discriminator_enum(rows: Rows, member: usize) -> Option<usize> {
+    Rows::referred(rows.type_reference(member)).filter(|&row| rows.kind(row) == ENUM)
+}
+
+/// Asked of unions with a good discriminator.
+fn has_branch_without_value(rows: Rows, union: usize) -> bool {
+    let Some(values) = rows.discriminator(union).and_then(|member| discriminator_enum(rows, member)) else {
+        return true;
+    };
+    rows.list(union).any(|branch| !rows.list(values).any(|value| rows.name(value) == rows.name(branch)))
+}
+
+fn has_branch_repeating_base(rows: Rows, union: usize) -> bool {
+    let base: NameSet = rows.union_base(union).into_iter().flat_map(|base| members_names(rows, base)).collect();
+    let mut structs = rows.list(union).filter_map(|branch| rows.branch_struct(branch));
+    structs.any(|row| members_names(rows, row).any(|name| base.contains(name)))
+}
+
+fn members_names<'a>(rows: Rows<'a>, structure: usize) -> impl Iterator<Item = &'a [u8]> {
+    rows.members(structure).map(move |member| rows.name(member))
+}
+
+/// 10: an alternate whose alternatives can't be told apart by JSON kind, or that has none.
+pub fn has_bad_alternate(rows: Rows) -> bool {
+    rows.of_kind(ALTERNATE).any(|alternate| rows.list(alternate).is_empty() || has_bad_alternative(rows, alternate))
+}
+
+fn has_bad_alternative(rows: Rows, alternate: usize) -> bool {
+    let mut taken = [false; 6];
+    rows.list(alternate).any(|row| match rows.json_kind(rows.type_reference(row)) {
+        Some(kind) => std::mem::replace(&mut taken[kind as usize], true),
+        None => true,
+    })
+}
+
+/// 11: a command returns what isn't made of objects.
+pub fn has_bad_return(rows: Rows) -> bool {
+    rows.of_kind(COMMAND).map(|command| rows.word(command, 6)).any(|reference| {
+        reference != 0 && !Rows::referred(reference).is_some_and(|row| matches!(rows.kind(row), STRUCT | UNION))
+    })
+}
