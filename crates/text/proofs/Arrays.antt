@@ -11,7 +11,8 @@ use Rattle.grammar.specs.Machine.{Dialect, Stack, Stack.in-array, Out, depth, r
 use Rattle.grammar.specs.Machine.Control.{AtValue, AtElement, After}
 use Rattle.grammar.proofs.TokenRuns.{TokensComplete}
 use Rattle.tokens.specs.Tokens.{Skips.after-value, Skips.at-element, Skipped, Follows}
-use Rattle.text.specs.Nodes.{putNode, next, Holds, HoldsItems, Wrote, ValueEnds, ValueTold, ReadsValue, Opens}
+use Rattle.text.specs.Nodes.{putNode, next, Holds, HoldsItems}
+use Rattle.text.specs.Readers.{Wrote, ValueEnds, ValueTold, ReadsValue, Opens}
 use Rattle.text.specs.declared.reader.Read.{Read}
 use Rattle.text.specs.declared.reader.Read.the-variants.{Past, Fault, Deep}
 use Rattle.tokens.specs.declared.members.Following.{Following}

@@ -15,7 +15,8 @@ use Rattle.grammar.specs.Tree.Items.{no-items, item}
 use Rattle.grammar.specs.Tree.Fields.{no-fields, field}
 use Rattle.grammar.specs.Machine.{Dialect}
 use Rattle.grammar.proofs.Booleans.{by}
-use Rattle.text.specs.Nodes.{node, putNode, Node, next, Holds, HoldsItems, HoldsFields, Wrote}
+use Rattle.text.specs.Nodes.{node, putNode, Node, next, Holds, HoldsItems, HoldsFields}
+use Rattle.text.specs.Readers.{Wrote}
 
 -- words stored one after the other
 sets-below : (vs l : List ℕ) (i x : ℕ) → x < i → getD (sets l i vs) x 0 ≡ getD l x 0

@@ -10,7 +10,8 @@ use lib.ListN.{length, getD}
 use denote.Enum.Declared.{tagOf, declared}
 use Rattle.grammar.specs.Machine.{Dialect}
 use Rattle.tokens.specs.Tokens.{Skipped, FollowingTold, Follows}
-use Rattle.text.specs.Nodes.{putNode, Wrote, Moved, ValueRead, ValueTold, ReadsValue, MemberRead, MemberTold, ReadsMember, Ready, Opens}
+use Rattle.text.specs.Nodes.{putNode}
+use Rattle.text.specs.Readers.{Wrote, Moved, ValueRead, ValueTold, ReadsValue, MemberRead, MemberTold, ReadsMember, Ready, Opens}
 use Rattle.text.specs.declared.reader.Read.{Read}
 use Rattle.text.specs.declared.reader.Read.the-variants.{Past}
 use Rattle.tokens.specs.declared.members.Following.{Following}

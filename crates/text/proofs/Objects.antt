@@ -11,7 +11,8 @@ use Rattle.grammar.specs.Machine.{Dialect, Stack, Stack.in-object, Out, depth, 
 use Rattle.grammar.specs.Machine.Control.{AtValue, After, AtFirstKey, AtKey}
 use Rattle.grammar.proofs.TokenRuns.{TokensComplete}
 use Rattle.tokens.specs.Tokens.{Skips.after-value, Skips.at-first-key, Skipped, Follows}
-use Rattle.text.specs.Nodes.{putNode, next, Holds, HoldsFields, Wrote, ValueEnds, MemberEnds, MemberTold, ReadsMember, ReadsObject, Opens}
+use Rattle.text.specs.Nodes.{putNode, next, Holds, HoldsFields}
+use Rattle.text.specs.Readers.{Wrote, ValueEnds, MemberEnds, MemberTold, ReadsMember, ReadsObject, Opens}
 use Rattle.text.specs.declared.reader.Read.{Read}
 use Rattle.text.specs.declared.reader.Read.the-variants.{Past, Fault, Deep}
 use Rattle.tokens.specs.declared.members.Following.{Following}

@@ -10,7 +10,8 @@ use Rattle.grammar.specs.Tree.{Json, Fields.no-fields, Fields.field}
 use Rattle.grammar.specs.Machine.{Dialect, Stack.in-object, Out}
 use Rattle.strings.specs.Strings.{Means}
 use Rattle.tokens.specs.Tokens.{keyNode, KeyRuns, KeyTold, ReadsKey}
-use Rattle.text.specs.Nodes.{putNode, next, Holds, HoldsFields, ValueRead, ValueEnds, ValueTold, ReadsValue, MemberEnds, ReadsMember, Ready}
+use Rattle.text.specs.Nodes.{putNode, next, Holds, HoldsFields}
+use Rattle.text.specs.Readers.{ValueRead, ValueEnds, ValueTold, ReadsValue, MemberEnds, ReadsMember, Ready}
 use Rattle.text.specs.declared.reader.Read.{Read}
 use Rattle.text.specs.declared.reader.Read.the-variants.{Past, Fault, Deep}
 use Rattle.tokens.specs.declared.members.KeyRead.{KeyRead}

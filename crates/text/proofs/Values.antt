@@ -15,7 +15,8 @@ use Rattle.grammar.specs.Machine.{Dialect, Out}
 use Rattle.grammar.specs.Machine.Control.{AtValue}
 use Rattle.grammar.proofs.TokenRuns.{TokensComplete}
 use Rattle.tokens.specs.Tokens.{scalarNode, Skips.at-value, Skipped, ScalarTold, ReadsScalar, Unbracketed}
-use Rattle.text.specs.Nodes.{putNode, StandsTold, Stands, Wrote, ValueEnds, ValueTold, ReadsValue, ReadsLeaf, Ready, Opens}
+use Rattle.text.specs.Nodes.{putNode}
+use Rattle.text.specs.Readers.{StandsTold, Stands, Wrote, ValueEnds, ValueTold, ReadsValue, ReadsLeaf, Ready, Opens}
 use Rattle.text.specs.declared.reader.Read.{Read}
 use Rattle.text.specs.declared.reader.Read.the-variants.{Past, Fault, Deep}
 use Rattle.tokens.specs.declared.scalars.ScalarRead.{ScalarRead}

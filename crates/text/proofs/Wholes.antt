@@ -18,7 +18,7 @@ use Rattle.grammar.specs.Machine.Schema.{schema, readSchema}
 use Rattle.grammar.specs.Machine.Message.{message, readMessage}
 use Rattle.grammar.proofs.Texts.{schema-sound, schema-fault, schema-deep, message-sound, message-fault, message-deep}
 use Rattle.tokens.specs.Tokens.{Skips, Skips.at-object, Skips.after-value, Skipped}
-use Rattle.text.specs.Nodes.{Stands, ValueTold, ReadsValue, ReadsObject, Halved, Opens}
+use Rattle.text.specs.Readers.{Stands, ValueTold, ReadsValue, ReadsObject, Halved, Opens}
 use Rattle.text.specs.Texts.{ReadsMessage, ReadsSchema}
 use Rattle.text.specs.declared.reader.Read.{Read}
 use Rattle.text.specs.declared.reader.Read.the-variants as Reader

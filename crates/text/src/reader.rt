@@ -12,7 +12,7 @@ ghost use Prim.Native.Nat.{suc};
 ghost use Rattle.strings.specs.Classes.{classOf, tabulate};
 ghost use Rattle.strings.specs.Strings.{dialect};
 ghost use Rattle.tokens.specs.Tokens.{Unbracketed};
-ghost use Rattle.text.specs.Nodes.{Stands, Ready, Opens, ReadsLeaf, ReadsValue, ReadsObject, ReadsMember};
+ghost use Rattle.text.specs.Readers.{Stands, Ready, Opens, ReadsLeaf, ReadsValue, ReadsObject, ReadsMember};
 
 // The place past what was read and the next node; or the place of the first byte that fits nothing; or that of a bracket that opens a level too many.
 pub enum Read {
