@@ -19,7 +19,7 @@ pub enum SchemaRefusal {
 
 // Accepted with a count of rows, or refused.
 pub enum SchemaAnswer {
-    Accepted(u32),
+    Accepted(usize),
     Refused(SchemaRefusal),
 }
 
@@ -39,13 +39,24 @@ pub enum MessageRefusal {
 
 // Accepted with the command's row and a count of records, or refused.
 pub enum MessageAnswer {
-    Accepted(u32, u32),
+    Accepted(usize, usize),
     Refused(MessageRefusal),
 }
 
 // The limits and widths of the paper, as grammar's specs/Limits has them.
 pub const SCHEMA_BYTES: usize = 32768;
 
+pub const MESSAGE_BYTES: usize = 16384;
+
+pub const NAME_BYTES: usize = 63;
+
+pub const CHAIN_STRUCTS: usize = 16;
+
 pub const TABLE_ROWS: usize = 1024;
 
 pub const ROW_WORDS: usize = 8;
+
+pub const RECORD_WORDS: usize = 4;
+
+// A type reference from here on is to a row.
+pub const FIRST_ROW: usize = 16;

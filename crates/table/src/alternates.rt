@@ -3,6 +3,8 @@ use crate::rows::child_count;
 use crate::rows::first_child;
 use crate::rows::wide;
 use crate::rows::word;
+use rules::FIRST_ROW;
+use rules::ROW_WORDS;
 ghost use mathlib.Core.Path.{_≡_};
 ghost use Prim.Native.Nat.{_-_, _<_, _^_};
 ghost use lib.ListN.{length};
@@ -21,7 +23,7 @@ pub fn type_kind(rows: &[u32], t: usize) -> u32
         13 => 4,
         14 => 5,
         15 => 6,
-        _ => row_kind(word(rows, t - 16, 0)),
+        _ => row_kind(word(rows, t - FIRST_ROW, 0)),
     }
 }
 
@@ -84,7 +86,7 @@ pub fn good_alternates(rows: &[u32]) -> bool
     requires { ⌜ length (now rows) < 2 ^ 32 ⌝ }
     ensures { λ b. ⌜ b ≡ goodAlternates (now (rows .entry)) ⌝ }
 {
-    let n = rows.len() / 8;
+    let n = rows.len() / ROW_WORDS;
     let mut r = 0;
     while r < n {
         if word(rows, r, 0) == 7 {

@@ -5,11 +5,16 @@ use crate::rows::child_count;
 use crate::rows::first_child;
 use crate::rows::wide;
 use crate::rows::word;
+use rules::CHAIN_STRUCTS;
+use rules::ROW_WORDS;
 ghost use mathlib.Core.Path.{_≡_};
 ghost use Prim.Native.Nat.{_<_, _^_};
 ghost use lib.ListN.{length};
 ghost use Rattle.rules.specs.Rules.{chainFits, goodChains};
 ghost use Rattle.table.specs.Chains.{chainEnds, hasChild, hasMember, isMember, childrenNew, membersNew};
+
+// The most structs on the chain of a base: the struct that has it is the first one counted.
+const BASE_STRUCTS: usize = CHAIN_STRUCTS - 1;
 
 // Whether the chain from a link on ends after at most `left` structs.
 pub fn chain_ends(rows: &[u32], link: usize, left: usize) -> bool
@@ -113,7 +118,7 @@ pub fn members_new(schema: &[u8], rows: &[u32], link: usize, left: usize, other:
     if !members_new(schema, rows, wide(word(rows, s, 4)), left - 1, other) {
         return false;
     }
-    children_new(schema, rows, s, other, 16)
+    children_new(schema, rows, s, other, CHAIN_STRUCTS)
 }
 
 // Whether the chain of struct r fits, and it repeats no inherited member.
@@ -122,17 +127,17 @@ fn chain_fits(schema: &[u8], rows: &[u32], r: usize) -> bool
     ensures { λ b. ⌜ b ≡ chainFits (now (schema .entry)) (now (rows .entry)) r ⌝ }
 {
     let base = wide(word(rows, r, 4));
-    if !chain_ends(rows, base, 15) {
+    if !chain_ends(rows, base, BASE_STRUCTS) {
         return false;
     }
-    children_new(schema, rows, r, base, 15)
+    children_new(schema, rows, r, base, BASE_STRUCTS)
 }
 
 pub fn good_chains(schema: &[u8], rows: &[u32]) -> bool
     requires { ⌜ length (now rows) < 2 ^ 32 ⌝ }
     ensures { λ b. ⌜ b ≡ goodChains (now (schema .entry)) (now (rows .entry)) ⌝ }
 {
-    let n = rows.len() / 8;
+    let n = rows.len() / ROW_WORDS;
     let mut r = 0;
     while r < n {
         if word(rows, r, 0) == 3 {

@@ -9,6 +9,7 @@ use crate::rows::first_child;
 use crate::rows::is_inline;
 use crate::rows::wide;
 use crate::rows::word;
+use rules::ROW_WORDS;
 ghost use mathlib.Core.Path.{_≡_};
 ghost use Prim.Native.Nat.{_*_, _+_, _≤_, _<_, _^_};
 ghost use mathlib.Core.Bool.{_||_};
@@ -65,7 +66,7 @@ pub fn good_names(schema: &[u8], rows: &[u32]) -> bool
     requires { ⌜ length (now rows) < 2 ^ 32 ⌝ }
     ensures { λ r. ⌜ r ≡ goodNames (now (schema .entry)) (now (rows .entry)) ⌝ }
 {
-    let n = rows.len() / 8;
+    let n = rows.len() / ROW_WORDS;
     let mut r = 0;
     while r < n {
         if !name_fits(schema, rows, r) {
@@ -143,7 +144,7 @@ pub fn list_definitions(schema: &[u8], rows: &[u32], list: &mut [u32]) -> usize
     requires { ⌜ (length (now rows) < 2 ^ 32) × (length (now rows) ≤ 4 * length (now list)) ⌝ }
     ensures { λ m. ⌜ Listed (now (schema .entry)) (now (rows .entry)) (now (list .exit)) (rowCount (now (rows .entry))) m ⌝ }
 {
-    let n = rows.len() / 8;
+    let n = rows.len() / ROW_WORDS;
     let mut r = 0;
     let mut m = 0;
     while r < n {
@@ -212,7 +213,7 @@ fn children_apart(schema: &[u8], rows: &[u32]) -> bool
     requires { ⌜ length (now rows) < 2 ^ 32 ⌝ }
     ensures { λ b. ⌜ b ≡ childrenApart (now (schema .entry)) (now (rows .entry)) ⌝ }
 {
-    let n = rows.len() / 8;
+    let n = rows.len() / ROW_WORDS;
     let mut r = 0;
     while r < n {
         let a = first_child(rows, r);

@@ -5,6 +5,7 @@ use crate::rows::inline_rows;
 use crate::rows::is_inline;
 use crate::rows::wide;
 use crate::rows::word;
+use rules::ROW_WORDS;
 ghost use mathlib.Core.Path.{_≡_};
 ghost use Prim.Native.Nat.{_<_, _^_};
 ghost use lib.ListN.{length};
@@ -56,7 +57,7 @@ pub fn is_laid_out(rows: &[u32]) -> bool
     requires { ⌜ length (now rows) < 2 ^ 32 ⌝ }
     ensures { λ b. ⌜ b ≡ laidOut (now (rows .entry)) (rowCount (now (rows .entry))) 0 ⌝ }
 {
-    let n = rows.len() / 8;
+    let n = rows.len() / ROW_WORDS;
     let mut r = 0;
     while r < n {
         if !definition_at(rows, r) {
@@ -90,7 +91,7 @@ pub fn rest_zero(rows: &[u32], r: usize) -> bool
     ensures { λ b. ⌜ b ≡ restZero (now (rows .entry)) r ⌝ }
 {
     let mut i = last_used(word(rows, r, 0));
-    while i < 8 {
+    while i < ROW_WORDS {
         if word(rows, r, i) != 0 {
             return false;
         }

@@ -1,6 +1,7 @@
 // Names: parts of the schema's bytes that rows point to.
 use crate::rows::wide;
 use crate::rows::word;
+use rules::NAME_BYTES;
 ghost use mathlib.Core.Path.{_≡_};
 ghost use Prim.Native.Nat.{_-_};
 ghost use lib.ListN.{take, drop};
@@ -130,7 +131,7 @@ pub fn good_name(name: &[u8], digits: bool) -> bool
     if n == 0 {
         return false;
     }
-    if 63 < n {
+    if NAME_BYTES < n {
         return false;
     }
     if !good_start(name[0], digits) {

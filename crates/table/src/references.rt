@@ -2,6 +2,7 @@
 use crate::rows::is_inline;
 use crate::rows::wide;
 use crate::rows::word;
+use rules::FIRST_ROW;
 ghost use mathlib.Core.Path.{_≡_};
 ghost use mathlib.Core.Bool.{_||_};
 ghost use Prim.Native.Nat.{_<_, _^_};
@@ -49,13 +50,13 @@ pub fn to_type(rows: &[u32], t: usize) -> bool
     requires { ⌜ t < 2 ^ 39 ⌝ }
     ensures { λ b. ⌜ b ≡ toType (now (rows .entry)) t ⌝ }
 {
-    if t < 16 {
+    if t < FIRST_ROW {
         return t != 0;
     }
-    let k = word(rows, t - 16, 0);
+    let k = word(rows, t - FIRST_ROW, 0);
     match k {
         1 => true,
-        3 => !is_inline(rows, t - 16),
+        3 => !is_inline(rows, t - FIRST_ROW),
         5 => true,
         7 => true,
         _ => false,

@@ -1,6 +1,8 @@
 // What commands return: rule 11.
 use crate::rows::wide;
 use crate::rows::word;
+use rules::FIRST_ROW;
+use rules::ROW_WORDS;
 ghost use mathlib.Core.Path.{_≡_};
 ghost use Prim.Native.Nat.{_<_, _^_};
 ghost use lib.ListN.{length};
@@ -12,10 +14,10 @@ fn return_fits(rows: &[u32], t: usize) -> bool
     if t == 0 {
         return true;
     }
-    if t < 16 {
+    if t < FIRST_ROW {
         return false;
     }
-    let k = word(rows, t - 16, 0);
+    let k = word(rows, t - FIRST_ROW, 0);
     match k {
         3 => true,
         5 => true,
@@ -27,7 +29,7 @@ pub fn good_returns(rows: &[u32]) -> bool
     requires { ⌜ length (now rows) < 2 ^ 32 ⌝ }
     ensures { λ b. ⌜ b ≡ goodReturns (now (rows .entry)) ⌝ }
 {
-    let n = rows.len() / 8;
+    let n = rows.len() / ROW_WORDS;
     let mut r = 0;
     while r < n {
         if word(rows, r, 0) == 9 {

@@ -1,7 +1,9 @@
 // Rows of eight words in a slice. Everything is total: past the end every word is 0.
+use rules::ROW_WORDS;
 ghost use mathlib.Core.Path.{_≡_};
 ghost use Prim.Native.Nat.{suc, _+_, _*_, _<_, _^_};
 ghost use lib.ListN.{getD};
+ghost use Rattle.grammar.specs.Limits.{row-words};
 ghost use Rattle.rules.specs.Rows.{inline, inlineRows, childCount};
 ghost use Rattle.table.specs.Rows.{unnamed};
 
@@ -13,12 +15,12 @@ pub fn wide(x: u32) -> usize
 
 // Word i of row r, counted from 0.
 pub fn word(rows: &[u32], r: usize, i: usize) -> u32
-    ensures { λ w. ⌜ w ≡ getD (now (rows .entry)) (8 * r + i) 0 ⌝ }
+    ensures { λ w. ⌜ w ≡ getD (now (rows .entry)) (row-words * r + i) 0 ⌝ }
 {
-    if rows.len() / 8 < r {
+    if rows.len() / ROW_WORDS < r {
         return 0;
     }
-    let at = 8 * r;
+    let at = ROW_WORDS * r;
     if rows.len() - at <= i {
         return 0;
     }

@@ -10,18 +10,26 @@ use crate::returns::good_returns;
 use crate::rows::wide;
 use crate::rows::word;
 use crate::unions::good_unions;
+use rules::ROW_WORDS;
+use rules::SCHEMA_BYTES;
+use rules::TABLE_ROWS;
 ghost use mathlib.Core.Path.{_≡_};
 ghost use Prim.Native.Nat.{_*_, _≤_, _<_, _^_};
 ghost use lib.ListN.{length};
 ghost use Rattle.rules.specs.Sound.{sound};
 ghost use Rattle.table.specs.RuleParts.{namesWithin, rowsFit, shaped, definitionsFit, keepsRules};
 
+const TABLE_WORDS: usize = TABLE_ROWS * ROW_WORDS;
+
+// Two words for each definition: its row and its mark.
+const LIST_WORDS: usize = 2 * TABLE_ROWS;
+
 // Whether every name lies within the schema.
 fn names_within(schema: &[u8], rows: &[u32]) -> bool
     requires { ⌜ length (now rows) < 2 ^ 32 ⌝ }
     ensures { λ b. ⌜ b ≡ namesWithin (now (schema .entry)) (now (rows .entry)) ⌝ }
 {
-    let n = rows.len() / 8;
+    let n = rows.len() / ROW_WORDS;
     let mut r = 0;
     while r < n {
         if schema.len() < wide(word(rows, r, 1)) + wide(word(rows, r, 2)) {
@@ -37,7 +45,7 @@ fn rows_fit(rows: &[u32]) -> bool
     requires { ⌜ length (now rows) < 2 ^ 32 ⌝ }
     ensures { λ b. ⌜ b ≡ rowsFit (now (rows .entry)) ⌝ }
 {
-    let n = rows.len() / 8;
+    let n = rows.len() / ROW_WORDS;
     let mut r = 0;
     while r < n {
         if !rest_zero(rows, r) {
@@ -100,18 +108,18 @@ fn keeps_rules(schema: &[u8], rows: &[u32], list: &mut [u32]) -> bool
 pub fn is_sound(schema: &[u8], rows: &[u32]) -> bool
     ensures { λ b. ⌜ b ≡ sound (now (schema .entry)) (now (rows .entry)) ⌝ }
 {
-    if rows.len() % 8 != 0 {
+    if rows.len() % ROW_WORDS != 0 {
         return false;
     }
-    if 8192 < rows.len() {
+    if TABLE_WORDS < rows.len() {
         return false;
     }
-    if 32768 < schema.len() {
+    if SCHEMA_BYTES < schema.len() {
         return false;
     }
     if !is_shaped(schema, rows) {
         return false;
     }
-    let mut list = [0u32; 2048];
+    let mut list = [0u32; LIST_WORDS];
     keeps_rules(schema, rows, &mut list)
 }

@@ -8,6 +8,9 @@ use crate::rows::child_count;
 use crate::rows::first_child;
 use crate::rows::wide;
 use crate::rows::word;
+use rules::CHAIN_STRUCTS;
+use rules::FIRST_ROW;
+use rules::ROW_WORDS;
 ghost use mathlib.Core.Path.{_≡_};
 ghost use Prim.Native.Nat.{_<_, _^_};
 ghost use lib.ListN.{length};
@@ -27,10 +30,10 @@ fn is_tag(rows: &[u32], d: usize) -> bool
         return false;
     }
     let t = wide(word(rows, d, 3));
-    if t < 16 {
+    if t < FIRST_ROW {
         return false;
     }
-    word(rows, t - 16, 0) == 1
+    word(rows, t - FIRST_ROW, 0) == 1
 }
 
 // Whether the discriminator of union r fits: a tag that is a member of the base.
@@ -41,7 +44,7 @@ fn discriminator_fits(rows: &[u32], r: usize) -> bool
     if link == 0 {
         return false;
     }
-    if !is_member(rows, wide(word(rows, r, 3)), 16, link - 1) {
+    if !is_member(rows, wide(word(rows, r, 3)), CHAIN_STRUCTS, link - 1) {
         return false;
     }
     is_tag(rows, link - 1)
@@ -56,10 +59,10 @@ fn branch_fits(schema: &[u8], rows: &[u32], b: usize, e: usize, base: usize) -> 
         return false;
     }
     let link = wide(word(rows, b, 3));
-    if !chain_ends(rows, link, 16) {
+    if !chain_ends(rows, link, CHAIN_STRUCTS) {
         return false;
     }
-    members_new(schema, rows, link, 16, base)
+    members_new(schema, rows, link, CHAIN_STRUCTS, base)
 }
 
 // Whether every branch of union r fits.
@@ -87,14 +90,14 @@ fn union_is_good(schema: &[u8], rows: &[u32], r: usize) -> bool
         return false;
     }
     let base = wide(word(rows, r, 3));
-    if !chain_ends(rows, base, 16) {
+    if !chain_ends(rows, base, CHAIN_STRUCTS) {
         return false;
     }
     if !discriminator_fits(rows, r) {
         return false;
     }
     let tag = wide(word(rows, r, 5)) - 1;
-    let e = wide(word(rows, tag, 3)) - 16;
+    let e = wide(word(rows, tag, 3)) - FIRST_ROW;
     branches_fit(schema, rows, r, e, base)
 }
 
@@ -102,7 +105,7 @@ pub fn good_unions(schema: &[u8], rows: &[u32]) -> bool
     requires { ⌜ length (now rows) < 2 ^ 32 ⌝ }
     ensures { λ b. ⌜ b ≡ goodUnions (now (schema .entry)) (now (rows .entry)) ⌝ }
 {
-    let n = rows.len() / 8;
+    let n = rows.len() / ROW_WORDS;
     let mut r = 0;
     while r < n {
         if word(rows, r, 0) == 5 {
