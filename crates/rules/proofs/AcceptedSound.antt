@@ -38,13 +38,13 @@ use Rattle.rules.specs.Cells.{Entry, blank, entries, wordsFrom, entryNam
 use Rattle.rules.specs.Cells.Entry.{enumRow, alternateRow, valueRow, structRow, inlineRow, memberRow, unionRow, branchRow, alternativeRow, commandRow}
 use Rattle.rules.proofs.Lists.{clash, none-not-some, and-left, and-right, and-of, or-cases, all-of, any-true, is-true, upFrom-bounds}
 use Rattle.rules.proofs.TableRows.{fit-child, laid-fit}
-use Rattle.rules.proofs.Cells.{table-words, length-words, entry-names, every-at, entries-follow}
+use Rattle.rules.proofs.Cells.{table-words, length-words, entry-names, every-at, entries-follow, names-weaken}
 use Rattle.rules.proofs.CellRows.{Behind, rows-are, start-is, size-is, kind-past, inline-after}
 use Rattle.rules.proofs.CellLayout.{table-laid-out}
 use Rattle.rules.proofs.SoundFacts.{StructLink, every-one, to-struct, to-own-inline, base-refers}
 use Rattle.rules.proofs.EntryLinks.{row-is, EntryLinked, TagLinked, rest-zero, references-fit, union-base}
 use Rattle.rules.proofs.DefinitionForms.{Formed, definitions-formed}
-use Rattle.rules.proofs.NameSpans.{names-within, names-imply}
+use Rattle.rules.proofs.NameSpans.{names-within}
 use Rattle.rules.proofs.SchemaLinks.{entries-linked}
 use Rattle.rules.proofs.MessageOutcome.{message-outcome}
 use Rattle.rules.proofs.Acceptance.{true-of}
@@ -80,7 +80,7 @@ module _ (S : List ℕ) (ds : List Definition) (spans : EveryName (Spans S) ds) 
   T = wordsFrom f g h 0 (entries ds)
 
   behind : EveryName Behind ds
-  behind = names-imply (Spans S) Behind (λ n s. s .behind) ds spans
+  behind = names-weaken (λ n s. s .behind) ds spans
 
   rows : rowCount T ≡ length (entries ds)
   rows = rows-are f g h (entries ds)

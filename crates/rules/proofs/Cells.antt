@@ -1,18 +1,19 @@
 -- The rows of definitions are the words of their entries, row for row: words, lengths, names, and which entry owns an inline struct.
 -- The idea: each law goes by the list of definitions, and inside a definition by its kind.
-use Prim.Native.Nat.{ℕ, zero, suc, _+_, _*_, _≤_, _<_}
+use Prim.Native.Nat.{ℕ, zero, suc, _+_, _*_, _<_}
 use mathlib.Core.Path.{_≡_, refl, sym, ap, _∙_}
-use mathlib.Core.Bool.{Bool, true, false}
+use mathlib.Core.Bool.{false}
 use mathlib.Core.List.{List, [], _∷_, _++_, map, append-assoc}
 use native.Mathlib.Nat.{add-zero}
 use native.Mathlib.Omega.{arith}
 use lib.ListN.{length, getD, length-append, List·getD-append}
 use lib.Seq.{getD-append-add}
 use Rattle.rules.specs.Definitions.{Name, TypeText, Member, Data, Pair, Body, Definition}
+use Rattle.rules.specs.Definitions.TypeText.{nothing, one, listOf}
 use Rattle.rules.specs.Definitions.Data.{absent, inline, named}
 use Rattle.rules.specs.Definitions.Body.{enum, struct, union, alternate, command}
 use Rattle.rules.specs.SchemaTable.{dataRows, rowsTaken, row, concat, inlineStruct, rowsOf, tableFrom}
-use Rattle.rules.specs.RawTable.{Every, MemberNames, PairNames, DataNames, BodyNames, EveryName}
+use Rattle.rules.specs.RawTable.{Every, TypeNames, MemberNames, PairNames, DataNames, BodyNames, EveryName}
 use Rattle.rules.specs.Cells.{Entry, blank, inlineEntries, ownEntry, childEntries, entries, wordsOf, wordsFrom, entryKind, entryName, isInlineRow, owns, isInlineData, LinkNames, EntryNames}
 use Rattle.rules.specs.Cells.Entry.{enumRow, alternateRow, valueRow, structRow, inlineRow, memberRow, unionRow, branchRow, alternativeRow, commandRow}
 
@@ -166,6 +167,41 @@ module _ (P : Name → Type 0) where
   entry-names (d ∷ ds) p =
       every-append (EntryNames P) (ownEntry (d .name) (d .body) ∷ childEntries (d .body)) (entries ds)
       (own-names (d .name) (d .body) (p .0 .0) (p .0 .1), child-names (d .body) (p .0 .1)) (entry-names ds (p .1))
+
+-- names that have one property have another that it gives
+module _ {P Q : Name → Type 0} (k : (n : Name) → P n → Q n) where
+  type-weaken : (t : TypeText) → TypeNames P t → TypeNames Q t
+  type-weaken nothing p = tt
+  type-weaken (one n) p = k n p
+  type-weaken (listOf n) p = k n p
+
+  members-weaken : (ms : List Member) → Every (MemberNames P) ms → Every (MemberNames Q) ms
+  members-weaken [] p = tt
+  members-weaken (m ∷ ms) p = ((k (m .name) (p .0 .0), type-weaken (m .type) (p .0 .1)), members-weaken ms (p .1))
+
+  pairs-weaken : (ps : List Pair) → Every (PairNames P) ps → Every (PairNames Q) ps
+  pairs-weaken [] q = tt
+  pairs-weaken (p ∷ ps) q = ((k (p .name) (q .0 .0), k (p .type) (q .0 .1)), pairs-weaken ps (q .1))
+
+  list-weaken : (ns : List Name) → Every P ns → Every Q ns
+  list-weaken [] p = tt
+  list-weaken (n ∷ ns) p = (k n (p .0), list-weaken ns (p .1))
+
+  data-weaken : (b : Data) → DataNames P b → DataNames Q b
+  data-weaken absent p = tt
+  data-weaken (inline ms) p = members-weaken ms p
+  data-weaken (named n) p = k n p
+
+  body-weaken : (b : Body) → BodyNames P b → BodyNames Q b
+  body-weaken (enum vs) p = list-weaken vs p
+  body-weaken (struct b ms) p = (data-weaken b (p .0), members-weaken ms (p .1))
+  body-weaken (union b tag bs) p = (data-weaken b (p .0), k tag (p .1), pairs-weaken bs (p .2))
+  body-weaken (alternate alts) p = pairs-weaken alts p
+  body-weaken (command a t oob) p = (data-weaken a (p .0), type-weaken t (p .1))
+
+  pub names-weaken : (ds : List Definition) → EveryName P ds → EveryName Q ds
+  names-weaken [] p = tt
+  names-weaken (d ∷ ds) p = ((k (d .name) (p .0 .0), body-weaken (d .body) (p .0 .1)), names-weaken ds (p .1))
 
 pub every-at : {A : Type 0} (Q : A → Type 0) (d : A) (xs : List A) → Every Q xs → (j : ℕ) → j < length xs → Q (getD xs j d)
 every-at Q d [] p j h = absurd (omega arith)

@@ -27,7 +27,7 @@ use Rattle.rules.specs.Definitions.Body.{enum, struct, union, alternate,
 use Rattle.rules.specs.RawTable.{Every, TypeNames, MemberNames, PairNames, DataNames, BodyNames, EveryName, Spans}
 use Rattle.rules.proofs.Lists.{none-not-some}
 use Rattle.rules.proofs.SchemaOutcome.{bind-some}
-use Rattle.rules.proofs.DefinitionForms.{HasBody, HasBody.an-enum, HasBody.a-struct, HasBody.a-union, HasBody.an-alternate, HasBody.a-command, Defines, Among, Among.first, Among.later, every-imply, every-definition, must-be, may-be}
+use Rattle.rules.proofs.DefinitionForms.{HasBody, HasBody.an-enum, HasBody.a-struct, HasBody.a-union, HasBody.an-alternate, HasBody.a-command, Defines, Among, Among.first, Among.later, every-definition, must-be, may-be}
 
 module _ (S : List ℕ) where
   name-given : (j : Json) → Placed (length S) j → (n : Name) → asName j ≡ some n → Spans S n
@@ -170,33 +170,3 @@ pub names-within : (S : List ℕ) (js : Items) (ds : List Definition) → Schema
 names-within S js ds t p =
     every-definition (λ (d : Definition). Spans S (d .name) × BodyNames (Spans S) (d .body)) js ds p
     (λ fs d m. definition-given S fs (object-placed S fs js (schema-placed t) m) d)
-
--- what holds of every name of that kind holds of every name of definitions
-module _ (P Q : Name → Type 0) (f : (n : Name) → P n → Q n) where
-  type-imply : (t : TypeText) → TypeNames P t → TypeNames Q t
-  type-imply nothing h = tt
-  type-imply (one n) h = f n h
-  type-imply (listOf n) h = f n h
-
-  members-imply : (ms : List Member) → Every (MemberNames P) ms → Every (MemberNames Q) ms
-  members-imply = every-imply (MemberNames P) (MemberNames Q) (λ m h. (f (m .name) (h .0), type-imply (m .type) (h .1)))
-
-  pairs-imply : (ps : List Pair) → Every (PairNames P) ps → Every (PairNames Q) ps
-  pairs-imply = every-imply (PairNames P) (PairNames Q) (λ p h. (f (p .name) (h .0), f (p .type) (h .1)))
-
-  data-imply : (b : Data) → DataNames P b → DataNames Q b
-  data-imply absent h = tt
-  data-imply (inline ms) h = members-imply ms h
-  data-imply (named n) h = f n h
-
-  body-imply : (b : Body) → BodyNames P b → BodyNames Q b
-  body-imply (enum vs) h = every-imply P Q f vs h
-  body-imply (struct b ms) h = (data-imply b (h .0), members-imply ms (h .1))
-  body-imply (union b tag bs) h = (data-imply b (h .0), f tag (h .1), pairs-imply bs (h .2))
-  body-imply (alternate alts) h = pairs-imply alts h
-  body-imply (command a t oob) h = (data-imply a (h .0), type-imply t (h .1))
-
-  pub names-imply : (ds : List Definition) → EveryName P ds → EveryName Q ds
-  names-imply =
-      every-imply (λ (d : Definition). P (d .name) × BodyNames P (d .body)) (λ (d : Definition). Q (d .name) × BodyNames Q (d .body))
-      (λ d h. (f (d .name) (h .0), body-imply (d .body) (h .1)))

@@ -1,4 +1,4 @@
--- What a reader must believe, in the paper's order. RawTable, ReadingOf and Answers serve proofs only.
+-- What a reader must believe, in the paper's order. RawTable, Cells, ReadingOf and Answers serve proofs only.
 pub mod Types
 pub mod Values
 pub mod Definitions

@@ -1,0 +1,173 @@
+-- One raw row resolved: its words are put, and what is found is what its entry refers to.
+-- The idea: the rows before and after it stay; what the row becomes is seen by its entry, case by case.
+use Prim.Native.Nat.{ℕ, suc, _+_, _*_, _≤_}
+use mathlib.Core.Path.{_≡_, refl, sym, ap, ap₂, _∙_}
+use mathlib.Core.Bool.{Bool, true, false, _&&_}
+use mathlib.Core.List.{List, [], _∷_, _++_}
+use native.Mathlib.Omega.{arith}
+use lib.Dec.{eqb}
+use lib.ListN.{length, getD, set}
+use lib.Seq.{getD-append-add, set-getD}
+use borrow.Author.Tests.{eqb-false}
+use Rattle.grammar.specs.Limits.{schema-bytes}
+use Rattle.rules.specs.Definitions.{Name, TypeText, Data, Definition}
+use Rattle.rules.specs.Definitions.Data.{absent, inline, named}
+use Rattle.rules.specs.Definitions.TypeText.{one}
+use Rattle.rules.specs.SchemaTable.{dataLink, typeOf, structLink, typeNamed, isTypeName, isStructName}
+use Rattle.rules.specs.RawTable.{packed, rawFrom, TypeNames, EveryName, Spans}
+use Rattle.rules.specs.Rows.{kind}
+use Rattle.rules.specs.Rows as Rows
+use Rattle.rules.specs.Cells.{Entry, wordsOf, isInlineData, owns, LinkNames, EntryNames}
+use Rattle.rules.specs.Cells.Entry.{enumRow, alternateRow, valueRow, structRow, inlineRow, memberRow, unionRow, branchRow, alternativeRow, commandRow}
+use Rattle.references.specs.Lookups.{wordRefers, found}
+use Rattle.references.specs.Steps.{putAt, foundAt, putData, foundData, putCommand, foundCommand, putRow, foundRow}
+use Rattle.references.proofs.SlotLaws.{row-struct, row-member, row-union, row-branch, row-alternative, row-command, row-other}
+use Rattle.references.proofs.RawWords.{rawTag, linkRefers, types-word, types-found, data-word}
+
+-- words behind r rows
+module _ (X W : List ℕ) (r : ℕ) (n : length X ≡ 8 * r) where
+  pub word-behind : (i : ℕ) → getD (X ++ W) (8 * r + i) 0 ≡ getD W i 0
+  word-behind i = rw (← n) (getD-append-add X W i 0)
+
+  pub word-after : (i : ℕ) → getD (X ++ W) (8 * suc r + i) 0 ≡ getD W (8 + i) 0
+  word-after i = let z : 8 * suc r + i ≡ 8 * r + (8 + i) = omega arith in rw z (word-behind (8 + i))
+
+pub set-behind : (X W : List ℕ) (i v : ℕ) → set (X ++ W) (length X + i) v ≡ X ++ set W i v
+set-behind [] W i v = let z : 0 + i ≡ i = omega arith in rw z
+set-behind (x ∷ X) W i v = let z : suc (length X) + i ≡ suc (length X + i) = omega arith in rw z (ap (λ l. x ∷ l) (set-behind X W i v))
+
+-- an inline struct's owner and the inline struct stand in the words that are left
+pub inline-behind : (X Y W : List ℕ) (r : ℕ) → length X ≡ 8 * r → length Y ≡ 8 * r → Rows.inline (X ++ W) (suc r) ≡ Rows.inline (Y ++ W) (suc r)
+unfolding Rows.inline
+inline-behind X Y W r n m =
+    let a = word-behind X W r n in
+    let b = word-after X W r n in
+    let c = word-behind Y W r m in
+    let d = word-after Y W r m in
+    rw (a 0, a 3, b 0, b 1, b 2, b 4) (sym (rw (c 0, c 3, d 0, d 1, d 2, d 4)))
+
+-- what an entry's own row refers to
+module _ (S : List ℕ) (ds : List Definition) where
+  abbrev pub entryRefers : Entry → Bool
+  entryRefers (enumRow n c) = true
+  entryRefers (alternateRow n c) = true
+  entryRefers (valueRow n) = true
+  entryRefers (structRow n b c) = linkRefers S ds b
+  entryRefers (inlineRow c) = true
+  entryRefers (memberRow m) = isTypeName S ds (m .type)
+  entryRefers (unionRow n b tag c) = linkRefers S ds b
+  entryRefers (branchRow p) = isStructName S ds (p .type)
+  entryRefers (alternativeRow p) = isTypeName S ds (one (p .type))
+  entryRefers (commandRow n a t oob) = linkRefers S ds a && isTypeName S ds t
+
+-- a struct's base is no list of members
+abbrev pub NamedRow : Entry → Type 0
+NamedRow (enumRow n c) = Unit {0}
+NamedRow (alternateRow n c) = Unit {0}
+NamedRow (valueRow n) = Unit {0}
+NamedRow (structRow n b c) = isInlineData b ≡ false
+NamedRow (inlineRow c) = Unit {0}
+NamedRow (memberRow m) = Unit {0}
+NamedRow (unionRow n b tag c) = Unit {0}
+NamedRow (branchRow p) = Unit {0}
+NamedRow (alternativeRow p) = Unit {0}
+NamedRow (commandRow n a t oob) = Unit {0}
+
+module _ (S : List ℕ) (ds : List Definition) (short : length S ≤ schema-bytes) (spans : EveryName (Spans S) ds) (X : List ℕ) (r : ℕ) (n : length X ≡ 8 * r) where
+  abbrev T : List ℕ
+  T = rawFrom 0 ds
+
+  abbrev SL : Name → ℕ
+  SL = structLink S ds
+
+  abbrev TN : Name → ℕ
+  TN = typeNamed S ds
+
+  -- a word of the row
+  put-behind : (s : Bool) (i : ℕ) (W : List ℕ) (w v : ℕ) → getD W i 0 ≡ w → wordRefers S T s w ≡ v
+      → (putAt S T s (8 * r + i) (X ++ W) ≡ X ++ set W i v) × (foundAt S T s (8 * r + i) (X ++ W) ≡ found w v)
+  put-behind s i W w v p q =
+      let z : getD (X ++ W) (8 * r + i) 0 ≡ w = word-behind X W r n i ∙ p in
+      (rw (z, q, ← n) (set-behind X W i v), rw (z, q))
+
+  -- its link to a base or to data
+  data-behind : (b : Data) (W : List ℕ) → LinkNames (Spans S) b → getD W 3 0 ≡ dataLink packed packed rawTag r b → Rows.inline (X ++ W) (suc r) ≡ isInlineData b
+      → (putData S T r (X ++ W) ≡ X ++ set W 3 (dataLink SL TN rawTag r b)) × (foundData S T r (X ++ W) ≡ linkRefers S ds b)
+  unfolding putData foundData
+  data-behind absent W p q i =
+      let w = data-word S ds short spans r absent p refl in
+      let z = put-behind true 3 W (dataLink packed packed rawTag r absent) (dataLink SL TN rawTag r absent) q (w .0) in
+      (rw i (z .0), rw i (z .1 ∙ w .1))
+  data-behind (named m) W p q i =
+      let w = data-word S ds short spans r (named m) p refl in
+      let z = put-behind true 3 W (dataLink packed packed rawTag r (named m)) (dataLink SL TN rawTag r (named m)) q (w .0) in
+      (rw i (z .0), rw i (z .1 ∙ w .1))
+  data-behind (inline ms) W p q i = (rw i (ap (λ l. X ++ l) (sym (set-getD W 3 0) ∙ ap (set W 3) q)), rw i)
+
+  -- the row itself
+  abbrev Step : Entry → List ℕ → Type 0
+  Step e Y =
+      (putRow S T r (X ++ (wordsOf packed packed rawTag r e ++ Y)) ≡ X ++ (wordsOf SL TN rawTag r e ++ Y))
+      × (foundRow S T r (X ++ (wordsOf packed packed rawTag r e ++ Y)) ≡ entryRefers S ds e)
+
+  kind-behind : (W : List ℕ) → getD W 0 0 ≡ kind (X ++ W) r
+  kind-behind W = sym (word-behind X W r n 0)
+
+  other : (W : List ℕ) (k : ℕ) → getD W 0 0 ≡ k → eqb k 3 ≡ false → eqb k 4 ≡ false → eqb k 5 ≡ false → eqb k 6 ≡ false → eqb k 8 ≡ false → eqb k 9 ≡ false
+      → (putRow S T r (X ++ W) ≡ X ++ W) × (foundRow S T r (X ++ W) ≡ true)
+  other W k p a b c d e f =
+      row-other S (X ++ W) r (sym p ∙ kind-behind W) T (eqb-false k 3 a) (eqb-false k 4 b) (eqb-false k 5 c) (eqb-false k 6 d) (eqb-false k 8 e) (eqb-false k 9 f)
+
+  command-behind : (d : Data) (t : TypeText) (W : List ℕ) → LinkNames (Spans S) d → TypeNames (Spans S) t → getD W 3 0 ≡ dataLink packed packed rawTag r d
+      → getD (set W 3 (dataLink SL TN rawTag r d)) 5 0 ≡ typeOf packed packed rawTag t → Rows.inline (X ++ W) (suc r) ≡ isInlineData d
+      → (putCommand S T r (X ++ W) ≡ X ++ set (set W 3 (dataLink SL TN rawTag r d)) 5 (typeOf SL TN rawTag t))
+      × (foundCommand S T r (X ++ W) ≡ (linkRefers S ds d && isTypeName S ds t))
+  unfolding putCommand foundCommand
+  command-behind d t W p q a b i =
+      let y = data-behind d W p a i in
+      let z = put-behind false 5 (set W 3 (dataLink SL TN rawTag r d)) (typeOf packed packed rawTag t) (typeOf SL TN rawTag t) b (types-word S ds short spans t q) in
+      (ap (putAt S T false (8 * r + 5)) (y .0) ∙ z .0, ap₂ _&&_ (y .1) (ap (foundAt S T false (8 * r + 5)) (y .0) ∙ z .1 ∙ types-found S ds short spans t q))
+
+  pub row-step : (e : Entry) (Y : List ℕ) → EntryNames (Spans S) e → NamedRow e
+      → Rows.inline (X ++ (wordsOf packed packed rawTag r e ++ Y)) (suc r) ≡ owns e → Step e Y
+  row-step (enumRow m c) Y p b i = other (wordsOf packed packed rawTag r (enumRow m c) ++ Y) 1 refl refl refl refl refl refl refl
+  row-step (alternateRow m c) Y p b i = other (wordsOf packed packed rawTag r (alternateRow m c) ++ Y) 7 refl refl refl refl refl refl refl
+  row-step (valueRow m) Y p b i = other (wordsOf packed packed rawTag r (valueRow m) ++ Y) 2 refl refl refl refl refl refl refl
+  row-step (structRow m d c) Y p b i =
+      let W : List ℕ = wordsOf packed packed rawTag r (structRow m d c) ++ Y in
+      let w = data-word S ds short spans r d (p .1) b in
+      let x = row-struct S (X ++ W) r (kind-behind W) T refl in
+      let y = put-behind true 4 W (dataLink packed packed rawTag r d) (dataLink SL TN rawTag r d) refl (w .0) in
+      (x .0 ∙ y .0, x .1 ∙ y .1 ∙ w .1)
+  row-step (inlineRow c) Y p b i =
+      let W : List ℕ = wordsOf packed packed rawTag r (inlineRow c) ++ Y in
+      let w = data-word S ds short spans r absent tt refl in
+      let x = row-struct S (X ++ W) r (kind-behind W) T refl in
+      let y = put-behind true 4 W 0 0 refl (w .0) in
+      (x .0 ∙ y .0, x .1 ∙ y .1)
+  row-step (memberRow m) Y p b i =
+      let W : List ℕ = wordsOf packed packed rawTag r (memberRow m) ++ Y in
+      let x = row-member S (X ++ W) r (kind-behind W) T refl in
+      let y = put-behind false 3 W (typeOf packed packed rawTag (m .type)) (typeOf SL TN rawTag (m .type)) refl (types-word S ds short spans (m .type) (p .1)) in
+      (x .0 ∙ y .0, x .1 ∙ y .1 ∙ types-found S ds short spans (m .type) (p .1))
+  row-step (unionRow m d tag c) Y p b i =
+      let W : List ℕ = wordsOf packed packed rawTag r (unionRow m d tag c) ++ Y in
+      let x = row-union S (X ++ W) r (kind-behind W) T refl in
+      let y = data-behind d W (p .1) refl i in
+      (x .0 ∙ y .0, x .1 ∙ y .1)
+  row-step (branchRow q) Y p b i =
+      let W : List ℕ = wordsOf packed packed rawTag r (branchRow q) ++ Y in
+      let w = data-word S ds short spans r (named (q .type)) (p .1) refl in
+      let x = row-branch S (X ++ W) r (kind-behind W) T refl in
+      let y = put-behind true 3 W (packed (q .type)) (SL (q .type)) refl (w .0) in
+      (x .0 ∙ y .0, x .1 ∙ y .1 ∙ w .1)
+  row-step (alternativeRow q) Y p b i =
+      let W : List ℕ = wordsOf packed packed rawTag r (alternativeRow q) ++ Y in
+      let x = row-alternative S (X ++ W) r (kind-behind W) T refl in
+      let y = put-behind false 3 W (packed (q .type)) (TN (q .type)) refl (types-word S ds short spans (one (q .type)) (p .1)) in
+      (x .0 ∙ y .0, x .1 ∙ y .1 ∙ types-found S ds short spans (one (q .type)) (p .1))
+  row-step (commandRow m d t oob) Y p b i =
+      let W : List ℕ = wordsOf packed packed rawTag r (commandRow m d t oob) ++ Y in
+      let x = row-command S (X ++ W) r (kind-behind W) T refl in
+      let y = command-behind d t W (p .1) (p .2) refl refl i in
+      (x .0 ∙ y .0, x .1 ∙ y .1)

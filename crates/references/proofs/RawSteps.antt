@@ -1,0 +1,180 @@
+-- Raw rows resolved one after the other: those below a row have their links, the others are raw; and every name is found exactly where all refer.
+-- By the number of rows; inside a row by `row-step`.
+use Prim.Native.Nat.{ℕ, zero, suc, _+_, _*_, _≤_, _<_}
+use mathlib.Core.Path.{_≡_, refl, sym, ap, ap₂, _∙_}
+use mathlib.Core.Bool.{Bool, true, false, _&&_, and-assoc, and-true}
+use mathlib.Core.List.{List, [], _∷_, _++_, map, append-assoc, append-nil}
+use native.Mathlib.Omega.{arith}
+use lib.ListN.{length, getD, take, drop, take-append-drop, drop-of-length-le}
+use lib.Seq.{length-take-le, take-suc, drop-cons, take-all}
+use Rattle.grammar.specs.Limits.{schema-bytes}
+use Rattle.grammar.specs.Notation.{all}
+use Rattle.rules.specs.Definitions.{Name, Member, Data, Body, Definition}
+use Rattle.rules.specs.Definitions.Data.{absent, inline, named}
+use Rattle.rules.specs.Definitions.Body.{enum, struct, union, alternate, command}
+use Rattle.rules.specs.SchemaTable.{structLink, typeNamed, isTypeName, isStructName, dataRefers, refers, allRefer}
+use Rattle.rules.specs.RawTable.{packed, rawFrom, Every, EveryName, Spans}
+use Rattle.rules.specs.Rows as Rows
+use Rattle.rules.specs.Cells.{Entry, blank, inlineEntries, ownEntry, childEntries, entries, wordsOf, wordsFrom, isInlineData, owns, EntryNames, NamedBase, NamedBases}
+use Rattle.rules.specs.Cells.Entry.{valueRow, memberRow, branchRow, alternativeRow}
+use Rattle.rules.proofs.Cells.{table-words, length-words, words-append, every-append, every-is, entry-names, every-at, entries-follow}
+use Rattle.rules.proofs.CellRows.{Behind, inline-after}
+use Rattle.table.proofs.ListLaws.{all-append, all-map}
+use Rattle.references.specs.Steps.{putRow, foundRow, putRows, foundRows}
+use Rattle.references.proofs.RawWords.{rawTag, linkRefers, all-behind}
+use Rattle.references.proofs.RawRows.{entryRefers, NamedRow, inline-behind, row-step}
+
+-- no entry of a struct has a base that is written out
+inline-named : (b : Data) → Every NamedRow (inlineEntries b)
+inline-named absent = tt
+inline-named (inline ms) = (tt, every-is memberRow NamedRow (λ _. tt) ms)
+inline-named (named n) = tt
+
+base-named : (n : Name) (b : Data) (ms : List Member) → NamedBase (struct b ms) → isInlineData b ≡ false
+base-named n absent ms p = refl
+base-named n (inline ns) ms p = absurd p
+base-named n (named m) ms p = refl
+
+body-named : (n : Name) (b : Body) → NamedBase b → Every NamedRow (ownEntry n b ∷ childEntries b)
+body-named n (enum vs) p = (tt, every-is valueRow NamedRow (λ _. tt) vs)
+body-named n (struct b ms) p = (base-named n b ms p, every-is memberRow NamedRow (λ _. tt) ms)
+body-named n (union b tag bs) p = (tt, every-append NamedRow (inlineEntries b) (map branchRow bs) (inline-named b) (every-is branchRow NamedRow (λ _. tt) bs))
+body-named n (alternate alts) p = (tt, every-is alternativeRow NamedRow (λ _. tt) alts)
+body-named n (command a t oob) p = (tt, inline-named a)
+
+entries-named : (ds : List Definition) → NamedBases ds → Every NamedRow (entries ds)
+unfolding entries
+entries-named [] p = tt
+entries-named (d ∷ ds) p =
+    every-append NamedRow (ownEntry (d .name) (d .body) ∷ childEntries (d .body)) (entries ds) (body-named (d .name) (d .body) (p .0)) (entries-named ds (p .1))
+
+-- rows in parts
+module _ (f g : Name → ℕ) (h : ℕ → Name → ℕ) (es : List Entry) (r : ℕ) where
+  pub rows-split : r ≤ length es → wordsFrom f g h 0 es ≡ wordsFrom f g h 0 (take r es) ++ wordsFrom f g h r (drop r es)
+  rows-split l =
+      let n : length (take r es) ≡ r = length-take-le r es l in
+      let z : 0 + length (take r es) ≡ r = omega arith in
+      ap (wordsFrom f g h 0) (sym (take-append-drop r es)) ∙ words-append f g h 0 (take r es) (drop r es) ∙ rw z
+
+  pub length-below : r ≤ length es → length (wordsFrom f g h 0 (take r es)) ≡ 8 * r
+  length-below l = length-words f g h 0 (take r es) ∙ rw (length-take-le r es l)
+
+  pub rows-from : r < length es → wordsFrom f g h r (drop r es) ≡ wordsOf f g h r (getD es r blank) ++ wordsFrom f g h (suc r) (drop (suc r) es)
+  unfolding wordsFrom
+  rows-from l = rw (drop-cons es r blank l)
+
+  pub rows-below : r < length es → wordsFrom f g h 0 (take (suc r) es) ≡ wordsFrom f g h 0 (take r es) ++ wordsOf f g h r (getD es r blank)
+  unfolding wordsFrom
+  rows-below l =
+      let n : length (take r es) ≡ r = length-take-le r es (omega arith) in
+      let z : 0 + length (take r es) ≡ r = omega arith in
+      ap (wordsFrom f g h 0) (take-suc es r blank l) ∙ words-append f g h 0 (take r es) (getD es r blank ∷ []) ∙ rw (z, append-nil (wordsOf f g h r (getD es r blank)))
+
+module _ (S : List ℕ) (ds : List Definition) (short : length S ≤ schema-bytes) (spans : EveryName (Spans S) ds) (bases : NamedBases ds) where
+  abbrev T : List ℕ
+  T = rawFrom 0 ds
+
+  abbrev SL : Name → ℕ
+  SL = structLink S ds
+
+  abbrev TN : Name → ℕ
+  TN = typeNamed S ds
+
+  abbrev es : List Entry
+  es = entries ds
+
+  pub raw-words : T ≡ wordsFrom packed packed rawTag 0 es
+  unfolding rawFrom
+  raw-words = table-words packed packed rawTag 0 ds
+
+  -- the rows once those below row r are resolved
+  abbrev halfway : ℕ → List ℕ
+  halfway r = wordsFrom SL TN rawTag 0 (take r es) ++ wordsFrom packed packed rawTag r (drop r es)
+
+  inline-half : (r : ℕ) → r < length es → Rows.inline (halfway r) (suc r) ≡ owns (getD es r blank)
+  inline-half r l =
+      let k : r ≤ length es = omega arith in
+      inline-behind (wordsFrom SL TN rawTag 0 (take r es)) (wordsFrom packed packed rawTag 0 (take r es)) (wordsFrom packed packed rawTag r (drop r es)) r
+      (length-below SL TN rawTag es r k) (length-below packed packed rawTag es r k)
+      ∙ ap (λ u. Rows.inline u (suc r)) (sym (rows-split packed packed rawTag es r k))
+      ∙ inline-after packed packed rawTag es (entries-follow ds blank refl) (entry-names Behind ds (all-behind S ds short spans)) r l
+
+  half-next : (r : ℕ) → r < length es → (putRow S T r (halfway r) ≡ halfway (suc r)) × (foundRow S T r (halfway r) ≡ entryRefers S ds (getD es r blank))
+  half-next r l =
+      let k : r ≤ length es = omega arith in
+      let e : Entry = getD es r blank in
+      let X : List ℕ = wordsFrom SL TN rawTag 0 (take r es) in
+      let Y : List ℕ = wordsFrom packed packed rawTag (suc r) (drop (suc r) es) in
+      let m : halfway r ≡ X ++ (wordsOf packed packed rawTag r e ++ Y) = ap (λ l. X ++ l) (rows-from packed packed rawTag es r l) in
+      let i : Rows.inline (X ++ (wordsOf packed packed rawTag r e ++ Y)) (suc r) ≡ owns e = ap (λ u. Rows.inline u (suc r)) (sym m) ∙ inline-half r l in
+      let s = row-step S ds short spans X r (length-below SL TN rawTag es r k) e Y
+      (every-at (EntryNames (Spans S)) blank es (entry-names (Spans S) ds spans) r l) (every-at NamedRow blank es (entries-named ds bases) r l) i in
+      let n : X ++ (wordsOf SL TN rawTag r e ++ Y) ≡ halfway (suc r) =
+      sym (append-assoc X (wordsOf SL TN rawTag r e) Y) ∙ ap (λ l. l ++ Y) (sym (rows-below SL TN rawTag es r l)) in
+      (ap (putRow S T r) m ∙ s .0 ∙ n, ap (foundRow S T r) m ∙ s .1)
+
+  found-next : (r : ℕ) → r < length es → all (entryRefers S ds) (take (suc r) es) ≡ (all (entryRefers S ds) (take r es) && entryRefers S ds (getD es r blank))
+  found-next r l =
+      ap (all (entryRefers S ds)) (take-suc es r blank l) ∙ all-append (entryRefers S ds) (take r es) (getD es r blank ∷ [])
+      ∙ ap (λ b. all (entryRefers S ds) (take r es) && b) (and-true (entryRefers S ds (getD es r blank)))
+
+  steps : (r : ℕ) → r ≤ length es → (putRows S T r ≡ halfway r) × (foundRows S T r ≡ all (entryRefers S ds) (take r es))
+  unfolding putRows foundRows wordsFrom
+  steps zero l = (raw-words, refl)
+  steps (suc r) l =
+      let s = steps r (omega arith) in
+      let n = half-next r l in
+      (ap (putRow S T r) (s .0) ∙ n .0, ap₂ _&&_ (s .1) (ap (foundRow S T r) (s .0) ∙ n .1) ∙ sym (found-next r l))
+
+  -- all rows
+  pub rows-resolved : (putRows S T (length es) ≡ wordsFrom SL TN rawTag 0 es) × (foundRows S T (length es) ≡ all (entryRefers S ds) es)
+  unfolding wordsFrom
+  rows-resolved =
+      let s = steps (length es) (omega arith) in
+      let t : take (length es) es ≡ es = take-all (length es) es (omega arith) in
+      let d : drop (length es) es ≡ [] = drop-of-length-le es {i = length es} (omega arith) in
+      (s .0 ∙ rw (t, d, append-nil), s .1 ∙ ap (all (entryRefers S ds)) t)
+
+  -- what entries refer to is what definitions do
+  inline-refer : (b : Data) → (linkRefers S ds b && all (entryRefers S ds) (inlineEntries b)) ≡ dataRefers S ds b
+  inline-refer absent = refl
+  inline-refer (inline ms) = all-map memberRow (entryRefers S ds) ms
+  inline-refer (named n) = and-true (isStructName S ds n)
+
+  body-refers : (n : Name) (b : Body) → NamedBase b → all (entryRefers S ds) (ownEntry n b ∷ childEntries b) ≡ refers S ds b
+  body-refers n (enum vs) p = all-map valueRow (entryRefers S ds) vs ∙ pass vs
+    where
+      pass : (vs : List Name) → all (λ v. true) vs ≡ true
+      pass [] = refl
+      pass (v ∷ vs) = pass vs
+  body-refers n (struct b ms) p = ap₂ _&&_ (own b p) (all-map memberRow (entryRefers S ds) ms)
+    where
+      own : (b : Data) → NamedBase (struct b ms) → linkRefers S ds b ≡ dataRefers S ds b
+      own absent p = refl
+      own (inline ns) p = absurd p
+      own (named m) p = refl
+  body-refers n (union b tag bs) p =
+      ap (λ t. linkRefers S ds b && t) (all-append (entryRefers S ds) (inlineEntries b) (map branchRow bs))
+      ∙ sym (and-assoc (linkRefers S ds b) (all (entryRefers S ds) (inlineEntries b)) (all (entryRefers S ds) (map branchRow bs)))
+      ∙ ap₂ _&&_ (inline-refer b) (all-map branchRow (entryRefers S ds) bs)
+  body-refers n (alternate alts) p = all-map alternativeRow (entryRefers S ds) alts
+  body-refers n (command a t oob) p =
+      swap (linkRefers S ds a) (isTypeName S ds t) (all (entryRefers S ds) (inlineEntries a)) ∙ ap (λ b. b && isTypeName S ds t) (inline-refer a)
+    where
+      swap : (a b c : Bool) → ((a && b) && c) ≡ ((a && c) && b)
+      swap true true true = refl
+      swap true true false = refl
+      swap true false true = refl
+      swap true false false = refl
+      swap false b c = refl
+
+  all-refer : (ys : List Definition) → NamedBases ys → all (entryRefers S ds) (entries ys) ≡ all (λ (d : Definition). refers S ds (d .body)) ys
+  unfolding entries
+  all-refer [] p = refl
+  all-refer (d ∷ ys) p =
+      all-append (entryRefers S ds) (ownEntry (d .name) (d .body) ∷ childEntries (d .body)) (entries ys)
+      ∙ ap₂ _&&_ (body-refers (d .name) (d .body) (p .0)) (all-refer ys (p .1))
+
+  pub names-found : foundRows S T (length es) ≡ allRefer S ds
+  unfolding allRefer
+  names-found = rows-resolved .1 ∙ all-refer ds bases

@@ -1,0 +1,160 @@
+-- Words put into rows, one by one: what each function makes of the rows, and that kinds, names and lengths stay.
+-- The idea: only words 4 to 6 of a row are ever put, so the rows keep the heads of the listed table.
+use Prim.Native.Nat.{ℕ, zero, suc, _+_, _*_, _≤_, _<_}
+use mathlib.Core.Path.{_≡_, refl, sym, ap, ap₂, _∙_, subst}
+use mathlib.Core.Bool.{Bool, true, false, not, cond, _&&_}
+use mathlib.Core.List.{List}
+use native.Mathlib.Numerals.{add-one}
+use native.Mathlib.Omega.{arith}
+use lib.Dec.{eqb, ltb}
+use lib.ListN.{length, getD, set, length-set}
+use lib.Seq.{getD-set-other}
+use borrow.Author.Tests.{ne-eqb, lt-ltb}
+use Rattle.rules.specs.Rows.{rowCount, kind, inline}
+use Rattle.table.specs.Definitions.{Listed}
+use Rattle.references.specs.Lookups.{wordRefers, Heads, Refers}
+use Rattle.references.specs.Steps.{putAt, foundAt, putData, foundData, putCommand, foundCommand, putRow, foundRow, putRows, foundRows, Puts}
+
+-- heads
+pub heads-own : (T : List ℕ) → Heads T T
+heads-own T = record { same-head = λ r i h. refl }
+
+heads-set : (T U : List ℕ) (r i v : ℕ) → 3 ≤ i → i < 8 → Heads T U → Heads T (set U (8 * r + i) v)
+heads-set T U r i v a b h = record {
+  same-head = λ j n l. getD-set-other U (8 * r + i) (8 * j + n) v 0 (λ (e : 8 * j + n ≡ 8 * r + i). omega arith) ∙ h .same-head j n l;
+}
+
+-- a property that putting a word from the fourth on keeps
+module _ (S T : List ℕ) (P : List ℕ → Type 0) (keeps : (U : List ℕ) (r i v : ℕ) → 3 ≤ i → i < 8 → P U → P (set U (8 * r + i) v)) where
+  kept-cond : (b : Bool) (U W : List ℕ) → P U → P W → P (cond b U W)
+  kept-cond true U W p q = p
+  kept-cond false U W p q = q
+
+  kept-at : (s : Bool) (r i : ℕ) (U : List ℕ) → 3 ≤ i → i < 8 → P U → P (putAt S T s (8 * r + i) U)
+  kept-at s r i U a b p = keeps U r i (wordRefers S T s (getD U (8 * r + i) 0)) a b p
+
+  pub kept-data : (r : ℕ) (U : List ℕ) → P U → P (putData S T r U)
+  unfolding putData
+  kept-data r U p = kept-cond (inline U (suc r)) U (putAt S T true (8 * r + 3) U) p (kept-at true r 3 U (omega arith) (omega arith) p)
+
+  kept-command : (r : ℕ) (U : List ℕ) → P U → P (putCommand S T r U)
+  unfolding putCommand
+  kept-command r U p = kept-at false r 5 (putData S T r U) (omega arith) (omega arith) (kept-data r U p)
+
+  pub kept-row : (r : ℕ) (U : List ℕ) → P U → P (putRow S T r U)
+  unfolding putRow
+  kept-row r U p =
+      kept-cond (eqb (kind U r) 3) _ _ (kept-at true r 4 U (omega arith) (omega arith) p)
+      (kept-cond (eqb (kind U r) 4) _ _ (kept-at false r 3 U (omega arith) (omega arith) p)
+      (kept-cond (eqb (kind U r) 5) _ _ (kept-data r U p)
+      (kept-cond (eqb (kind U r) 6) _ _ (kept-at true r 3 U (omega arith) (omega arith) p)
+      (kept-cond (eqb (kind U r) 8) _ _ (kept-at false r 3 U (omega arith) (omega arith) p)
+      (kept-cond (eqb (kind U r) 9) _ _ (kept-command r U p) p)))))
+
+  pub kept-rows : P T → (r : ℕ) → P (putRows S T r)
+  unfolding putRows
+  kept-rows p zero = p
+  kept-rows p (suc r) = kept-row r (putRows S T r) (kept-rows p r)
+
+pub heads-rows : (S T : List ℕ) (r : ℕ) → Heads T (putRows S T r)
+heads-rows S T r = kept-rows S T (Heads T) (heads-set T) (heads-own T) r
+
+pub length-rows : (S T : List ℕ) (r : ℕ) → length (putRows S T r) ≡ length T
+length-rows S T r = kept-rows S T (λ U. length U ≡ length T) (λ U j i v a b p. length-set U (8 * j + i) v ∙ p) refl r
+
+-- word k
+module _ {S U l : List ℕ} {m w v : ℕ} (s : Bool) (k : ℕ) (p : w ≡ getD U k 0) (f : Refers S U l m s w v) where
+  pub put-nothing : w ≡ 0 → Puts S U l m (λ T. putAt S T s k) (λ T. foundAt S T s k) (set U k v) true
+  put-nothing e = record { same-length = length-set U k v; told = λ T j h. (rw (← p, f .told T j h), rw (← p, e)) }
+
+  pub put-something : (w ≡ 0 → ⊥) → Puts S U l m (λ T. putAt S T s k) (λ T. foundAt S T s k) (set U k v) (not (eqb v 0))
+  put-something n = record { same-length = length-set U k v; told = λ T j h. (rw (← p, f .told T j h), rw (← p, ← f .told T j h, ne-eqb w 0 n) (go v)) }
+    where
+      go : (v : ℕ) → not (eqb v 0) ≡ ltb 0 v
+      go zero = refl
+      go (suc v) = rw (ne-eqb (suc v) 0 (λ e. omega arith), lt-ltb 0 (suc v) (omega arith))
+
+-- the base of a union or the data of a command
+next-inline : (U : List ℕ) (r : ℕ) (b t : Bool) → b ≡ inline U (r + 1) → b ≡ t → inline U (suc r) ≡ t
+next-inline U r b t p e = ap (inline U) (sym (add-one r)) ∙ sym p ∙ e
+
+module _ {S U l : List ℕ} {m : ℕ} (r : ℕ) {b : Bool} (p : b ≡ inline U (r + 1)) where
+  pub data-inline : b ≡ true → Puts S U l m (λ T. putData S T r) (λ T. foundData S T r) U true
+  unfolding putData foundData
+  data-inline e = let i = next-inline U r b true p e in record { same-length = refl; told = λ T j h. (rw i, rw i) }
+
+  pub data-named : b ≡ false → {new : List ℕ} {t : Bool} → Puts S U l m (λ T. putAt S T true (8 * r + 3)) (λ T. foundAt S T true (8 * r + 3)) new t
+      → Puts S U l m (λ T. putData S T r) (λ T. foundData S T r) new t
+  unfolding putData foundData
+  data-named e f =
+      let i = next-inline U r b false p e in
+      record { same-length = f .same-length; told = λ T j h. let z = f .told T j h in (rw i (z .0), rw i (z .1)) }
+
+-- one after the other
+pub command-both : {S U l : List ℕ} {m : ℕ} (r : ℕ) {mid new : List ℕ} {a b t : Bool}
+    → Puts S U l m (λ T. putData S T r) (λ T. foundData S T r) mid a
+    → Puts S mid l m (λ T. putAt S T false (8 * r + 5)) (λ T. foundAt S T false (8 * r + 5)) new b → t ≡ (a && b)
+    → Puts S U l m (λ T. putCommand S T r) (λ T. foundCommand S T r) new t
+unfolding putCommand foundCommand
+command-both {S} {U} r {mid} f g e = record {
+  same-length = g .same-length ∙ f .same-length;
+  told = λ T j h.
+      let x = f .told T j h in
+      let y = g .told T j (subst (Heads T) (sym (x .0)) (kept-data S T (Heads T) (heads-set T) r U h)) in
+      (y .0 ∙ ap (putAt S T false (8 * r + 5)) (x .0), e ∙ ap₂ _&&_ (x .1) (y .1 ∙ ap (foundAt S T false (8 * r + 5)) (x .0)));
+}
+
+-- row r by its kind
+pub row-by : {S U l : List ℕ} {m : ℕ} {put : List ℕ → List ℕ → List ℕ} {tells : List ℕ → List ℕ → Bool} {new : List ℕ} {b : Bool} (r : ℕ)
+    → ((T : List ℕ) → (putRow S T r U ≡ put T U) × (foundRow S T r U ≡ tells T U)) → Puts S U l m put tells new b
+    → Puts S U l m (λ T. putRow S T r) (λ T. foundRow S T r) new b
+row-by r e f = record { same-length = f .same-length; told = λ T j h. (f .told T j h .0 ∙ sym (e T .0), f .told T j h .1 ∙ sym (e T .1)) }
+
+module _ (S U : List ℕ) (r : ℕ) {k : ℕ} (p : k ≡ kind U r) (T : List ℕ) where
+  pub row-struct : k ≡ 3 → (putRow S T r U ≡ putAt S T true (8 * r + 4) U) × (foundRow S T r U ≡ foundAt S T true (8 * r + 4) U)
+  unfolding putRow foundRow
+  row-struct e = (rw (← p, e), rw (← p, e))
+
+  pub row-member : k ≡ 4 → (putRow S T r U ≡ putAt S T false (8 * r + 3) U) × (foundRow S T r U ≡ foundAt S T false (8 * r + 3) U)
+  unfolding putRow foundRow
+  row-member e = (rw (← p, e), rw (← p, e))
+
+  pub row-union : k ≡ 5 → (putRow S T r U ≡ putData S T r U) × (foundRow S T r U ≡ foundData S T r U)
+  unfolding putRow foundRow
+  row-union e = (rw (← p, e), rw (← p, e))
+
+  pub row-branch : k ≡ 6 → (putRow S T r U ≡ putAt S T true (8 * r + 3) U) × (foundRow S T r U ≡ foundAt S T true (8 * r + 3) U)
+  unfolding putRow foundRow
+  row-branch e = (rw (← p, e), rw (← p, e))
+
+  pub row-alternative : k ≡ 8 → (putRow S T r U ≡ putAt S T false (8 * r + 3) U) × (foundRow S T r U ≡ foundAt S T false (8 * r + 3) U)
+  unfolding putRow foundRow
+  row-alternative e = (rw (← p, e), rw (← p, e))
+
+  pub row-command : k ≡ 9
+      → (putRow S T r U ≡ putCommand S T r U) × (foundRow S T r U ≡ foundCommand S T r U)
+  unfolding putRow foundRow
+  row-command e = (rw (← p, e), rw (← p, e))
+
+  pub row-other : (k ≡ 3 → ⊥) → (k ≡ 4 → ⊥) → (k ≡ 5 → ⊥) → (k ≡ 6 → ⊥) → (k ≡ 8 → ⊥) → (k ≡ 9 → ⊥) → (putRow S T r U ≡ U) × (foundRow S T r U ≡ true)
+  unfolding putRow foundRow
+  row-other a b c d e f = (
+    rw (← p, ne-eqb k 3 a, ne-eqb k 4 b, ne-eqb k 5 c, ne-eqb k 6 d, ne-eqb k 8 e, ne-eqb k 9 f),
+    rw (← p, ne-eqb k 3 a, ne-eqb k 4 b, ne-eqb k 5 c, ne-eqb k 6 d, ne-eqb k 8 e, ne-eqb k 9 f),
+  )
+
+pub row-kept : {S U l : List ℕ} {m : ℕ} → Puts S U l m (λ _ U. U) (λ _ _. true) U true
+row-kept = record { same-length = refl; told = λ T j h. (refl, refl) }
+
+-- all rows
+module _ (S T : List ℕ) where
+  pub rows-start : (T ≡ putRows S T 0) × (true ≡ foundRows S T 0)
+  unfolding putRows foundRows
+  rows-start = (refl, refl)
+
+  pub rows-next : (r : ℕ) {l U : List ℕ} {m : ℕ} {a t b : Bool} {new : List ℕ} → Listed S T l (rowCount T) m → U ≡ putRows S T r → a ≡ foundRows S T r
+      → Puts S U l m (λ T. putRow S T r) (λ T. foundRow S T r) new t → b ≡ (a && t) → (new ≡ putRows S T (r + 1)) × (b ≡ foundRows S T (r + 1))
+  unfolding putRows foundRows
+  rows-next r k x y f e =
+      let z = f .told T k (subst (Heads T) (sym x) (heads-rows S T r)) in
+      rw (add-one r) (z .0 ∙ ap (putRow S T r) x, e ∙ ap₂ _&&_ y (z .1 ∙ ap (foundRow S T r) x))

@@ -1,0 +1,5 @@
+-- What the contracts of the resolver cite. Resolves says what it does; Lookups, Steps and Tags say how, one function each.
+pub mod Resolves
+pub mod Lookups
+pub mod Steps
+pub mod Tags

@@ -1,0 +1,95 @@
+// Discriminators become links to members of the base, found by recursion over base links, the structs left falling.
+use crate::find::named_by;
+use rules::CHAIN_STRUCTS;
+use rules::ROW_WORDS;
+use table::chains::chain_ends;
+use table::names::name_of;
+use table::names::same_bytes;
+use table::rows::child_count;
+use table::rows::first_child;
+use table::rows::wide;
+use table::rows::word;
+ghost use mathlib.Core.Path.{_≡_};
+ghost use Prim.Native.Nat.{_+_, _*_, _<_, _^_};
+ghost use lib.ListN.{length};
+ghost use Rattle.rules.specs.Rows.{rowCount, children};
+ghost use Rattle.rules.specs.SchemaTable.{memberIn};
+ghost use Rattle.references.specs.Tags as Spec;
+
+// The link of the child of row r that has the name; 0 if there is none.
+fn child_link(s: &[u8], rows: &[u32], r: usize, name: &[u8]) -> usize
+    requires { ⌜ r < 2 ^ 39 ⌝ }
+    ensures { λ l. ⌜ l ≡ memberIn (now (s .entry)) (now (rows .entry)) (now (name .entry)) (children (now (rows .entry)) r) ⌝ }
+{
+    let a = first_child(rows, r);
+    let e = a + child_count(rows, r);
+    let mut c = a;
+    while c < e {
+        if same_bytes(name, name_of(s, rows, c)) {
+            return c + 1;
+        }
+        c += 1;
+    }
+    0
+}
+
+// The link of the member of that name of the struct with a link, inherited ones first, at most `left` structs up; 0 if there is none.
+fn member_link(s: &[u8], rows: &[u32], link: usize, left: usize, name: &[u8]) -> usize
+    requires { ⌜ link < 2 ^ 39 ⌝ }
+    ensures { λ l. ⌜ l ≡ Spec.memberLink (now (s .entry)) (now (rows .entry)) left link (now (name .entry)) ⌝ }
+{
+    if link == 0 {
+        return 0;
+    }
+    if left == 0 {
+        return 0;
+    }
+    let row = link - 1;
+    let inherited = member_link(s, rows, wide(word(rows, row, 4)), left - 1, name);
+    if inherited != 0 {
+        return inherited;
+    }
+    child_link(s, rows, row, name)
+}
+
+fn narrow(link: usize) -> u32
+    ensures { λ l. ⌜ l ≡ Spec.narrow link ⌝ }
+{
+    if link < 4294967296 {
+        return link as u32;
+    }
+    0
+}
+
+// What the discriminator of union r, which a word names, becomes.
+fn tag_link(s: &[u8], rows: &[u32], r: usize) -> u32
+    ensures { λ l. ⌜ l ≡ Spec.tagLink (now (s .entry)) r (now (rows .entry)) ⌝ }
+{
+    let base = wide(word(rows, r, 3));
+    if !chain_ends(rows, base, CHAIN_STRUCTS) {
+        return 0;
+    }
+    narrow(member_link(s, rows, base, CHAIN_STRUCTS, named_by(s, word(rows, r, 5))))
+}
+
+fn tag_row(s: &[u8], rows: &mut [u32], r: usize)
+    requires { ⌜ 8 * r + 7 < length (now rows) ⌝ }
+    ensures { λ _. ⌜ now (rows .exit) ≡ Spec.putTag (now (s .entry)) r (now (rows .entry)) ⌝ }
+{
+    if word(rows, r, 0) == 5 {
+        let link = tag_link(s, rows, r);
+        rows[8 * r + 5] = link;
+    }
+}
+
+// Every discriminator.
+pub fn tag_rows(s: &[u8], rows: &mut [u32])
+    ensures { λ _. ⌜ now (rows .exit) ≡ Spec.putTags (now (s .entry)) (rowCount (now (rows .entry))) (now (rows .entry)) ⌝ }
+{
+    let n = rows.len() / ROW_WORDS;
+    let mut r = 0;
+    while r < n {
+        tag_row(s, rows, r);
+        r += 1;
+    }
+}
