@@ -1,0 +1,84 @@
+-- Definitions of each kind: what the code finds under the keys makes the rows of the body that the keys say.
+use Prim.Native.Nat.{ℕ, _+_}
+use native.Mathlib.Omega.{arith}
+use mathlib.Core.Path.{_≡_, refl, sym, ap, ap₂, _∙_}
+use mathlib.Core.Bool.{Bool, true, false, cond}
+use mathlib.Core.List.{List, map}
+use mathlib.Core.Option.{Option, none, some}
+use lib.ListN.{length-map}
+use Rattle.grammar.specs.Notation.{text}
+use Rattle.grammar.specs.Tree.{Json, Fields}
+use Rattle.grammar.specs.Machine.Schema.{schema}
+use Rattle.lookups.specs.Lookups.{FindsValue}
+use Rattle.rules.specs.Definitions.{Name, Data, Body, asNames, asMembers, asPairs, asData, asStructName, must, may}
+use Rattle.rules.specs.Definitions.{enumBody, structBody, alternateBody}
+use Rattle.rules.specs.Definitions.Data.{absent}
+use Rattle.rules.specs.Definitions.Body.{enum, struct, alternate}
+use Rattle.rules.specs.Values.{_>>=_, valueAt}
+use Rattle.rules.specs.SchemaTable.{dataLink}
+use Rattle.rules.specs.RawTable.{packed}
+use Rattle.definitions.specs.Places.{Found, NameWord, Links, BaseFits}
+use Rattle.definitions.specs.Parts.{valueRow, memberRow, pairRow, childRows, countedRows, CountedAt, FieldsAt, ListAt, BodyAt, bodyRows}
+use Rattle.definitions.proofs.Options.{then, must-then, never}
+use Rattle.definitions.proofs.CountLaws.{counted-rows}
+
+-- what stands under a key
+pub found-at : {s w : List ℕ} {name : List ℕ} {fs : Fields} {k r : ℕ} → FieldsAt s w fs k → FindsValue schema s w k name r → Found s w (valueAt name fs) r
+found-at {fs = fs} h g = record { small = h .small; level = h .level; found = g .told fs (h .level) (h .holds) }
+
+pub nowhere : {s w : List ℕ} {k : ℕ} (o : Option Json) → Found s w o k → k ≡ 0 → o ≡ none
+nowhere none f e = refl
+nowhere (some j) f e = absurd (omega (arith, f .found .0))
+
+-- a body that is a row and its children, whatever its kind
+counted-body : {A : Type 0} (f : A → List ℕ) (kind link n : ℕ) (name : Name) (body : List A → Body)
+    → ((l : List A) → bodyRows n name (body l) ≡ countedRows kind (name .start) (name .size) link (map f l)) → (shape : Json → Option (List A)) (o : Option Json)
+    → ((must shape o >>= λ l. some (body l)) >>= λ b. some (bodyRows n name b))
+    ≡ (must (λ j. shape j >>= λ l. some (map f l)) o >>= λ rs. some (countedRows kind (name .start) (name .size) link rs))
+counted-body f kind link n name body same shape o =
+    then body (λ b. some (bodyRows n name b)) (must shape o)
+    ∙ counted-rows f kind (name .start) (name .size) link (λ l. bodyRows n name (body l)) same (must shape o)
+    ∙ ap (λ (x : Option (List (List ℕ))). x >>= λ rs. some (countedRows kind (name .start) (name .size) link rs)) (sym (must-then (map f) shape o))
+
+pub list-counted : {s w : List ℕ} {kind link k v d start size : ℕ} → FindsValue schema s w k (text "data") d → NameWord w v 0 (λ n. n .start) start → NameWord w v 0 (λ n. n .size) size
+    → (o : Option (List ℕ)) → ListAt s w kind link k v o → CountedAt s w kind start size link d o
+list-counted {s} {w} {kind} {link} g a b o h =
+    record {
+      value = valueAt (text "data") (h .fs);
+      found = found-at (h .fields) g;
+      are =
+          h .are
+          ∙ ap₂ (λ (i j : ℕ). must (childRows (kind + 1)) (valueAt (text "data") (h .fs)) >>= λ rs. some (countedRows kind i j link rs)) (sym (a .told (h .name) (h .named)))
+          (sym (b .told (h .name) (h .named)));
+    }
+
+module _ {s w : List ℕ} {k v n : ℕ} where
+  list-of : {body : Fields → Option Body} (kind link : ℕ) (o : Option (List ℕ)) (h : BodyAt s w body k v n o)
+      → (body (h .fs) >>= λ b. some (bodyRows n (h .name) b))
+      ≡ (must (childRows (kind + 1)) (valueAt (text "data") (h .fs)) >>= λ rs. some (countedRows kind (h .name .start) (h .name .size) link rs)) → ListAt s w kind link k v o
+  list-of kind link o h e = record { fs = h .fs; fields = h .fields; name = h .name; named = h .named; are = h .are ∙ e }
+
+  pub enum-list : (o : Option (List ℕ)) → BodyAt s w enumBody k v n o → ListAt s w 1 0 k v o
+  enum-list o h = list-of 1 0 o h (counted-body valueRow 1 0 n (h .name) enum (λ l. rw (length-map l valueRow)) asNames (valueAt (text "data") (h .fs)))
+
+  pub alternate-list : (o : Option (List ℕ)) → BodyAt s w alternateBody k v n o → ListAt s w 7 0 k v o
+  alternate-list o h = list-of 7 0 o h (counted-body (pairRow 8) 7 0 n (h .name) alternate (λ l. rw (length-map l (pairRow 8))) asPairs (valueAt (text "data") (h .fs)))
+
+  pub struct-list : {base link : ℕ} {r : Bool} → FindsValue schema s w k (text "base") base → BaseFits w base r → r ≡ true → Links w base n link
+      → (o : Option (List ℕ)) → BodyAt s w structBody k v n o → ListAt s w 3 link k v o
+  struct-list {link = link} u e t l o h =
+      let b = valueAt (text "base") (h .fs) in
+      let f = found-at (h .fields) u in
+      let x = e .fits s b f t in
+      let y : link ≡ dataLink packed packed (λ _ m. packed m) n (x .0) = l .told s b f (x .0) (x .1) in
+      let z : may absent asStructName b ≡ some (x .0) = e .told s b f ∙ ap (λ (i : Bool). cond i (may absent asData b) none) t ∙ x .1 in
+      list-of 3 link o h
+      (ap (λ (i : Option Data). (must asMembers (valueAt (text "data") (h .fs)) >>= λ ms. i >>= λ b. some (struct b ms)) >>= λ b. some (bodyRows n (h .name) b)) z
+      ∙ counted-body memberRow 3 link n (h .name) (λ ms. struct (x .0) ms) (λ ms. rw (y, length-map ms memberRow)) asMembers (valueAt (text "data") (h .fs)))
+
+pub struct-refused : {s w : List ℕ} {k v n base : ℕ} {r : Bool} → FindsValue schema s w k (text "base") base → BaseFits w base r → r ≡ false
+    → (o : Option (List ℕ)) → BodyAt s w structBody k v n o → o ≡ none
+struct-refused {s} {n = n} u e t o h =
+    let b = valueAt (text "base") (h .fs) in
+    let z : may absent asStructName b ≡ none = e .told s b (found-at (h .fields) u) ∙ ap (λ (i : Bool). cond i (may absent asData b) none) t in
+    h .are ∙ rw z (ap (λ (i : Option Body). i >>= λ x. some (bodyRows n (h .name) x)) (never (must asMembers (valueAt (text "data") (h .fs)))))

@@ -1,0 +1,145 @@
+-- The kind of a definition: the kind key that it has, no key but those of the kind, and the body that they say.
+use Prim.Native.Nat.{ℕ}
+use mathlib.Core.Path.{_≡_, refl, sym, ap, _∙_, subst}
+use mathlib.Core.Bool.{Bool, true, false}
+use mathlib.Core.List.{List}
+use mathlib.Core.Option.{Option, none, some}
+use borrow.Author.Tests.{ne-eqb}
+use Rattle.grammar.specs.Notation.{text, all}
+use Rattle.grammar.specs.Tree.{Json, Fields}
+use Rattle.grammar.specs.Keys.{keysOf}
+use Rattle.grammar.specs.Machine.Schema.{schema}
+use Rattle.text.specs.Nodes.{node}
+use Rattle.lookups.specs.Lookups.{stringKind, FindsValue}
+use Rattle.rules.specs.Definitions.{Name, Body, Definition, only, commandBody, asDefinition}
+use Rattle.rules.specs.Values.{_>>=_, anyOf, valueAt}
+use Rattle.definitions.specs.declared.definitions.KindKey.{KindKey}
+use Rattle.definitions.specs.declared.definitions.KindKey.the-variants.{Key, NoKey}
+use Rattle.definitions.specs.Places.{Held, Found}
+use Rattle.definitions.specs.Parts.{FieldsAt, BodyAt, keysFor, bodyFor, bodyRows, rowsAt, OnlyKeys, kindOnly, KindAt, KindTold, FindsKind, DefinitionAt}
+use Rattle.definitions.proofs.NameLaws.{is-name, no-name}
+use Rattle.definitions.proofs.ShapeLaws.{held-there, as-object, no-object}
+use Rattle.definitions.proofs.BodyLaws.{found-at, nowhere}
+
+module _ {s w : List ℕ} {k v n : ℕ} where
+  pub body-kind : (kind x : ℕ) → kind ≡ x → (o : Option (List ℕ)) → BodyAt s w (bodyFor kind) k v n o → BodyAt s w (bodyFor x) k v n o
+  body-kind kind x e o h = subst (λ (i : ℕ). BodyAt s w (bodyFor i) k v n o) e h
+
+  pub body-last : (kind : ℕ) → (kind ≡ 1 → ⊥) → (kind ≡ 3 → ⊥) → (kind ≡ 5 → ⊥) → (kind ≡ 7 → ⊥) → (o : Option (List ℕ)) → BodyAt s w (bodyFor kind) k v n o → BodyAt s w commandBody k v n o
+  body-last kind a b c d o h =
+      record {
+        fs = h .fs;
+        fields = h .fields;
+        name = h .name;
+        named = h .named;
+        are = h .are ∙ rw (ne-eqb kind 1 a, ne-eqb kind 3 b, ne-eqb kind 5 c, ne-eqb kind 7 d) refl;
+      }
+
+-- a definition of that kind, by the tests on its name and its keys
+only-none : (ks : List (List ℕ)) (fs : Fields) (name : Name) (o : Option Body) → all (anyOf ks) (keysOf fs) ≡ false → only ks fs name o ≡ none
+only-none ks fs name none e = refl
+only-none ks fs name (some b) e = rw e
+
+only-body : (n : ℕ) (ks : List (List ℕ)) (fs : Fields) (name : Name) (o : Option Body) → all (anyOf ks) (keysOf fs) ≡ true
+    → (only ks fs name o >>= rowsAt n) ≡ (o >>= λ b. some (bodyRows n name b))
+only-body n ks fs name none e = refl
+only-body n ks fs name (some b) e = rw e
+
+module _ {s w : List ℕ} (kind : ℕ) {k v n : ℕ} {r : Bool} (q : r ≡ stringKind (node w v 0)) where
+  pub kind-no-name : r ≡ false → (o : Option (List ℕ)) → KindAt s w kind k v n o → o ≡ none
+  kind-no-name e o h = h .are ∙ rw (no-name (h .held) q e)
+
+  module _ {t : Bool} (u : r ≡ true) (g : OnlyKeys s w (keysFor kind) k t) where
+    pub kind-other-key : t ≡ false → (o : Option (List ℕ)) → KindAt s w kind k v n o → o ≡ none
+    kind-other-key e o h =
+        let x = is-name (h .held) q u in
+        h .are ∙ rw (x .is) (ap (λ (i : Option Definition). i >>= rowsAt n) (only-none (keysFor kind) (h .fs) (x .name) (bodyFor kind (h .fs)) (sym (g .told (h .fs) (h .fields)) ∙ e)))
+
+    pub kind-handed : t ≡ true → (o : Option (List ℕ)) → KindAt s w kind k v n o → BodyAt s w (bodyFor kind) k v n o
+    kind-handed e o h =
+        let x = is-name (h .held) q u in
+        record {
+          fs = h .fs;
+          fields = h .fields;
+          name = x .name;
+          named = x .named;
+          are = h .are ∙ rw (x .is) (only-body n (keysFor kind) (h .fs) (x .name) (bodyFor kind (h .fs)) (sym (g .told (h .fs) (h .fields)) ∙ e));
+        }
+
+-- the kind key
+pub record Somewhere (s w : List ℕ) (o : Option Json) (k : ℕ) : Type 0 where
+  pub value : Json
+  pub is : o ≡ some value
+  pub held : Held s w value k
+
+somewhere : {s w : List ℕ} {k : ℕ} (o : Option Json) → Found s w o k → (k ≡ 0 → ⊥) → Somewhere s w o k
+somewhere none f n = absurd (n (f .found))
+somewhere (some j) f n = record { value = j; is = refl; held = held-there f }
+
+absent-at : {s w name : List ℕ} {k r : ℕ} {fs : Fields} → FieldsAt s w fs k → FindsValue schema s w k name r → r ≡ 0 → valueAt name fs ≡ none
+absent-at {name = name} {fs = fs} h f e = nowhere (valueAt name fs) (found-at h f) e
+
+there-at : {s w name : List ℕ} {k r : ℕ} {fs : Fields} → FieldsAt s w fs k → FindsValue schema s w k name r → (r ≡ 0 → ⊥) → Somewhere s w (valueAt name fs) r
+there-at {name = name} {fs = fs} h f z = somewhere (valueAt name fs) (found-at h f) z
+
+-- a definition has the kind of the first kind key that it has
+module _ (fs : Fields) {j : Json} where
+  is-enum : valueAt (text "enum") fs ≡ some j → asDefinition fs ≡ kindOnly 1 fs j
+  is-enum e = rw e
+
+  module _ (a : valueAt (text "enum") fs ≡ none) where
+    is-struct : valueAt (text "struct") fs ≡ some j → asDefinition fs ≡ kindOnly 3 fs j
+    is-struct e = rw (a, e)
+
+    module _ (b : valueAt (text "struct") fs ≡ none) where
+      is-union : valueAt (text "union") fs ≡ some j → asDefinition fs ≡ kindOnly 5 fs j
+      is-union e = rw (a, b, e)
+
+      module _ (c : valueAt (text "union") fs ≡ none) where
+        is-alternate : valueAt (text "alternate") fs ≡ some j → asDefinition fs ≡ kindOnly 7 fs j
+        is-alternate e = rw (a, b, c, e)
+
+        is-command : valueAt (text "alternate") fs ≡ none → valueAt (text "command") fs ≡ some j → asDefinition fs ≡ kindOnly 9 fs j
+        is-command d e = rw (a, b, c, d, e)
+
+module _ {s w : List ℕ} {k e : ℕ} (f : FindsValue schema s w k (text "enum") e) where
+  pub kind-enum : (e ≡ 0 → ⊥) → FindsKind s w k (Key 1 e)
+  kind-enum z = record { told = λ fs h. let v = there-at h f z in (v .value, v .held, is-enum fs (v .is)) }
+
+  module _ {t : ℕ} (a : e ≡ 0) (g : FindsValue schema s w k (text "struct") t) where
+    pub kind-struct : (t ≡ 0 → ⊥) → FindsKind s w k (Key 3 t)
+    kind-struct z = record { told = λ fs h. let v = there-at h g z in (v .value, v .held, is-struct fs (absent-at h f a) (v .is)) }
+
+    module _ {u : ℕ} (b : t ≡ 0) (l : FindsValue schema s w k (text "union") u) where
+      pub kind-union : (u ≡ 0 → ⊥) → FindsKind s w k (Key 5 u)
+      kind-union z = record { told = λ fs h. let v = there-at h l z in (v .value, v .held, is-union fs (absent-at h f a) (absent-at h g b) (v .is)) }
+
+      module _ {x : ℕ} (c : u ≡ 0) (m : FindsValue schema s w k (text "alternate") x) where
+        pub kind-alternate : (x ≡ 0 → ⊥) → FindsKind s w k (Key 7 x)
+        kind-alternate z = record { told = λ fs h. let v = there-at h m z in (v .value, v .held, is-alternate fs (absent-at h f a) (absent-at h g b) (absent-at h l c) (v .is)) }
+
+        module _ {y : ℕ} (d : x ≡ 0) (p : FindsValue schema s w k (text "command") y) where
+          pub kind-command : (y ≡ 0 → ⊥) → FindsKind s w k (Key 9 y)
+          kind-command z =
+              record { told = λ fs h. let v = there-at h p z in (v .value, v .held, is-command fs (absent-at h f a) (absent-at h g b) (absent-at h l c) (absent-at h m d) (v .is)) }
+
+          pub kind-none : y ≡ 0 → FindsKind s w k NoKey
+          kind-none z = record { told = λ fs h. rw (absent-at h f a, absent-at h g b, absent-at h l c, absent-at h m d, absent-at h p z) }
+
+-- a top-level value
+module _ {s w : List ℕ} {k n x : ℕ} (e : x ≡ node w k 0) where
+  pub definition-no-object : (x ≡ 9 → ⊥) → (o : Option (List ℕ)) → DefinitionAt s w k n o → o ≡ none
+  definition-no-object z o h = h .are ∙ rw (no-object (h .value) (h .held) (λ q. z (e ∙ q)))
+
+  module _ {r : KindKey} (t : x ≡ 9) (g : FindsKind s w k r) where
+    pub definition-no-kind : r ≡ NoKey → (o : Option (List ℕ)) → DefinitionAt s w k n o → o ≡ none
+    definition-no-kind q o h =
+        let v = as-object (h .value) (h .held) (sym e ∙ t) in
+        let y : asDefinition (v .fs) ≡ none = subst (λ (i : KindKey). KindTold s w (v .fs) i) q (g .told (v .fs) (v .fields)) in
+        h .are ∙ rw (v .is) (ap (λ (i : Option Definition). i >>= rowsAt n) y)
+
+    pub definition-handed : {kind p : ℕ} → r ≡ Key kind p → (o : Option (List ℕ)) → DefinitionAt s w k n o → KindAt s w kind k p n o
+    definition-handed {kind} {p} q o h =
+        let v = as-object (h .value) (h .held) (sym e ∙ t) in
+        let y : KindTold s w (v .fs) (Key kind p) = subst (λ (i : KindKey). KindTold s w (v .fs) i) q (g .told (v .fs) (v .fields)) in
+        record { fs = v .fs; fields = v .fields; value = y .0; held = y .1; are = h .are ∙ rw (v .is) (ap (λ (i : Option Definition). i >>= rowsAt n) (y .2)) }

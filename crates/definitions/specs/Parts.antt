@@ -1,0 +1,180 @@
+-- Serves contracts: the rows of the parts of a definition, as functions of the trees that the nodes hold; no rows where the table of keys is broken.
+use Prim.Native.Nat.{ℕ, suc, _+_, _≤_}
+use mathlib.Core.Path.{_≡_}
+use mathlib.Core.Bool.{Bool, cond}
+use mathlib.Core.List.{List, [], _∷_, _++_, map}
+use mathlib.Core.Option.{Option, none, some}
+use lib.Dec.{eqb}
+use lib.ListN.{length}
+use Rattle.grammar.specs.Limits.{schema-bytes}
+use Rattle.grammar.specs.Notation.{text, all}
+use Rattle.grammar.specs.Tree.{Json, Fields}
+use Rattle.grammar.specs.Keys.{keysOf}
+use Rattle.grammar.specs.Machine.Schema.{schema}
+use Rattle.text.specs.Nodes.{next, HoldsFields}
+use Rattle.text.specs.Keys.{KeyAt}
+use Rattle.rules.specs.Definitions.{Name, Member, Pair, Body, Definition, quoted, starred, memberOf, asName, asType, asNames, asMembers, asPairs, asData, must, may, only}
+use Rattle.rules.specs.Definitions.{enumBody, structBody, unionBody, alternateBody, commandBody, asDefinition}
+use Rattle.rules.specs.Definitions.Data.{absent}
+use Rattle.rules.specs.Definitions.Body.{union}
+use Rattle.rules.specs.Values.{_>>=_, asFields, anyOf, valueAt}
+use Rattle.rules.specs.SchemaTable.{row, concat, flag, isList, typeOf, dataLink, inlineStruct, rowsOf}
+use Rattle.rules.specs.RawTable.{packed}
+use Rattle.definitions.specs.declared.definitions.KindKey.{KindKey}
+use Rattle.definitions.specs.declared.definitions.KindKey.the-variants.{Key, NoKey}
+use Rattle.definitions.specs.Places.{Held, Found, Keyed, Named}
+
+-- one child: a value of an enum, a member, a branch (6) or an alternative (8)
+abbrev pub valueRow : Name → List ℕ
+valueRow v = row 2 v 0 0 0 0
+
+abbrev pub memberRow : Member → List ℕ
+memberRow m = row 4 (m .name) (typeOf packed packed (λ _ n. packed n) (m .type)) (flag (isList (m .type))) (flag (m .optional)) 0
+
+abbrev pub pairRow : ℕ → Pair → List ℕ
+pairRow kind p = row kind (p .name) (packed (p .type)) 0 0 0
+
+-- the children that a value lists, by the kind of their rows
+abbrev pub childRows : ℕ → Json → Option (List (List ℕ))
+childRows kind j =
+    cond (eqb kind 2) (asNames j >>= λ vs. some (map valueRow vs))
+    (cond (eqb kind 4) (asMembers j >>= λ ms. some (map memberRow ms)) (asPairs j >>= λ ps. some (map (pairRow kind) ps)))
+
+pub record ValueAt (s w : List ℕ) (a : ℕ) (o : Option (List ℕ)) : Type 0 where
+  pub value : Json
+  pub held : Held s w value a
+  pub are : o ≡ (asName value >>= λ v. some (valueRow v))
+
+pub record FieldAt (s w : List ℕ) (f : ℕ → ℕ → List ℕ → Json → Option (List ℕ)) (a : ℕ) (o : Option (List ℕ)) : Type 0 where
+  pub start : ℕ
+  pub end : ℕ
+  pub key : List ℕ
+  pub value : Json
+  pub keyed : Keyed s w a start end key
+  pub held : Held s w value (suc a)
+  pub are : o ≡ f start end key value
+
+abbrev pub memberField : ℕ → ℕ → List ℕ → Json → Option (List ℕ)
+memberField x e key j = asType j >>= λ t. some (memberRow (memberOf x e (starred key) t))
+
+abbrev pub pairField : ℕ → ℕ → ℕ → List ℕ → Json → Option (List ℕ)
+pairField kind x e key j = asName j >>= λ t. some (pairRow kind (record { name = quoted x e; type = t }))
+
+pub data ChildAt (s w : List ℕ) (kind a : ℕ) (o : Option (List ℕ)) : Type 0 where
+  value : kind ≡ 2 → ValueAt s w a o → ChildAt s w kind a o
+  member : kind ≡ 4 → FieldAt s w memberField a o → ChildAt s w kind a o
+  pair : (kind ≡ 2 → ⊥) → (kind ≡ 4 → ⊥) → FieldAt s w (pairField kind) a o → ChildAt s w kind a o
+
+-- the children that the value at node k lists
+pub record ChildrenAt (s w : List ℕ) (kind k : ℕ) (o : Option (List ℕ)) : Type 0 where
+  pub value : Option Json
+  pub found : Found s w value k
+  pub are : o ≡ (must (childRows kind) value >>= λ rs. some (concat rs))
+
+-- a row that counts the children after it
+abbrev pub countedRows : ℕ → ℕ → ℕ → ℕ → List (List ℕ) → List ℕ
+countedRows kind start size link rs = (kind ∷ start ∷ size ∷ length rs ∷ link ∷ 0 ∷ 0 ∷ 0 ∷ []) ++ concat rs
+
+pub record CountedAt (s w : List ℕ) (kind start size link k : ℕ) (o : Option (List ℕ)) : Type 0 where
+  pub value : Option Json
+  pub found : Found s w value k
+  pub are : o ≡ (must (childRows (kind + 1)) value >>= λ rs. some (countedRows kind start size link rs))
+
+-- the inline struct of a base or of data
+pub record InlineAt (s w : List ℕ) (k : ℕ) (o : Option (List ℕ)) : Type 0 where
+  pub value : Option Json
+  pub found : Found s w value k
+  pub are : o ≡ (may absent asData value >>= λ d. some (inlineStruct packed packed (λ _ n. packed n) d))
+
+-- the rows of a definition at row n
+abbrev pub bodyRows : ℕ → Name → Body → List ℕ
+bodyRows n name b = rowsOf packed packed (λ _ m. packed m) n name b
+
+abbrev pub rowsAt : ℕ → Definition → Option (List ℕ)
+rowsAt n d = some (bodyRows n (d .name) (d .body))
+
+-- the fields of the object at node k
+pub record FieldsAt (s w : List ℕ) (fs : Fields) (k : ℕ) : Type 0 where
+  pub small : length s ≤ schema-bytes
+  pub level : ℕ
+  pub holds : HoldsFields schema s w fs level (suc k) (next w k)
+
+-- a row of that kind with the name at node v and a link, and the children under the key `data` of the object at node k
+pub record ListAt (s w : List ℕ) (kind link k v : ℕ) (o : Option (List ℕ)) : Type 0 where
+  pub fs : Fields
+  pub fields : FieldsAt s w fs k
+  pub name : Name
+  pub named : Named w v 0 name
+  pub are : o ≡ (must (childRows (kind + 1)) (valueAt (text "data") fs) >>= λ rs. some (countedRows kind (name .start) (name .size) link rs))
+
+-- the object at node k, whose name stands at node v, as a definition of one kind
+pub record BodyAt (s w : List ℕ) (body : Fields → Option Body) (k v n : ℕ) (o : Option (List ℕ)) : Type 0 where
+  pub fs : Fields
+  pub fields : FieldsAt s w fs k
+  pub name : Name
+  pub named : Named w v 0 name
+  pub are : o ≡ (body fs >>= λ b. some (bodyRows n name b))
+
+-- the rows of a union and of a command, out of what their keys have
+pub record UnionAt (s w : List ℕ) (v b t d n : ℕ) (o : Option (List ℕ)) : Type 0 where
+  pub base : Option Json
+  pub base-found : Found s w base b
+  pub branches : Option Json
+  pub branches-found : Found s w branches d
+  pub tag : Name
+  pub tagged : Named w t 0 tag
+  pub name : Name
+  pub named : Named w v 0 name
+  pub are : o ≡ (may absent asData base >>= λ x. must asPairs branches >>= λ ps. some (bodyRows n name (union x tag ps)))
+
+pub record CommandAt (s w : List ℕ) (v d n oob place list : ℕ) (o : Option (List ℕ)) : Type 0 where
+  pub value : Option Json
+  pub found : Found s w value d
+  pub name : Name
+  pub named : Named w v 0 name
+  pub are : o ≡ (may absent asData value >>= λ x. some (row 9 name (dataLink packed packed (λ _ m. packed m) n x) oob place list ++ inlineStruct packed packed (λ _ m. packed m) x))
+
+-- a kind's keys, the kind key first, and what they say
+abbrev pub byKind : {A : Type 0} → ℕ → A → A → A → A → A → A
+byKind kind e t u a c = cond (eqb kind 1) e (cond (eqb kind 3) t (cond (eqb kind 5) u (cond (eqb kind 7) a c)))
+
+abbrev pub keysFor : ℕ → List (List ℕ)
+keysFor kind =
+    byKind kind (text "enum" ∷ text "data" ∷ []) (text "struct" ∷ text "data" ∷ text "base" ∷ []) (text "union" ∷ text "base" ∷ text "discriminator" ∷ text "data" ∷ [])
+    (text "alternate" ∷ text "data" ∷ []) (text "command" ∷ text "data" ∷ text "returns" ∷ text "allow-oob" ∷ [])
+
+abbrev pub bodyFor : ℕ → Fields → Option Body
+bodyFor kind fs = byKind kind (enumBody fs) (structBody fs) (unionBody fs) (alternateBody fs) (commandBody fs)
+
+-- the key at node a is one of these
+pub record KeyIn (s w : List ℕ) (ks : List (List ℕ)) (a : ℕ) (r : Bool) : Type 0 where
+  pub told : (key : List ℕ) → KeyAt schema s w a key → r ≡ anyOf ks key
+
+-- all keys of the object at node k are
+pub record OnlyKeys (s w : List ℕ) (ks : List (List ℕ)) (k : ℕ) (r : Bool) : Type 0 where
+  pub told : (fs : Fields) → FieldsAt s w fs k → r ≡ all (anyOf ks) (keysOf fs)
+
+-- a definition whose kind key has the value at node v
+abbrev pub kindOnly : ℕ → Fields → Json → Option Definition
+kindOnly kind fs j = asName j >>= λ n. only (keysFor kind) fs n (bodyFor kind fs)
+
+pub record KindAt (s w : List ℕ) (kind k v n : ℕ) (o : Option (List ℕ)) : Type 0 where
+  pub fs : Fields
+  pub fields : FieldsAt s w fs k
+  pub value : Json
+  pub held : Held s w value v
+  pub are : o ≡ (kindOnly kind fs value >>= rowsAt n)
+
+-- the kind key of the object at node k: its kind and the node of its value
+abbrev pub KindTold : List ℕ → List ℕ → Fields → KindKey → Type 0
+KindTold s w fs (Key kind v) = (j : Json) × Held s w j v × (asDefinition fs ≡ kindOnly kind fs j)
+KindTold s w fs NoKey = asDefinition fs ≡ none
+
+pub record FindsKind (s w : List ℕ) (k : ℕ) (r : KindKey) : Type 0 where
+  pub told : (fs : Fields) → FieldsAt s w fs k → KindTold s w fs r
+
+-- the value at node k as a definition at row n
+pub record DefinitionAt (s w : List ℕ) (k n : ℕ) (o : Option (List ℕ)) : Type 0 where
+  pub value : Json
+  pub held : Held s w value k
+  pub are : o ≡ (asFields value >>= asDefinition >>= rowsAt n)

@@ -1,0 +1,143 @@
+// A definition of each kind: its keys' values, its row and the rows after it. The object stands at node k, its name at node v.
+use crate::children::put_children;
+use crate::children::put_counted;
+use crate::children::put_inline;
+use crate::rows::Put;
+use crate::rows::put_named_row;
+use crate::shapes::FlagRead;
+use crate::shapes::TypeRead;
+use crate::shapes::base_fits;
+use crate::shapes::data_link;
+use crate::shapes::take_flag;
+use crate::shapes::take_return;
+use crate::values::name_size;
+use crate::values::name_start;
+use crate::values::name_word;
+use lookups::values::is_string;
+use lookups::values::value_at;
+ghost use Prim.Native.Nat.{_^_, _<_};
+ghost use Rattle.rules.specs.Definitions.{structBody, unionBody, commandBody};
+ghost use Rattle.definitions.specs.Written.{PutsRows};
+ghost use Rattle.definitions.specs.Parts.{ListAt, BodyAt, UnionAt, CommandAt};
+
+// A row of that kind with the name and a link, and the children under its key `data`.
+pub fn put_list(
+    s: &[u8],
+    nodes: &[u32],
+    k: usize,
+    v: usize,
+    rows: &mut [u32],
+    n: usize,
+    kind: u32,
+    link: u32,
+) -> Put
+    requires { ⌜ (n < 2 ^ 31) × (kind < 8) ⌝ }
+    ensures { λ r. ⌜ PutsRows (ListAt (now (s .entry)) (now (nodes .entry)) kind link k v) (now (rows .entry)) (now (rows .exit)) n (2 ^ 34) r ⌝ }
+{
+    let d = value_at(s, true, nodes, k, b"data");
+    let start = name_start(nodes, v, 0);
+    let size = name_size(nodes, v, 0);
+    put_counted(s, nodes, d, rows, n, kind, start, size, link)
+}
+
+pub fn put_struct(s: &[u8], nodes: &[u32], k: usize, v: usize, rows: &mut [u32], n: usize) -> Put
+    requires { ⌜ n < 2 ^ 31 ⌝ }
+    ensures { λ r. ⌜ PutsRows (BodyAt (now (s .entry)) (now (nodes .entry)) structBody k v n) (now (rows .entry)) (now (rows .exit)) n (2 ^ 34) r ⌝ }
+{
+    let b = value_at(s, true, nodes, k, b"base");
+    if !base_fits(nodes, b) {
+        return Put::Refused;
+    }
+    let link = data_link(nodes, b, n);
+    put_list(s, nodes, k, v, rows, n, 3, link)
+}
+
+// The rows of a union whose base, discriminator and branches stand at nodes b, t and d.
+fn put_union_rows(
+    s: &[u8],
+    nodes: &[u32],
+    v: usize,
+    b: usize,
+    t: usize,
+    d: usize,
+    rows: &mut [u32],
+    n: usize,
+) -> Put
+    requires { ⌜ n < 2 ^ 31 ⌝ }
+    ensures { λ r. ⌜ PutsRows (UnionAt (now (s .entry)) (now (nodes .entry)) v b t d n) (now (rows .entry)) (now (rows .exit)) n (2 ^ 34) r ⌝ }
+{
+    let p = put_inline(s, nodes, b, rows, n + 1);
+    let Put::Rows(first) = p else {
+        return Put::Refused;
+    };
+    let q = put_children(s, nodes, d, 6, rows, first);
+    let Put::Rows(m) = q else {
+        return Put::Refused;
+    };
+    let count = (m - first) as u32;
+    let link = data_link(nodes, b, n);
+    let tag = name_word(nodes, t);
+    put_named_row(nodes, v, 0, rows, n, 5, link, count, tag, 0);
+    Put::Rows(m)
+}
+
+pub fn put_union(s: &[u8], nodes: &[u32], k: usize, v: usize, rows: &mut [u32], n: usize) -> Put
+    requires { ⌜ n < 2 ^ 31 ⌝ }
+    ensures { λ r. ⌜ PutsRows (BodyAt (now (s .entry)) (now (nodes .entry)) unionBody k v n) (now (rows .entry)) (now (rows .exit)) n (2 ^ 34) r ⌝ }
+{
+    let b = value_at(s, true, nodes, k, b"base");
+    if b == 0 {
+        return Put::Refused;
+    }
+    let t = value_at(s, true, nodes, k, b"discriminator");
+    if t == 0 {
+        return Put::Refused;
+    }
+    if !is_string(nodes, t) {
+        return Put::Refused;
+    }
+    let d = value_at(s, true, nodes, k, b"data");
+    put_union_rows(s, nodes, v, b, t, d, rows, n)
+}
+
+// The rows of a command whose data stands at node d.
+fn put_command_rows(
+    s: &[u8],
+    nodes: &[u32],
+    v: usize,
+    d: usize,
+    rows: &mut [u32],
+    n: usize,
+    oob: u32,
+    place: u32,
+    list: u32,
+) -> Put
+    requires { ⌜ n < 2 ^ 31 ⌝ }
+    ensures { λ r. ⌜ PutsRows (CommandAt (now (s .entry)) (now (nodes .entry)) v d n oob place list) (now (rows .entry)) (now (rows .exit)) n (2 ^ 34) r ⌝ }
+{
+    let p = put_inline(s, nodes, d, rows, n + 1);
+    let Put::Rows(m) = p else {
+        return Put::Refused;
+    };
+    let link = data_link(nodes, d, n);
+    put_named_row(nodes, v, 0, rows, n, 9, link, oob, place, list);
+    Put::Rows(m)
+}
+
+pub fn put_command(s: &[u8], nodes: &[u32], k: usize, v: usize, rows: &mut [u32], n: usize) -> Put
+    requires { ⌜ n < 2 ^ 31 ⌝ }
+    ensures { λ r. ⌜ PutsRows (BodyAt (now (s .entry)) (now (nodes .entry)) commandBody k v n) (now (rows .entry)) (now (rows .exit)) n (2 ^ 34) r ⌝ }
+{
+    let d = value_at(s, true, nodes, k, b"data");
+    let returns = value_at(s, true, nodes, k, b"returns");
+    let t = take_return(nodes, returns);
+    let TypeRead::Taken(place, list) = t else {
+        return Put::Refused;
+    };
+    let flag = value_at(s, true, nodes, k, b"allow-oob");
+    let f = take_flag(nodes, flag);
+    let FlagRead::Flag(oob) = f else {
+        return Put::Refused;
+    };
+    put_command_rows(s, nodes, v, d, rows, n, oob, place, list)
+}

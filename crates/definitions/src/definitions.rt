@@ -1,0 +1,132 @@
+// Definitions out of nodes, by the table of keys, as rows in which a name that refers is one word.
+use crate::bodies::put_command;
+use crate::bodies::put_list;
+use crate::bodies::put_struct;
+use crate::bodies::put_union;
+use crate::keys::only_keys;
+use crate::rows::Put;
+use lookups::values::is_string;
+use lookups::values::value_at;
+use text::nodes::node_number;
+use text::nodes::node_word;
+ghost use Prim.Native.Nat.{_^_, _<_};
+ghost use Rattle.definitions.specs.Puts.{PutsDefinitions};
+ghost use Rattle.definitions.specs.Written.{PutsRows};
+ghost use Rattle.definitions.specs.Parts.{BodyAt, FindsKind, KindAt, DefinitionAt, bodyFor};
+
+// The row kind that a kind key says, and the node of its value.
+pub enum KindKey {
+    Key(u32, usize),
+    NoKey,
+}
+
+// The kind key of the object at node k. With two of them, one is outside the other's keys.
+fn kind_key(s: &[u8], nodes: &[u32], k: usize) -> KindKey
+    ensures { λ r. ⌜ FindsKind (now (s .entry)) (now (nodes .entry)) k r ⌝ }
+{
+    let e = value_at(s, true, nodes, k, b"enum");
+    if e != 0 {
+        return KindKey::Key(1, e);
+    }
+    let t = value_at(s, true, nodes, k, b"struct");
+    if t != 0 {
+        return KindKey::Key(3, t);
+    }
+    let u = value_at(s, true, nodes, k, b"union");
+    if u != 0 {
+        return KindKey::Key(5, u);
+    }
+    let a = value_at(s, true, nodes, k, b"alternate");
+    if a != 0 {
+        return KindKey::Key(7, a);
+    }
+    let c = value_at(s, true, nodes, k, b"command");
+    if c != 0 {
+        return KindKey::Key(9, c);
+    }
+    KindKey::NoKey
+}
+
+// The object at node k, whose name stands at node v, as a definition of that row kind.
+fn put_body(
+    s: &[u8],
+    nodes: &[u32],
+    k: usize,
+    kind: u32,
+    v: usize,
+    rows: &mut [u32],
+    n: usize,
+) -> Put
+    requires { ⌜ n < 2 ^ 31 ⌝ }
+    ensures { λ r. ⌜ PutsRows (BodyAt (now (s .entry)) (now (nodes .entry)) (bodyFor kind) k v n) (now (rows .entry)) (now (rows .exit)) n (2 ^ 34) r ⌝ }
+{
+    match kind {
+        1 => put_list(s, nodes, k, v, rows, n, 1, 0),
+        3 => put_struct(s, nodes, k, v, rows, n),
+        5 => put_union(s, nodes, k, v, rows, n),
+        7 => put_list(s, nodes, k, v, rows, n, 7, 0),
+        _ => put_command(s, nodes, k, v, rows, n),
+    }
+}
+
+// The same, if the value at node v is a name and there is no key but those of the kind.
+fn put_kind(
+    s: &[u8],
+    nodes: &[u32],
+    k: usize,
+    kind: u32,
+    v: usize,
+    rows: &mut [u32],
+    n: usize,
+) -> Put
+    requires { ⌜ n < 2 ^ 31 ⌝ }
+    ensures { λ r. ⌜ PutsRows (KindAt (now (s .entry)) (now (nodes .entry)) kind k v n) (now (rows .entry)) (now (rows .exit)) n (2 ^ 34) r ⌝ }
+{
+    if !is_string(nodes, v) {
+        return Put::Refused;
+    }
+    if !only_keys(s, nodes, k, kind) {
+        return Put::Refused;
+    }
+    put_body(s, nodes, k, kind, v, rows, n)
+}
+
+// The definition that is the value at node k, from row n on.
+fn put_definition(s: &[u8], nodes: &[u32], k: usize, rows: &mut [u32], n: usize) -> Put
+    requires { ⌜ n < 2 ^ 31 ⌝ }
+    ensures { λ r. ⌜ PutsRows (DefinitionAt (now (s .entry)) (now (nodes .entry)) k n) (now (rows .entry)) (now (rows .exit)) n (2 ^ 34) r ⌝ }
+{
+    if node_word(nodes, k, 0) != 9 {
+        return Put::Refused;
+    }
+    let key = kind_key(s, nodes, k);
+    let KindKey::Key(kind, v) = key else {
+        return Put::Refused;
+    };
+    put_kind(s, nodes, k, kind, v, rows, n)
+}
+
+// The definitions of the objects from node 0 up to `count`, from row 0 on. Each row comes from a node of its own.
+pub fn put_definitions(s: &[u8], nodes: &[u32], count: usize, rows: &mut [u32]) -> Put
+    requires { ⌜ count < 2 ^ 31 ⌝ }
+    ensures { λ r. ⌜ PutsDefinitions (now (s .entry)) (now (nodes .entry)) (now (rows .entry)) (now (rows .exit)) count r ⌝ }
+{
+    let mut k = 0;
+    let mut n = 0;
+    while k < count {
+        let p = put_definition(s, nodes, k, rows, n);
+        let Put::Rows(m) = p else {
+            return Put::Refused;
+        };
+        let next = node_number(nodes, k, 3);
+        if next <= k {
+            return Put::Refused;
+        }
+        if next < m {
+            return Put::Refused;
+        }
+        k = next;
+        n = m;
+    }
+    Put::Rows(n)
+}

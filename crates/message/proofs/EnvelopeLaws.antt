@@ -1,0 +1,175 @@
+-- The envelope by its parts: no other key, the values under the keys, and what they are by the kinds of their nodes.
+use Prim.Native.Nat.{ℕ, zero, suc, _-_, _<_}
+use native.Mathlib.Omega.{arith}
+use mathlib.Core.Path.{_≡_, refl, sym, ap, _∙_, subst}
+use mathlib.Core.Logic.{_⊎_, inl, inr}
+use mathlib.Core.Bool.{Bool, true, false, cond}
+use mathlib.Core.List.{List}
+use mathlib.Core.Option.{Option, none, some}
+use lib.Dec.{eqb}
+use borrow.Author.Tests.{eqb-true, ne-eqb, eq-eqb}
+use Rattle.grammar.specs.Notation.{text, all}
+use Rattle.grammar.specs.Tree.{Scalar, Json, Fields, kindOf}
+use Rattle.grammar.specs.Tree.Scalar.{null, bool, num, str}
+use Rattle.grammar.specs.Tree.Json.{leaf, arr, obj}
+use Rattle.grammar.specs.Tree.Fields.{no-fields}
+use Rattle.grammar.specs.Tree.Kind.{string}
+use Rattle.grammar.specs.Keys.{keysOf}
+use Rattle.grammar.specs.Machine.Message.{message}
+use Rattle.rules.specs.Types.{sameKind}
+use Rattle.rules.specs.Values.{_>>=_, asString, valueAt, anyOf}
+use Rattle.rules.specs.Envelope.{Envelope, asArguments, asName, envelope}
+use Rattle.rules.proofs.Lists.{clash}
+use Rattle.text.specs.Nodes.{node, next, Holds, HoldsFields}
+use Rattle.text.proofs.KeyLaws.{scalar-not-9}
+use Rattle.lookups.specs.Lookups.{stringKind, ValueFound, FindsValue, OnlyKeys}
+use Rattle.lookups.proofs.NodeLaws.{string-node}
+use Rattle.message.specs.declared.envelope.Envelope as E
+use Rattle.message.specs.declared.envelope.Envelope.the-variants.{Call, Improper}
+use Rattle.message.specs.Envelopes.{envelopeKeys, callOf, properArguments, SaidAt, EnvelopeTold, ReadsEnvelope}
+
+-- a call by the value at a node
+module _ (w : List ℕ) {name : ℕ} (arguments : ℕ) (oob : Bool) where
+  pub no-name : name ≡ 0 → Improper ≡ callOf w name oob arguments
+  unfolding callOf
+  no-name e = rw (eq-eqb name 0 e) refl
+
+  pub not-string : (name ≡ 0 → ⊥) → stringKind (node w name 0) ≡ false → Improper ≡ callOf w name oob arguments
+  unfolding callOf
+  not-string h e = rw (ne-eqb name 0 h, e) refl
+
+  pub a-string : (name ≡ 0 → ⊥) → stringKind (node w name 0) ≡ true → Call name oob arguments ≡ callOf w name oob arguments
+  unfolding callOf
+  a-string h e = rw (ne-eqb name 0 h, e) refl
+
+pub absent : (w : List ℕ) {k : ℕ} → k ≡ 0 → true ≡ properArguments w k
+unfolding properArguments
+absent w {k} e = rw (eq-eqb k 0 e) refl
+
+pub present : (w : List ℕ) {k i : ℕ} → (k ≡ 0 → ⊥) → i ≡ node w k 0 → eqb i 9 ≡ properArguments w k
+unfolding properArguments
+present w {k} h e = rw (ne-eqb k 0 h) (ap (λ (n : ℕ). eqb n 9) e)
+
+module _ (m w : List ℕ) where
+  -- refused for what is said of an object
+  refused : ((a e : ℕ) (fs : Fields) (l : ℕ) → Holds message m w (obj a e fs) l 0 → envelope (obj a e fs) ≡ none) → ReadsEnvelope m w Improper
+  unfolding envelope
+  refused h = record { told = λ j l x. go j l x }
+    where
+      go : (j : Json) (l : ℕ) → Holds message m w j l 0 → EnvelopeTold m w (l - 1) (envelope j) Improper
+      go (leaf a e v) l x = refl
+      go (arr a e js) l x = refl
+      go (obj a e fs) l x = subst (λ (o : Option Envelope). EnvelopeTold m w (l - 1) o Improper) (sym (h a e fs l x)) refl
+
+  pub not-object : (node w 0 0 ≡ 9 → ⊥) → ReadsEnvelope m w Improper
+  not-object h = refused (λ a e fs l x. absurd (h (x .0 .has-kind)))
+
+  pub other-key : OnlyKeys message m w 0 envelopeKeys false → ReadsEnvelope m w Improper
+  unfolding envelope
+  other-key h = refused (λ a e fs l x. rw (sym (h .told fs (l - 1) (x .3))) refl)
+
+  module _ (l : ℕ) where
+    -- the value at node k is an object exactly when its kind says so
+    object-node : (j : Json) (k : ℕ) → Holds message m w j l k → eqb (node w k 0) 9 ≡ true → asArguments (some j) ≡ some j
+    object-node (leaf a e v) k h t = absurd (scalar-not-9 m a e v (sym (h .0 .has-kind) ∙ eqb-true (node w k 0) 9 t))
+    object-node (arr a e js) k h t = absurd (let u = eqb-true (node w k 0) 9 t in omega (arith, h .0 .has-kind))
+    object-node (obj a e fs) k h t = refl
+
+    not-object-node : (j : Json) (k : ℕ) → Holds message m w j l k → eqb (node w k 0) 9 ≡ false → asArguments (some j) ≡ none
+    not-object-node (leaf a e v) k h t = refl
+    not-object-node (arr a e js) k h t = refl
+    not-object-node (obj a e fs) k h t = absurd (clash (eq-eqb (node w k 0) 9 (h .0 .has-kind)) t)
+
+    -- what the arguments are, and where they stand
+    pub record ArgumentsAt (o : Option Json) (k : ℕ) : Type 0 where
+      pub value : Json
+      pub are : asArguments o ≡ some value
+      pub at : ((k ≡ 0) × (value ≡ obj 0 0 no-fields)) ⊎ ((0 < k) × Holds message m w value l k)
+
+    arguments-at : (o : Option Json) (k : ℕ) → ValueFound message m w l o k → properArguments w k ≡ true → ArgumentsAt o k
+    unfolding properArguments
+    arguments-at none k f t = record { value = obj 0 0 no-fields; are = refl; at = inl (f, refl) }
+    arguments-at (some j) k f t = record { value = j; are = object-node j k (f .1) (rw (ne-eqb k 0 (λ e. omega (arith, f .0))) at t); at = inr f }
+
+    arguments-not : (o : Option Json) (k : ℕ) → ValueFound message m w l o k → properArguments w k ≡ false → asArguments o ≡ none
+    unfolding properArguments
+    arguments-not none k f t = absurd (clash (sym (absent w f)) t)
+    arguments-not (some j) k f t = not-object-node j k (f .1) (rw (ne-eqb k 0 (λ e. omega (arith, f .0))) at t)
+
+    -- the name: a string, or no envelope
+    module _ (v : Option Json) (k : ℕ) (p : ArgumentsAt v k) where
+      say : List ℕ → Bool → Envelope
+      say cs oob = record { name = cs; outOfBand = oob; arguments = p .value }
+
+      said : (x : ℕ) (oob : Bool) (a e : ℕ) (cs : List ℕ) → Holds message m w (leaf a e (str cs)) l x → SaidAt m w l (say cs oob) (Call x oob k)
+      unfolding say
+      said x oob a e cs h =
+          record { name = x; arguments = k; is = refl; name-start = a; name-end = e; name-holds = h; arguments-hold = p .at }
+
+      abbrev named : Bool → List ℕ → Option Envelope
+      named oob cs = asArguments v >>= (λ a. some (record { name = cs; outOfBand = oob; arguments = a }))
+
+      -- an envelope by the value j at node x
+      by-name : (j : Json) (x : ℕ) (oob : Bool) → 0 < x → Holds message m w j l x → EnvelopeTold m w l (asString j >>= named oob) (callOf w x oob k)
+      unfolding callOf say
+      by-name (leaf a e null) x oob q h = rw (ne-eqb x 0 (λ e. omega arith), string-node message m w (leaf a e null) l x h) refl
+      by-name (leaf a e (bool b)) x oob q h = rw (ne-eqb x 0 (λ e. omega arith), string-node message m w (leaf a e (bool b)) l x h) refl
+      by-name (leaf a e (num i t)) x oob q h = rw (ne-eqb x 0 (λ e. omega arith), string-node message m w (leaf a e (num i t)) l x h) refl
+      by-name (leaf a e (str cs)) x oob q h = rw (ne-eqb x 0 (λ e. omega arith), string-node message m w (leaf a e (str cs)) l x h, p .are) (said x oob a e cs h)
+      by-name (arr a e js) x oob q h = rw (ne-eqb x 0 (λ e. omega arith), string-node message m w (arr a e js) l x h) refl
+      by-name (obj a e fs) x oob q h = rw (ne-eqb x 0 (λ e. omega arith), string-node message m w (obj a e fs) l x h) refl
+
+    -- the two keys that name a command: exactly one
+    by-keys : (ox oy v : Option Json) (x y k : ℕ) → ValueFound message m w l ox x → ValueFound message m w l oy y → ArgumentsAt v k
+        → EnvelopeTold m w l (asName ox oy v) (cond (eqb y 0) (callOf w x false k) (cond (eqb x 0) (callOf w y true k) Improper))
+    unfolding callOf
+    by-keys none none v x y k f g p = rw (eq-eqb y 0 g, eq-eqb x 0 f) refl
+    by-keys (some i) none v x y k f g p = rw (eq-eqb y 0 g) (by-name v k p i x false (f .0) (f .1))
+    by-keys none (some j) v x y k f g p = rw (ne-eqb y 0 (λ e. omega (arith, g .0)), eq-eqb x 0 f) (rw (ne-eqb y 0 (λ e. omega (arith, g .0))) at (by-name v k p j y true (g .0) (g .1)))
+    by-keys (some i) (some j) v x y k f g p = rw (ne-eqb y 0 (λ e. omega (arith, g .0)), ne-eqb x 0 (λ e. omega (arith, f .0))) refl
+
+    abbrev saying : Option Json → Bool → List ℕ → Option Envelope
+    saying v oob cs = asArguments v >>= λ a. some (record { name = cs; outOfBand = oob; arguments = a })
+
+    nothing-said : (v : Option Json) (oob : Bool) (o : Option (List ℕ)) → asArguments v ≡ none → (o >>= saying v oob) ≡ none
+    nothing-said v oob none e = refl
+    nothing-said v oob (some cs) e = rw e refl
+
+    no-arguments : (ox oy v : Option Json) → asArguments v ≡ none → asName ox oy v ≡ none
+    no-arguments none none v e = refl
+    no-arguments (some i) none v e = nothing-said v false (asString i) e
+    no-arguments none (some j) v e = nothing-said v true (asString j) e
+    no-arguments (some i) (some j) v e = refl
+
+  module _ {x y k : ℕ} (o : OnlyKeys message m w 0 envelopeKeys true) (f : FindsValue message m w 0 (text "execute") x)
+      (g : FindsValue message m w 0 (text "exec-oob") y) (h : FindsValue message m w 0 (text "arguments") k) where
+    pub bad-arguments : properArguments w k ≡ false → ReadsEnvelope m w Improper
+    unfolding envelope
+    bad-arguments t =
+        refused (λ a e fs l z.
+        rw (sym (o .told fs (l - 1) (z .3))) (no-arguments (l - 1) (valueAt (text "execute") fs) (valueAt (text "exec-oob") fs) (valueAt (text "arguments") fs)
+        (arguments-not (l - 1) (valueAt (text "arguments") fs) k (h .told fs (l - 1) (z .3)) t)))
+
+    -- the whole envelope
+    read-so : node w 0 0 ≡ 9 → properArguments w k ≡ true → ReadsEnvelope m w (cond (eqb y 0) (callOf w x false k) (cond (eqb x 0) (callOf w y true k) Improper))
+    unfolding envelope
+    read-so q t = record { told = λ j l z. go j l z }
+      where
+        go : (j : Json) (l : ℕ) → Holds message m w j l 0
+            → EnvelopeTold m w (l - 1) (envelope j) (cond (eqb y 0) (callOf w x false k) (cond (eqb x 0) (callOf w y true k) Improper))
+        go (leaf a e v) l z = absurd (scalar-not-9 m a e v (sym (z .0 .has-kind) ∙ q))
+        go (arr a e js) l z = absurd (omega (arith, z .0 .has-kind, q))
+        go (obj a e fs) l z =
+            let u = z .3 in
+            rw (sym (o .told fs (l - 1) u)) (by-keys (l - 1) (valueAt (text "execute") fs) (valueAt (text "exec-oob") fs) (valueAt (text "arguments") fs) x y k
+            (f .told fs (l - 1) u) (g .told fs (l - 1) u) (arguments-at (l - 1) (valueAt (text "arguments") fs) k (h .told fs (l - 1) u) t))
+
+    module _ (q : node w 0 0 ≡ 9) (t : properArguments w k ≡ true) where
+      pub in-band : {r : E.Envelope} → y ≡ 0 → r ≡ callOf w x false k → ReadsEnvelope m w r
+      in-band e p = subst (λ (z : E.Envelope). ReadsEnvelope m w z) (rw (eq-eqb y 0 e) (sym p)) (read-so q t)
+
+      pub both : (y ≡ 0 → ⊥) → (x ≡ 0 → ⊥) → ReadsEnvelope m w Improper
+      both e i = subst (λ (z : E.Envelope). ReadsEnvelope m w z) (rw (ne-eqb y 0 e, ne-eqb x 0 i) refl) (read-so q t)
+
+      pub out-of-band : {r : E.Envelope} → (y ≡ 0 → ⊥) → x ≡ 0 → r ≡ callOf w y true k → ReadsEnvelope m w r
+      out-of-band e i p = subst (λ (z : E.Envelope). ReadsEnvelope m w z) (rw (ne-eqb y 0 e, eq-eqb x 0 i) (sym p)) (read-so q t)

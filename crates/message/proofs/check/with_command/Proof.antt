@@ -1,0 +1,55 @@
+-- `check::with_command` meets its contract: allowed, read, held.
+use Rattle.table.proofs.Walks.{denied, granted}
+use Rattle.message.proofs.ArgumentLaws.{not-allowed, unread, unheld, held}
+use borrow.Author.Needs.{needs}
+use Rattle.message.proofs.check.with_command.Statement.{statement}
+use Rattle.message.proofs.check.with_command.Tie as tie
+
+may-use-requires : tie.Need-may-use-requires
+may-use-requires c κs = search needs
+
+returns : tie.Need-returns
+returns c = not-allowed (c .before .before .before .before .before .before .before .pre) (denied (c .before .may-use .ensures) (c .if1 .taken))
+
+read-arguments-requires : tie.Need-read-arguments-requires
+read-arguments-requires c κs = search needs
+
+enum-told : tie.Need-enum-told
+enum-told c = search needs
+
+enum-known-n : tie.Need-enum-known-n
+enum-known-n c = search needs
+
+same-length : tie.Need-same-length
+same-length c = search needs
+
+returns-2 : tie.Need-returns-2
+returns-2 c = unheld (c .before .before .before .before .before .before .before .before .before .before .before .before .before .before .before .pre) (granted (c .before .before .before .before .before .before .before .before .before .may-use .ensures) (c .before .before .before .before .before .before .before .before .if1 .left)) (c .before .before .before .before .before .before .read-arguments .ensures) (c .before .before .n .given .1) (search needs)
+
+same-length-2 : tie.Need-same-length-2
+same-length-2 c = search needs
+
+returns-3 : tie.Need-returns-3
+returns-3 c = unread (c .before .before .before .before .before .before .before .before .before .before .before .before .before .pre) (granted (c .before .before .before .before .before .before .before .may-use .ensures) (c .before .before .before .before .before .before .if1 .left)) (c .before .before .before .before .read-arguments .ensures) (c .enum-told .given .1)
+
+same-length-3 : tie.Need-same-length-3
+same-length-3 c = search needs
+
+returns-4 : tie.Need-returns-4
+returns-4 c = held (c .before .before .before .before .before .before .before .before .before .before .before .before .before .before .before .pre) (granted (c .before .before .before .before .before .before .before .before .before .may-use .ensures) (c .before .before .before .before .before .before .before .before .if1 .left)) (c .before .before .before .before .before .before .read-arguments .ensures) (c .before .before .n .given .1) (search needs)
+
+pub with-command-spec : {M : Type 1} → statement M
+with-command-spec =
+    tie.close
+    (tie.spec
+    may-use-requires
+    returns
+    read-arguments-requires
+    enum-told
+    enum-known-n
+    same-length
+    returns-2
+    same-length-2
+    returns-3
+    same-length-3
+    returns-4)

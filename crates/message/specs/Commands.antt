@@ -1,0 +1,27 @@
+-- Serves contracts: what the search for a command finds.
+use Prim.Native.Nat.{ℕ}
+use mathlib.Core.Path.{_≡_}
+use mathlib.Core.Bool.{Bool, _&&_}
+use mathlib.Core.List.{List}
+use mathlib.Core.Option.{Option, none, some}
+use Rattle.grammar.specs.Tree.Scalar.{str}
+use Rattle.grammar.specs.Tree.Json.{leaf}
+use Rattle.grammar.specs.Machine.Message.{message}
+use Rattle.rules.specs.Names.{sameName}
+use Rattle.rules.specs.Rows.{rowCount, isCommand, nameOf}
+use Rattle.rules.specs.Answers.{commandFrom}
+use Rattle.text.specs.Nodes.{Holds}
+use Rattle.message.specs.declared.commands.Command.{Command}
+use Rattle.message.specs.declared.commands.Command.the-variants.{Row, Unknown}
+
+abbrev pub asCommand : Option ℕ → Command
+asCommand none = Unknown
+asCommand (some c) = Row c
+
+-- row r is a command, and the string at node k means its name
+pub record NamesCommand (S T m w : List ℕ) (k r : ℕ) (b : Bool) : Type 0 where
+  pub told : (a e l : ℕ) (cs : List ℕ) → Holds message m w (leaf a e (str cs)) l k → b ≡ (isCommand T r && sameName (nameOf S T r) cs)
+
+-- the string at node k names the first command of that name
+pub record FindsCommand (S T m w : List ℕ) (k : ℕ) (r : Command) : Type 0 where
+  pub told : (a e l : ℕ) (cs : List ℕ) → Holds message m w (leaf a e (str cs)) l k → r ≡ asCommand (commandFrom S T cs 0 (rowCount T))

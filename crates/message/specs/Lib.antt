@@ -1,0 +1,4 @@
+-- What the contracts of the message call and its stages cite.
+pub mod Envelopes
+pub mod Commands
+pub mod Stages

@@ -1,0 +1,35 @@
+// The command that a message names.
+use lookups::values::node_means;
+use table::names::name_of;
+use table::rows::word;
+ghost use Rattle.message.specs.Commands.{NamesCommand, FindsCommand};
+
+pub enum Command {
+    Row(usize),
+    Unknown,
+}
+
+// Whether row r is a command whose name the string at node k means.
+fn is_named(schema: &[u8], rows: &[u32], m: &[u8], nodes: &[u32], k: usize, r: usize) -> bool
+    ensures { λ b. ⌜ NamesCommand (now (schema .entry)) (now (rows .entry)) (now (m .entry)) (now (nodes .entry)) k r b ⌝ }
+{
+    if word(rows, r, 0) != 9 {
+        return false;
+    }
+    node_means(m, false, nodes, k, name_of(schema, rows, r))
+}
+
+// The first command whose name the string at node k means.
+pub fn find_command(schema: &[u8], rows: &[u32], m: &[u8], nodes: &[u32], k: usize) -> Command
+    ensures { λ r. ⌜ FindsCommand (now (schema .entry)) (now (rows .entry)) (now (m .entry)) (now (nodes .entry)) k r ⌝ }
+{
+    let n = rows.len() / 8;
+    let mut r = 0;
+    while r < n {
+        if is_named(schema, rows, m, nodes, k, r) {
+            return Command::Row(r);
+        }
+        r += 1;
+    }
+    Command::Unknown
+}

@@ -1,0 +1,73 @@
+-- By which type a value is read: the type itself, or the first alternative of the value's kind.
+-- The idea: kinds are compared as columns of the grid; a type without a kind has no column.
+use Prim.Native.Nat.{ℕ, suc, _+_, _-_, _<_, _≤_}
+use mathlib.Core.Path.{_≡_, refl, sym, ap, _∙_}
+use mathlib.Core.List.{List}
+use mathlib.Core.Option.{Option, none, some}
+use native.Mathlib.Omega.{arith}
+use lib.Dec.{eqb}
+use borrow.Author.Tests.{eq-eqb, ne-eqb, le-leb, lt-leb}
+use Rattle.grammar.specs.Limits.{first-row}
+use Rattle.grammar.specs.Tree.{Kind, kindOf}
+use Rattle.rules.specs.Types.{column, sameKind}
+use Rattle.rules.specs.Rows.{upFrom, kind, typeRef, inlineRows, childCount, children, typeKind}
+use Rattle.rules.specs.Rules.{is}
+use Rattle.rules.specs.ReadingOf.{ofKind, fromAlternatives, via}
+use Rattle.table.specs.RuleParts.{columnOr6}
+use Rattle.table.proofs.Walks.{upFrom-on, upFrom-end}
+use Rattle.table.proofs.ChildLaws.{children-run}
+use Rattle.text.specs.Nodes.{node}
+use Rattle.readings.specs.Parts.{columnOf, AlternativeOf, TypeFor}
+use Rattle.readings.specs.declared.types.Via.{Via}
+use Rattle.readings.specs.declared.types.Via.the-variants.{Direct, Alternative, Missing}
+use Rattle.readings.proofs.BuiltInLaws.{column-small, node-column}
+
+is-column : (o : Option Kind) (k : Kind) → is o (λ j. sameKind j k) ≡ eqb (columnOr6 o) (column k)
+is-column none k = sym (ne-eqb 6 (column k) (omega (arith, column-small k)))
+is-column (some j) k = refl
+
+-- alternatives, from the first on: what is left to look at
+pub record AlternativesLeft (T : List ℕ) (r c i e : ℕ) : Type 0 where
+  pub left : (k : Kind) → column k ≡ c → ofKind T k (children T r) ≡ ofKind T k (upFrom i (e - i))
+
+pub alternatives-start : (T : List ℕ) {r c a n : ℕ} → a ≡ suc r + inlineRows T r → n ≡ childCount T r → AlternativesLeft T r c a (a + n)
+alternatives-start T {r} p q = record { left = λ k z. ap (ofKind T k) (children-run T r p q) }
+
+module _ {T : List ℕ} {r c i e : ℕ} (v : AlternativesLeft T r c i e) where
+  pub alternatives-end : e ≤ i → AlternativeOf T r c Missing
+  alternatives-end h = record { told = λ k z. sym (ap fromAlternatives (v .left k z) ∙ rw (upFrom-end i e h)) }
+
+  module _ (h : i < e) {t t′ y y′ : ℕ} (p : t ≡ typeRef T i) (p′ : t′ ≡ t) (q : y ≡ columnOr6 (typeKind T t′)) (q′ : y′ ≡ y) where
+    of-column : (k : Kind) → column k ≡ c → is (typeKind T (typeRef T i)) (λ j. sameKind j k) ≡ eqb y′ c
+    of-column k z =
+        is-column (typeKind T (typeRef T i)) k
+        ∙ ap (λ (x : ℕ). eqb (columnOr6 (typeKind T x)) (column k)) (sym (p′ ∙ p)) ∙ rw (← q, ← q′, z)
+
+    pub alternatives-hit : y′ ≡ c → AlternativeOf T r c (Alternative t)
+    alternatives-hit f = record { told = λ k z. sym (ap fromAlternatives (v .left k z) ∙ rw (upFrom-on i e h, of-column k z, eq-eqb y′ c f, ← p)) }
+
+    pub alternatives-on : (y′ ≡ c → ⊥) → AlternativesLeft T r c (i + 1) e
+    alternatives-on f = record { left = λ k z. v .left k z ∙ rw (upFrom-on i e h, of-column k z, ne-eqb y′ c f) }
+
+-- the type for a value at a node
+module _ (T w : List ℕ) {k t f : ℕ} where
+  pub direct-array : (f ≡ 0 → ⊥) → TypeFor T w k t f Direct
+  unfolding via
+  direct-array n = record { told = λ S m j l h. rw (ne-eqb f 0 n) }
+
+  module _ (z : f ≡ 0) where
+    pub direct-below : t < 16 → TypeFor T w k t f Direct
+    unfolding via
+    direct-below l = record { told = λ S m j x h. rw (z, lt-leb first-row t l) }
+
+    module _ (l : 16 ≤ t) {r y : ℕ} (p : r ≡ t - 16) (q : y ≡ kind T r) where
+      pub direct-other : (y ≡ 7 → ⊥) → TypeFor T w k t f Direct
+      unfolding via
+      direct-other n = record { told = λ S m j x h. rw (z, le-leb first-row t l, ← p, ← q, ne-eqb y 7 n) }
+
+      pub by-alternative : y ≡ 7 → {c d : ℕ} {x : Via} → c ≡ columnOf d → d ≡ node w k 0 → AlternativeOf T r c x → TypeFor T w k t f x
+      unfolding via
+      by-alternative e {c} {d} {x} u v g = record {
+        told = λ S m j i h.
+            g .told (kindOf j) (sym (u ∙ ap columnOf v ∙ node-column m w j i k h)) ∙ rw (z, le-leb first-row t l, ← p, ← q, e);
+      }

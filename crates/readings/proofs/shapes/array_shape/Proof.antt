@@ -1,0 +1,20 @@
+-- `shapes::array_shape` meets its contract.
+-- By the two words of the type.
+use Rattle.readings.proofs.ShapeLaws.{array-elements, array-other, array-misfits, array-alone}
+use Rattle.readings.proofs.shapes.array_shape.Statement.{statement}
+use Rattle.readings.proofs.shapes.array_shape.Tie as tie
+
+returns : tie.Need-returns
+returns c = array-elements (c .if1 .taken)
+
+returns-2 : tie.Need-returns-2
+returns-2 c = array-other (c .before .if1 .left) (c .if2 .taken)
+
+returns-3 : tie.Need-returns-3
+returns-3 c = array-misfits (c .before .before .if1 .left) (c .before .if2 .left) (c .if3 .taken)
+
+returns-4 : tie.Need-returns-4
+returns-4 c = array-alone (c .before .before .if1 .left) (c .before .if2 .left) (c .if3 .left)
+
+pub array-shape-spec : {M : Type 1} → statement M
+array-shape-spec = tie.close (tie.spec returns returns-2 returns-3 returns-4)

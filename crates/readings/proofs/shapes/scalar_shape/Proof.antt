@@ -1,0 +1,22 @@
+-- `shapes::scalar_shape` meets its contract.
+-- A scalar is no array.
+use borrow.Author.Tests.{not-true, not-false}
+use Rattle.readings.proofs.ShapeLaws.{scalar-array, scalar-misfits, scalar-alone}
+use borrow.Author.Needs.{needs}
+use Rattle.readings.proofs.shapes.scalar_shape.Statement.{statement}
+use Rattle.readings.proofs.shapes.scalar_shape.Tie as tie
+
+returns : tie.Need-returns
+returns c = scalar-array (c .if1 .taken)
+
+scalar-fits-requires : tie.Need-scalar-fits-requires
+scalar-fits-requires c κs = search needs
+
+returns-2 : tie.Need-returns-2
+returns-2 c = scalar-misfits (c .before .before .if1 .left) (c .before .scalar-fits .ensures) (not-true _ (c .if2 .taken))
+
+returns-3 : tie.Need-returns-3
+returns-3 c = scalar-alone (c .before .before .if1 .left) (c .before .scalar-fits .ensures) (not-false _ (c .if2 .left))
+
+pub scalar-shape-spec : {M : Type 1} → statement M
+scalar-shape-spec = tie.close (tie.spec returns scalar-fits-requires returns-2 returns-3)

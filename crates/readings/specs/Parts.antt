@@ -1,0 +1,94 @@
+-- Serves contracts: by which type a value is read and what it is read as there, for every value that the nodes hold.
+use Prim.Native.Nat.{ℕ}
+use mathlib.Core.Path.{_≡_}
+use mathlib.Core.Bool.{Bool, true}
+use mathlib.Core.List.{List, [], _∷_, _++_}
+use mathlib.Core.Option.{Option, none, some}
+use lib.ListN.{getD}
+use Rattle.grammar.specs.Tree.{Scalar, Json, Items, Fields, Kind, kindOf}
+use Rattle.grammar.specs.Tree.Scalar.{num}
+use Rattle.grammar.specs.Tree.Json.{leaf, arr, obj}
+use Rattle.grammar.specs.Machine.Message.{message}
+use Rattle.rules.specs.Types as Types
+use Rattle.rules.specs.Types.{column, takes, ranges, numberFits, builtInTakes}
+use Rattle.rules.specs.Rows.{children}
+use Rattle.rules.specs.Sound.{sound}
+use Rattle.rules.specs.Readings.{typed}
+use Rattle.rules.specs.ReadingOf as Reading
+use Rattle.rules.specs.ReadingOf.{under, ofKind, fromAlternatives, scalarFits, via, plainReading, itemsReading, fieldsReading}
+use Rattle.text.specs.Nodes.{Holds}
+use Rattle.readings.specs.Members.{FieldsAt, TwoStructs}
+use Rattle.readings.specs.declared.builtins.Range.{Range}
+use Rattle.readings.specs.declared.builtins.Range.the-variants.{From, Any}
+use Rattle.readings.specs.declared.types.Via.{Via}
+use Rattle.readings.specs.declared.types.Via.the-variants.{Direct, Alternative, Missing}
+use Rattle.readings.specs.declared.shapes.Shape.{Shape}
+use Rattle.readings.specs.declared.shapes.Shape.the-variants.{Alone, Elements, Members, Misfit}
+
+-- the grid's column of a node's kind, 6 for none
+abbrev pub columnOf : ℕ → ℕ
+columnOf k = getD (6 ∷ 5 ∷ 4 ∷ 4 ∷ 3 ∷ 3 ∷ 2 ∷ 2 ∷ 1 ∷ 0 ∷ []) k 6
+
+-- built-ins
+pub record TakesKind (b c : ℕ) (r : Bool) : Type 0 where
+  pub told : (k : Kind) → column k ≡ c → r ≡ takes b k
+
+abbrev pub rangeAs : Range → Option Types.Range
+rangeAs (From l h) = some (record { low = l; high = h })
+rangeAs Any = none
+
+pub record NumberFits (m w : List ℕ) (k b : ℕ) (r : Bool) : Type 0 where
+  pub told : (a e l : ℕ) (i : Bool) (token : List ℕ) → Holds message m w (leaf a e (num i token)) l k → r ≡ numberFits (getD (none ∷ ranges) b none) i token
+
+pub record BuiltInTakes (m w : List ℕ) (k b : ℕ) (r : Bool) : Type 0 where
+  pub told : (a e l : ℕ) (v : Scalar) → Holds message m w (leaf a e v) l k → r ≡ builtInTakes b v
+
+-- alternates
+abbrev pub viaAs : Via → Reading.Via
+viaAs Direct = Reading.Via.direct
+viaAs (Alternative u) = Reading.Via.alternative u
+viaAs Missing = Reading.Via.missing
+
+pub record AlternativeOf (T : List ℕ) (r c : ℕ) (x : Via) : Type 0 where
+  pub told : (k : Kind) → column k ≡ c → viaAs x ≡ fromAlternatives (ofKind T k (children T r))
+
+pub record TypeFor (T w : List ℕ) (k t f : ℕ) (x : Via) : Type 0 where
+  pub told : (S m : List ℕ) (j : Json) (l : ℕ) → Holds message m w j l k → viaAs x ≡ via S T (kindOf j) t f
+
+-- scalars
+pub record ScalarFits (S T m w : List ℕ) (k t : ℕ) (b : Bool) : Type 0 where
+  pub told : (a e l : ℕ) (v : Scalar) → Holds message m w (leaf a e v) l k → b ≡ scalarFits S T t v
+
+-- what a value is read as
+pub record AsElements (S T : List ℕ) (j : Json) (t f : ℕ) : Type 0 where
+  pub start : ℕ
+  pub end : ℕ
+  pub items : Items
+  pub is-array : j ≡ arr start end items
+  pub reading : plainReading S T j t f ≡ under (typed j t f) (itemsReading S T items t)
+
+pub record AsMembers (S T : List ℕ) (j : Json) (t f b c : ℕ) : Type 0 where
+  pub start : ℕ
+  pub end : ℕ
+  pub fields : Fields
+  pub is-object : j ≡ obj start end fields
+  pub structs : TwoStructs S T t b c fields
+  pub reading : plainReading S T j t f ≡ under (typed j t f) (fieldsReading S T fields (structs .base ++ structs .branch))
+
+abbrev pub ShapeTold : (S T : List ℕ) → Json → ℕ → ℕ → Shape → Type 0
+ShapeTold S T j t f Alone = plainReading S T j t f ≡ some (typed j t f ∷ [])
+ShapeTold S T j t f Elements = AsElements S T j t f
+ShapeTold S T j t f (Members b c) = AsMembers S T j t f b c
+ShapeTold S T j t f Misfit = plainReading S T j t f ≡ none
+
+pub record ScalarShape (S T m w : List ℕ) (k t f : ℕ) (x : Shape) : Type 0 where
+  pub told : (a e l : ℕ) (v : Scalar) → Holds message m w (leaf a e v) l k → ShapeTold S T (leaf a e v) t f x
+
+pub record ArrayShape (t f : ℕ) (x : Shape) : Type 0 where
+  pub told : (S T : List ℕ) (a e : ℕ) (js : Items) → ShapeTold S T (arr a e js) t f x
+
+pub record ObjectShape (S T m w : List ℕ) (k t f : ℕ) (x : Shape) : Type 0 where
+  pub told : (a e : ℕ) (fs : Fields) → sound S T ≡ true → FieldsAt m w k fs → ShapeTold S T (obj a e fs) t f x
+
+pub record ShapeAt (S T m w : List ℕ) (k t f : ℕ) (x : Shape) : Type 0 where
+  pub told : (j : Json) (l : ℕ) → sound S T ≡ true → Holds message m w j l k → ShapeTold S T j t f x

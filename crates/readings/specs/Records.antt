@@ -1,0 +1,41 @@
+-- What reading a value at a type writes and counts, by the definition of readings, over a sound table and nodes that hold the value.
+use Prim.Native.Nat.{ℕ, suc, _+_, _*_, _≤_}
+use mathlib.Core.Path.{_≡_}
+use mathlib.Core.Bool.{true, cond}
+use mathlib.Core.List.{List, [], _∷_}
+use mathlib.Core.Option.{Option, none, some}
+use lib.Dec.{leb}
+use lib.ListN.{length}
+use lib.Seq.{sets}
+use Rattle.grammar.specs.Limits.{record-words}
+use Rattle.grammar.specs.Tree.{Json}
+use Rattle.grammar.specs.Machine.Message.{message}
+use Rattle.rules.specs.Rows.{arguments}
+use Rattle.rules.specs.Sound.{sound}
+use Rattle.rules.specs.Readings.{Typed, recordOf}
+use Rattle.rules.specs.ReadingOf.{readingOf, argumentsReading}
+use Rattle.text.specs.Nodes.{Holds}
+use Rattle.readings.specs.declared.readings.Count.{Count}
+use Rattle.readings.specs.declared.readings.Count.the-variants.{Records, Nothing}
+
+-- the words after record n is written, if all of it fits
+unfoldable pub putRecord : List ℕ → ℕ → List ℕ → List ℕ
+putRecord w n xs = cond (leb (record-words * n + record-words) (length w)) (sets w (record-words * n) xs) w
+
+-- the words after the records of a reading are written, from record n on, as far as they fit
+unfoldable pub putAll : List ℕ → ℕ → List Typed → List ℕ
+putAll w n [] = w
+putAll w n (t ∷ ts) = putAll (putRecord w n (recordOf t)) (suc n) ts
+
+-- the count goes on past the room; without a reading the words are free
+abbrev pub ReadTold : List ℕ → List ℕ → ℕ → Option (List Typed) → Count → Type 0
+ReadTold old new n none r = (length new ≡ length old) × (r ≡ Nothing)
+ReadTold old new n (some ts) r = (new ≡ putAll old n ts) × (r ≡ Records (n + length ts))
+
+-- the value at node k, at the type reference t, as an array of it where f is 1, after n records
+pub record ReadsAt (S T m w old new : List ℕ) (k t f left n : ℕ) (r : Count) : Type 0 where
+  pub told : (j : Json) (l : ℕ) → sound S T ≡ true → Holds message m w j l k → l ≤ left → ReadTold old new n (readingOf S T j t f) r
+
+-- the arguments at node k of the command at row c
+pub record ReadsArgumentsAt (S T m w old new : List ℕ) (k c : ℕ) (r : Count) : Type 0 where
+  pub told : (j : Json) (l : ℕ) → sound S T ≡ true → Holds message m w j l k → l ≤ 32 → ReadTold old new 0 (argumentsReading S T (arguments T c) j) r

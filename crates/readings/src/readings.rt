@@ -1,0 +1,244 @@
+// Readings: a value reader and a member reader that call each other, the levels left falling.
+use crate::members::field_member;
+use crate::records::put_record;
+use crate::shapes::Shape;
+use crate::shapes::shape_at;
+use crate::types::FIRST_REFERENCE;
+use crate::types::Via;
+use crate::types::type_for;
+use rules::TABLE_ROWS;
+use table::rows::wide;
+use table::rows::word;
+use text::nodes::node_number;
+use text::nodes::node_word;
+ghost use mathlib.Core.Path.{_≡_};
+ghost use mathlib.Core.List.{[], _∷_};
+ghost use Prim.Native.Nat.{suc, _+_, _*_, _≤_, _<_, _^_};
+ghost use Rattle.text.specs.Nodes.{node};
+ghost use Rattle.readings.specs.Records.{putRecord, ReadsArgumentsAt};
+ghost use Rattle.readings.specs.Readers.{ReadsValue, ReadsPlain, ReadsItems, ReadsFields, IsEmpty};
+
+// The most levels of a message.
+const MESSAGE_LEVELS: usize = 32;
+
+// How many records there are now, or that there is no reading.
+pub enum Count {
+    Records(usize),
+    Nothing,
+}
+
+// The record of node k at a type.
+fn put_node_record(nodes: &[u32], k: usize, t: u32, array: u32, records: &mut [u32], n: usize)
+    ensures { λ _. ⌜ now (records .exit) ≡ putRecord (now (records .entry)) n (node (now (nodes .entry)) k 1 ∷ node (now (nodes .entry)) k 2 ∷ t ∷ array ∷ []) ⌝ }
+{
+    put_record(
+        records,
+        n,
+        node_word(nodes, k, 1),
+        node_word(nodes, k, 2),
+        t,
+        array,
+    );
+}
+
+// The value at node k, at the type reference t, as an array of it where `array` is 1, after n records.
+fn read_value(
+    schema: &[u8],
+    rows: &[u32],
+    m: &[u8],
+    nodes: &[u32],
+    k: usize,
+    t: u32,
+    array: u32,
+    left: usize,
+    records: &mut [u32],
+    n: usize,
+) -> Count
+    requires { ⌜ (k < 2 ^ 32) × (n ≤ 2 * k) ⌝ }
+    ensures { λ r. ⌜ ReadsValue (now (schema .entry)) (now (rows .entry)) (now (m .entry)) (now (nodes .entry)) (now (records .entry)) (now (records .exit)) k t array left n r ⌝ }
+{
+    match type_for(rows, nodes, k, t, array) {
+        Via::Missing => Count::Nothing,
+        Via::Direct => read_plain(schema, rows, m, nodes, k, t, array, left, records, n),
+        Via::Alternative(u) => {
+            put_node_record(nodes, k, t, array, records, n);
+            read_plain(schema, rows, m, nodes, k, u, array, left, records, n + 1)
+        }
+    }
+}
+
+// The same at a type that is no alternate.
+fn read_plain(
+    schema: &[u8],
+    rows: &[u32],
+    m: &[u8],
+    nodes: &[u32],
+    k: usize,
+    t: u32,
+    array: u32,
+    left: usize,
+    records: &mut [u32],
+    n: usize,
+) -> Count
+    requires { ⌜ (k < 2 ^ 32) × (n ≤ 2 * k + 1) ⌝ }
+    ensures { λ r. ⌜ ReadsPlain (now (schema .entry)) (now (rows .entry)) (now (m .entry)) (now (nodes .entry)) (now (records .entry)) (now (records .exit)) k t array left n r ⌝ }
+{
+    let shape = shape_at(schema, rows, m, nodes, k, t, array);
+    let c = n + 1;
+    put_node_record(nodes, k, t, array, records, n);
+    match shape {
+        Shape::Misfit => Count::Nothing,
+        Shape::Alone => Count::Records(c),
+        Shape::Elements => {
+            if left == 0 {
+                return Count::Nothing;
+            }
+            read_items(schema, rows, m, nodes, k, t, left - 1, records, c)
+        }
+        Shape::Members(base, branch) => {
+            if left == 0 {
+                return Count::Nothing;
+            }
+            read_fields(
+                schema,
+                rows,
+                m,
+                nodes,
+                k,
+                base,
+                branch,
+                left - 1,
+                records,
+                c,
+            )
+        }
+    }
+}
+
+// The elements of the array at node k.
+fn read_items(
+    schema: &[u8],
+    rows: &[u32],
+    m: &[u8],
+    nodes: &[u32],
+    k: usize,
+    t: u32,
+    left: usize,
+    records: &mut [u32],
+    n: usize,
+) -> Count
+    requires { ⌜ (k < 2 ^ 32) × (n ≤ 2 * suc k) ⌝ }
+    ensures { λ r. ⌜ ReadsItems (now (schema .entry)) (now (rows .entry)) (now (m .entry)) (now (nodes .entry)) (now (records .entry)) (now (records .exit)) k t left n r ⌝ }
+{
+    let end = node_number(nodes, k, 3);
+    let mut i = k + 1;
+    let mut c = n;
+    while i < end {
+        let v = read_value(schema, rows, m, nodes, i, t, 0, left, records, c);
+        let Count::Records(d) = v else {
+            return Count::Nothing;
+        };
+        let j = node_number(nodes, i, 3);
+        if j <= i {
+            return Count::Nothing;
+        }
+        c = d;
+        i = j;
+    }
+    if i != end {
+        return Count::Nothing;
+    }
+    Count::Records(c)
+}
+
+// The fields of the object at node k, each a member of one of two structs.
+fn read_fields(
+    schema: &[u8],
+    rows: &[u32],
+    m: &[u8],
+    nodes: &[u32],
+    k: usize,
+    base: u32,
+    branch: u32,
+    left: usize,
+    records: &mut [u32],
+    n: usize,
+) -> Count
+    requires { ⌜ (k < 2 ^ 32) × (n ≤ 2 * suc k) ⌝ }
+    ensures { λ r. ⌜ ReadsFields (now (schema .entry)) (now (rows .entry)) (now (m .entry)) (now (nodes .entry)) (now (records .entry)) (now (records .exit)) k base branch left n r ⌝ }
+{
+    let end = node_number(nodes, k, 3);
+    let mut a = k + 1;
+    let mut c = n;
+    while a < end {
+        let link = field_member(schema, rows, m, nodes, a, base, branch);
+        if link == 0 {
+            return Count::Nothing;
+        }
+        let at = a + 1;
+        let v = read_value(
+            schema,
+            rows,
+            m,
+            nodes,
+            at,
+            word(rows, link - 1, 3),
+            word(rows, link - 1, 4),
+            left,
+            records,
+            c,
+        );
+        let Count::Records(d) = v else {
+            return Count::Nothing;
+        };
+        let j = node_number(nodes, at, 3);
+        if j <= at {
+            return Count::Nothing;
+        }
+        c = d;
+        a = j;
+    }
+    if a != end {
+        return Count::Nothing;
+    }
+    Count::Records(c)
+}
+
+// Whether the value at node k is an object without fields.
+fn is_empty(nodes: &[u32], k: usize) -> bool
+    requires { ⌜ k < 2 ^ 32 ⌝ }
+    ensures { λ b. ⌜ IsEmpty (now (nodes .entry)) k b ⌝ }
+{
+    if node_word(nodes, k, 0) != 9 {
+        return false;
+    }
+    node_number(nodes, k, 3) == k + 1
+}
+
+// The arguments at node k of the command at row c.
+pub fn read_arguments(
+    schema: &[u8],
+    rows: &[u32],
+    m: &[u8],
+    nodes: &[u32],
+    k: usize,
+    c: usize,
+    records: &mut [u32],
+) -> Count
+    requires { ⌜ k < 2 ^ 32 ⌝ }
+    ensures { λ r. ⌜ ReadsArgumentsAt (now (schema .entry)) (now (rows .entry)) (now (m .entry)) (now (nodes .entry)) (now (records .entry)) (now (records .exit)) k c r ⌝ }
+{
+    let link = word(rows, c, 3);
+    if link == 0 {
+        if !is_empty(nodes, k) {
+            return Count::Nothing;
+        }
+        put_node_record(nodes, k, 0, 0, records, 0);
+        return Count::Records(1);
+    }
+    if TABLE_ROWS < wide(link) {
+        return Count::Nothing;
+    }
+    let t = link - 1 + FIRST_REFERENCE;
+    read_value(schema, rows, m, nodes, k, t, 0, MESSAGE_LEVELS, records, 0)
+}

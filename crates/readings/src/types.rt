@@ -1,0 +1,55 @@
+// By which type a value is read: the one given, or one alternative of an alternate.
+use crate::builtins::column;
+use rules::FIRST_ROW;
+use table::alternates::type_kind;
+use table::rows::child_count;
+use table::rows::first_child;
+use table::rows::wide;
+use table::rows::word;
+use text::nodes::node_word;
+ghost use Prim.Native.Nat.{_<_, _^_};
+ghost use Rattle.readings.specs.Parts.{AlternativeOf, TypeFor};
+
+// A type reference, a word of a row, from here on is to a row.
+pub const FIRST_REFERENCE: u32 = FIRST_ROW as u32;
+
+pub enum Via {
+    Direct,
+    Alternative(u32),
+    Missing,
+}
+
+// The first alternative of row r with the grid's column c.
+fn alternative(rows: &[u32], r: usize, c: usize) -> Via
+    requires { ⌜ r < 2 ^ 39 ⌝ }
+    ensures { λ x. ⌜ AlternativeOf (now (rows .entry)) r c x ⌝ }
+{
+    let a = first_child(rows, r);
+    let e = a + child_count(rows, r);
+    let mut i = a;
+    while i < e {
+        let t = word(rows, i, 3);
+        if wide(type_kind(rows, wide(t))) == c {
+            return Via::Alternative(t);
+        }
+        i += 1;
+    }
+    Via::Missing
+}
+
+// The type by which the value at node k is read, where it is asked for at the type reference t, as an array of it where `array` is 1.
+pub fn type_for(rows: &[u32], nodes: &[u32], k: usize, t: u32, array: u32) -> Via
+    ensures { λ x. ⌜ TypeFor (now (rows .entry)) (now (nodes .entry)) k t array x ⌝ }
+{
+    if array != 0 {
+        return Via::Direct;
+    }
+    if t < FIRST_REFERENCE {
+        return Via::Direct;
+    }
+    let r = wide(t - FIRST_REFERENCE);
+    if word(rows, r, 0) != 7 {
+        return Via::Direct;
+    }
+    alternative(rows, r, column(node_word(nodes, k, 0)))
+}

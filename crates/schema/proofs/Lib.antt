@@ -1,0 +1,3 @@
+-- Laws of the compile call.
+pub mod StageLaws
+pub mod TextLaws

@@ -1,0 +1,2 @@
+-- What the contracts of the compile call and its stages cite.
+pub mod Stages

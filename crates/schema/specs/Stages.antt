@@ -1,0 +1,72 @@
+-- Serves contracts: the outcome of a schema from one of the paper's numbers on, where no lower one applies.
+use Prim.Native.Nat.{ℕ, _*_, _/_, _≤_}
+use mathlib.Core.Path.{_≡_}
+use mathlib.Core.Bool.{Bool}
+use mathlib.Core.List.{List}
+use mathlib.Core.Option.{Option, some}
+use lib.ListN.{length, drop, replicate}
+use Rattle.grammar.specs.Limits.{schema-bytes, schema-levels, row-words}
+use Rattle.grammar.specs.Tree.{Items}
+use Rattle.grammar.specs.SchemaText.{SchemaText}
+use Rattle.grammar.specs.Machine.Schema.{schema, readSchema}
+use Rattle.rules.specs.declared.SchemaRefusal.{SchemaRefusal}
+use Rattle.rules.specs.declared.SchemaAnswer.{SchemaAnswer}
+use Rattle.rules.specs.Values.{_>>=_}
+use Rattle.rules.specs.Definitions.{Definition, definitions}
+use Rattle.rules.specs.SchemaTable.{table, allRefer}
+use Rattle.rules.specs.RawTable.{rawFrom}
+use Rattle.rules.specs.Answers.{SchemaResult, schemaRefusals, first, objectsIn, schemaTest, tableIn, schemaAnswered, schemaResult}
+use Rattle.text.specs.Nodes.{HoldsItems}
+
+-- the objects of the text, and their definitions
+unfoldable pub objects : List ℕ → Option Items
+objects S = objectsIn (readSchema S)
+
+unfoldable pub written : List ℕ → Option (List Definition)
+written S = objects S >>= definitions
+
+-- the outcome by the numbers xs alone
+unfoldable pub resultBy : List ℕ → ℕ → List SchemaRefusal → SchemaResult
+resultBy S room xs = schemaAnswered S room (tableIn S room (written S)) (first (schemaTest S room (objects S) (written S)) xs)
+
+-- the answer and the lent words are the outcome by the numbers after the first k
+pub record Answered (S : List ℕ) (k : ℕ) (old new : List ℕ) (r : SchemaAnswer) : Type 0 where
+  pub told : resultBy S (length old) (drop k schemaRefusals) ≡ record { answer = r; words = new }
+
+-- words that are all zero
+pub record Zero (w : List ℕ) : Type 0 where
+  pub told : w ≡ replicate (length w) 0
+
+-- the words are the table of the schema's definitions
+pub record IsTable (S T : List ℕ) : Type 0 where
+  pub ds : List Definition
+  pub are : written S ≡ some ds
+  pub rows : T ≡ table S ds
+  pub whole : length T ≡ row-words * (length T / row-words)
+
+-- whether every name of the schema's definitions that refers finds its row
+pub record Refers (S : List ℕ) (found : Bool) : Type 0 where
+  pub told : (ds : List Definition) → written S ≡ some ds → found ≡ allRefer S ds
+
+-- the nodes hold the objects of the schema's text
+pub record TextRead (S w : List ℕ) (count : ℕ) : Type 0 where
+  pub js : Items
+  pub text : SchemaText S js
+  pub holds : HoldsItems schema S w js schema-levels 0 count
+  pub few : 2 * count ≤ length S
+  pub short : length S ≤ schema-bytes
+
+-- the words are the raw rows of its definitions
+pub record RawRows (S raw : List ℕ) : Type 0 where
+  pub js : Items
+  pub text : SchemaText S js
+  pub ds : List Definition
+  pub are : definitions js ≡ some ds
+  pub rows : raw ≡ rawFrom 0 ds
+  pub whole : length raw ≡ row-words * (length raw / row-words)
+  pub few : length raw ≤ 4 * length S
+  pub short : length S ≤ schema-bytes
+
+-- the whole outcome
+pub record Compiles (S old new : List ℕ) (r : SchemaAnswer) : Type 0 where
+  pub told : schemaResult S (length old) ≡ record { answer = r; words = new }

@@ -1,0 +1,3 @@
+// The compile call: a schema's bytes into the table of its rows.
+pub mod compile;
+pub mod stages;

@@ -1,0 +1,74 @@
+// The stages of the compile call, from the table on: each number is judged over the whole schema before the next.
+use rules::ROW_WORDS;
+use rules::SchemaAnswer;
+use rules::SchemaRefusal;
+use rules::TABLE_ROWS;
+use table::alternates::good_alternates;
+use table::chains::good_chains;
+use table::definitions::distinct_names;
+use table::definitions::good_names;
+use table::returns::good_returns;
+use table::unions::good_unions;
+use words::copy;
+ghost use Prim.Native.Nat.{_*_, _≤_, _<_, _^_};
+ghost use lib.ListN.{length};
+ghost use Rattle.schema.specs.Stages.{Answered, Zero, IsTable, Refers};
+
+// Numbers 12 and 13, and the lent rows.
+fn hand_over(table: &[u32], rows: &mut [u32], schema: &[u8]) -> SchemaAnswer
+    requires { ⌜ (length (now table) < 2 ^ 32) × Zero (now rows) × IsTable (now schema) (now table) ⌝ }
+    ensures { λ r. ⌜ Answered (now (schema .entry)) 11 (now (rows .entry)) (now (rows .exit)) r ⌝ }
+{
+    let n = table.len() / ROW_WORDS;
+    if TABLE_ROWS < n {
+        return SchemaAnswer::Refused(SchemaRefusal::TooManyRows);
+    }
+    if rows.len() / ROW_WORDS < n {
+        return SchemaAnswer::Refused(SchemaRefusal::NoRoom);
+    }
+    copy(table, rows);
+    SchemaAnswer::Accepted(n)
+}
+
+// Numbers 8 to 11.
+fn judge_definitions(schema: &[u8], table: &[u32], rows: &mut [u32]) -> SchemaAnswer
+    requires { ⌜ (length (now table) < 2 ^ 32) × Zero (now rows) × IsTable (now schema) (now table) ⌝ }
+    ensures { λ r. ⌜ Answered (now (schema .entry)) 7 (now (rows .entry)) (now (rows .exit)) r ⌝ }
+{
+    if !good_chains(schema, table) {
+        return SchemaAnswer::Refused(SchemaRefusal::BadChain);
+    }
+    if !good_unions(schema, table) {
+        return SchemaAnswer::Refused(SchemaRefusal::BadUnion);
+    }
+    if !good_alternates(table) {
+        return SchemaAnswer::Refused(SchemaRefusal::BadAlternate);
+    }
+    if !good_returns(table) {
+        return SchemaAnswer::Refused(SchemaRefusal::BadReturn);
+    }
+    hand_over(table, rows, schema)
+}
+
+// Numbers 5 to 7; `found` says whether every name that refers found its row. The list lends two words for each row.
+pub fn judge(
+    schema: &[u8],
+    table: &[u32],
+    list: &mut [u32],
+    found: bool,
+    rows: &mut [u32],
+) -> SchemaAnswer
+    requires { ⌜ (length (now table) < 2 ^ 32) × (length (now table) ≤ 4 * length (now list)) × Zero (now rows) × IsTable (now schema) (now table) × Refers (now schema) found ⌝ }
+    ensures { λ r. ⌜ Answered (now (schema .entry)) 4 (now (rows .entry)) (now (rows .exit)) r ⌝ }
+{
+    if !good_names(schema, table) {
+        return SchemaAnswer::Refused(SchemaRefusal::BadName);
+    }
+    if !distinct_names(schema, table, list) {
+        return SchemaAnswer::Refused(SchemaRefusal::RepeatedName);
+    }
+    if !found {
+        return SchemaAnswer::Refused(SchemaRefusal::UnknownName);
+    }
+    judge_definitions(schema, table, rows)
+}
