@@ -5,3 +5,4 @@ pub mod StageLaws
 pub mod AnswerLaws
 pub mod CallLaws
 pub mod ArgumentLaws
+pub mod Demand3
