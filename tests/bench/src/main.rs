@@ -1,19 +1,23 @@
 //! How fast the product is beside ordinary Rust that does the same, measured in one run. One line for each thing done.
 //!
-//! To add a line: make its inputs, and hand `Line::measured` one closure for the product and one for Rust.
+//! To add a line: hand `line::measured` the inputs, one closure for the product and one for Rust.
 
 #![forbid(unsafe_code)]
 
+mod calls;
+mod inputs;
 mod line;
 mod texts;
 
 use generate::Random;
+use inputs::Inputs;
 use line::Line;
 
 fn main() {
     let mut random = Random::new(1);
+    let inputs = Inputs::new(&mut random);
     println!("{}", Line::heading());
-    for line in texts::lines(&mut random) {
+    for line in texts::lines(&mut random, &inputs).into_iter().chain(calls::lines(&inputs)) {
         println!("{line}");
     }
 }

@@ -1,43 +1,28 @@
 //! Reading text into nodes: the product into lent words, the reference's reader into a vector that it is lent.
 
-use generate::messages::Messages;
-use generate::schemas::{self, Schema};
 use generate::Random;
 use product::text::{words_for, Verdict};
 use reference::message::MESSAGE_LEVELS;
 use reference::schema::SCHEMA_LEVELS;
 use reference::text::{read_into, Dialect};
 
-use crate::line::Line;
+use crate::inputs::Inputs;
+use crate::line::{measured, Line, Task};
 
 const MESSAGES: usize = 5_000;
 const LONG_TEXTS: usize = 100;
 const LONG: usize = 16_384;
-const SCHEMAS: usize = 50;
-/// A schema of fewer bytes isn't taken; the most are 32,768.
-const LONG_SCHEMA: usize = 31_000;
+const REPETITIONS: usize = 25;
 
-pub fn lines(random: &mut Random) -> impl Iterator<Item = Line> {
-    let schemas: Vec<_> = (0..SCHEMAS).map(|_| long_schema(random)).collect();
-    let source = Messages::new(&schemas[0]);
-    let messages: Vec<_> = (0..MESSAGES).map(|_| source.usual(random).message).collect();
-    let long: Vec<_> = (0..LONG_TEXTS).map(|_| long_text(random, &messages)).collect();
-    let schemas: Vec<_> = schemas.into_iter().map(|schema| schema.bytes).collect();
-    let lines: [(_, _, Vec<Vec<u8>>); 3] = [
-        ("read messages of 200 to 4,000 bytes", Dialect::Message, messages),
-        ("read a text of 16,384 bytes", Dialect::Message, long),
-        ("read a schema of about 32 KB", Dialect::Schema, schemas),
-    ];
-    lines.into_iter().map(|(what, dialect, inputs)| reading(what, dialect, &inputs))
-}
-
-fn long_schema(random: &mut Random) -> Schema {
-    loop {
-        let schema = schemas::large(random);
-        if schema.bytes.len() >= LONG_SCHEMA {
-            return schema;
-        }
-    }
+pub fn lines(random: &mut Random, inputs: &Inputs) -> Vec<Line> {
+    let messages = &inputs.messages[..MESSAGES];
+    let long: Vec<_> = (0..LONG_TEXTS).map(|_| long_text(random, messages)).collect();
+    let schemas: Vec<_> = inputs.schemas.iter().map(|schema| schema.bytes.clone()).collect();
+    vec![
+        reading("read messages of 200 to 4,000 bytes", Dialect::Message, messages),
+        reading("read a text of 16,384 bytes", Dialect::Message, &long),
+        reading("read a schema of about 32 KB", Dialect::Schema, &schemas),
+    ]
 }
 
 /// A list of accepted messages, filled up with a few blanks.
@@ -71,13 +56,15 @@ fn reading(what: &'static str, dialect: Dialect, inputs: &[Vec<u8>]) -> Line {
     let longest = inputs.iter().map(Vec::len).max().unwrap_or(0);
     let mut words = vec![0; words_for(longest)];
     let mut nodes = Vec::new();
-    let product = |text: &[u8]| match product::text::read(schema, text, &mut words) {
+    let product = |text: &Vec<u8>| match product::text::read(schema, text, &mut words) {
         Verdict::Whole(count) => count,
         other => panic!("{other:?}"),
     };
-    let rust = |text: &[u8]| match read_into(dialect, text, levels, &mut nodes) {
+    let rust = |text: &Vec<u8>| match read_into(dialect, text, levels, &mut nodes) {
         Ok(()) => nodes.len(),
         Err(refused) => panic!("{refused:?}"),
     };
-    Line::measured(what, inputs, product, rust)
+    let [line] =
+        measured(inputs, Vec::len, REPETITIONS, [Task { what, product: Box::new(product), rust: Box::new(rust) }]);
+    line
 }

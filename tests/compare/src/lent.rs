@@ -1,7 +1,9 @@
-//! What the product is lent: words between others that it must leave alone, and a text amid other bytes.
+//! What the product is lent: words between others that it must leave alone, and texts and tables amid what would change
+//! their meaning.
 
 use generate::damage::telling_byte;
 use generate::Random;
+use harness::{ensure, Check};
 
 /// Words on either side of those lent, and what they hold.
 const GUARDS: usize = 16;
@@ -19,6 +21,11 @@ impl LentWords {
         LentWords { all }
     }
 
+    /// So many words, all holding one that isn't 0.
+    pub fn with_garbage(random: &mut Random, count: usize) -> Self {
+        LentWords::new(count, random.word() as u32 | 1)
+    }
+
     pub fn words(&self) -> &[u32] {
         &self.all[GUARDS..self.all.len() - GUARDS]
     }
@@ -33,6 +40,20 @@ impl LentWords {
         let (before, rest) = self.all.split_at(GUARDS);
         let after = &rest[rest.len() - GUARDS..];
         before.iter().chain(after).all(|&word| word == GUARD)
+    }
+}
+
+impl LentWords {
+    /// Fails where a word isn't the expected one, or one beside those lent was written.
+    pub fn check(&self, expected: &[u32]) -> Check {
+        let words = self.words();
+        let count = words.len();
+        let place = words.iter().zip(expected).position(|(word, expected)| word != expected);
+        ensure(place.is_none() && count == expected.len(), || {
+            let place = place.unwrap_or(0);
+            format!("word {place} of {count} lent: product {:?}, reference {:?}", words.get(place), expected.get(place))
+        })?;
+        ensure(self.is_intact_around(), || format!("words beside the {count} lent were written"))
     }
 }
 
@@ -61,6 +82,27 @@ impl PlacedText {
     }
 }
 
+/// A table between words of its own, which would go on with it if they were read too.
+pub struct PlacedTable {
+    all: Vec<u32>,
+    start: usize,
+    length: usize,
+}
+
+impl PlacedTable {
+    pub fn new(random: &mut Random, table: &[u32]) -> Self {
+        let start = random.below(AROUND);
+        let from = random.below(table.len() + 1);
+        let more = || table[from..].iter().chain(table).copied().chain(std::iter::repeat(9));
+        let all = more().take(start).chain(table.iter().copied()).chain(more().take(2 * AROUND)).collect();
+        PlacedTable { all, start, length: table.len() }
+    }
+
+    pub fn words(&self) -> &[u32] {
+        &self.all[self.start..self.start + self.length]
+    }
+}
+
 #[cfg(test)]
 mod tests {
     use super::*;
@@ -79,8 +121,24 @@ mod tests {
     }
 
     #[test]
-    fn a_placed_text_is_the_text() {
+    fn a_word_that_is_not_the_expected_one_is_noticed() {
+        let mut lent = LentWords::new(3, 7);
+        assert!(lent.check(&[7; 3]).is_ok());
+        assert!(lent.check(&[7; 2]).is_err() && lent.check(&[7; 4]).is_err());
+        for place in 0..3 {
+            let mut expected = [7; 3];
+            expected[place] = 0;
+            assert!(lent.check(&expected).is_err(), "{place}");
+        }
+        lent.all[GUARDS - 1] = 0;
+        assert!(lent.check(&[7; 3]).is_err());
+    }
+
+    #[test]
+    fn a_placed_text_or_table_is_the_same() {
         let mut random = Random::new(1);
         assert!((0..20).all(|_| PlacedText::new(&mut random, b"[1]").bytes() == b"[1]"));
+        assert!((0..20).all(|_| PlacedTable::new(&mut random, &[1, 2, 3]).words() == [1, 2, 3]));
+        assert!(PlacedTable::new(&mut random, &[]).words().is_empty());
     }
 }

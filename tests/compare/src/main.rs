@@ -1,38 +1,42 @@
-//! Compares the product's reader of texts, and what it says of tokens and keys, with the independent reference.
+//! Compares the product with the independent reference, through its static libraries.
 //!
-//!     compare [--cases TEXTS] [--seed SEED]
+//!     compare [texts] [schemas] [tables] [messages] [folders] [--cases ROUNDS] [--seed SEED]
 
 #![forbid(unsafe_code)]
 
-mod edges;
-mod integers;
+mod folders;
 mod lent;
-mod reading;
-mod strings;
+mod messages;
+mod rooms;
+mod schemas;
+mod tables;
 mod texts;
 
 use std::process::ExitCode;
+use std::time::Instant;
 
-use harness::{finish, Options, Tally};
+use harness::{Check, Options, Report, Tally};
 
-const DEFAULT_TEXTS: u64 = 600_000;
+/// Runs one part and counts what it reached.
+type Run = fn(&Options, &mut Tally) -> Check;
+
+const PARTS: [(&str, Run); 5] = [
+    ("texts", texts::run),
+    ("schemas", schemas::run),
+    ("tables", tables::run),
+    ("messages", messages::run),
+    ("folders", folders::run),
+];
 
 fn main() -> ExitCode {
-    let options = Options::of_program("compare", DEFAULT_TEXTS);
-    let mut tally = Tally::default();
-    for what in ["schema text", "message text"] {
-        tally.must_reach(what, ["whole", "fault", "deep"]);
+    let options = Options::of_program("compare", &PARTS.map(|(name, _)| name));
+    let mut report = Report::new("compare");
+    for (name, run) in PARTS.iter().filter(|(name, _)| options.parts.contains(name)) {
+        let begun = Instant::now();
+        let mut tally = Tally::default();
+        let checked = run(&options, &mut tally);
+        println!("{name}, {} inputs in {:.1} s", tally.passed(), begun.elapsed().as_secs_f64());
+        report.add(checked, &tally);
     }
-    for what in ["schema keys", "message keys"] {
-        tally.must_reach(what, ["once", "twice"]);
-    }
-    for what in ["schema string means", "message string means", "ranges"] {
-        tally.must_reach(what, ["yes", "no"]);
-    }
-    tally.must_reach("schema strings same", ["yes", "no"]);
-    tally.must_reach("message strings same", ["yes", "yes-respelled", "no"]);
-    tally.must_reach("words lent", ["enough", "too few"]);
-    let fixed = edges::compare(&mut tally).map_err(|reason| format!("{reason}\nin a fixed text"));
-    let checked = fixed.and_then(|()| texts::compare(options, &mut tally));
-    finish("compare", checked, &tally)
+    report.finish()
 }

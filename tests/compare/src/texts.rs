@@ -1,24 +1,48 @@
-//! One text compared in every way, and the generated texts.
+//! The reader of texts, and what it says of keys, strings and integers: one text compared in every way, fixed and
+//! generated texts.
+
+mod edges;
+mod integers;
+mod reading;
+mod strings;
 
 use generate::messages::Messages;
 use generate::print::Dialect;
 use generate::texts::{self, most_levels, Expected, TextCase};
 use generate::{schemas, Random};
-use harness::{check_bytes, check_expected, ensure, for_each_round, Check, Options, Tally};
+use harness::{check_bytes, check_expected, ensure, for_each_round, Check, Options, Rounds, Tally};
 use product::text::{keys_once, Verdict, NODE};
 use reference::keys::repeated_key;
 
+use self::reading::Read;
 use crate::lent::PlacedText;
-use crate::reading::{self, Read};
-use crate::{integers, strings};
 
+/// Texts, one a round.
+const DEFAULT_ROUNDS: u64 = 600_000;
 /// Rounds from one schema with its messages to the next.
 const ROUNDS_A_SCHEMA: u64 = 500;
 const MESSAGES: usize = 10;
 
+pub fn run(options: &Options, tally: &mut Tally) -> Check {
+    for what in ["schema text", "message text"] {
+        tally.must_reach(what, ["whole", "fault", "deep"]);
+    }
+    for what in ["schema keys", "message keys"] {
+        tally.must_reach(what, ["once", "twice"]);
+    }
+    for what in ["schema string means", "message string means", "ranges"] {
+        tally.must_reach(what, ["yes", "no"]);
+    }
+    tally.must_reach("schema strings same", ["yes", "no"]);
+    tally.must_reach("message strings same", ["yes", "yes-respelled", "no"]);
+    tally.must_reach("words lent", ["enough", "too few"]);
+    edges::compare(tally).map_err(|reason| format!("{reason}\nin a fixed text"))?;
+    compare_generated(options.rounds_or(DEFAULT_ROUNDS), tally)
+}
+
 /// A schema text and a message text in turn, one a round; now and then a schema with messages for it.
-pub fn compare(options: Options, tally: &mut Tally) -> Check {
-    for_each_round(options, |random, round| {
+fn compare_generated(rounds: Rounds, tally: &mut Tally) -> Check {
+    for_each_round(rounds, |random, round| {
         if round % ROUNDS_A_SCHEMA == 0 {
             compare_schema(random, tally)?;
         }

@@ -7,6 +7,7 @@
 
 pub mod random;
 
+pub mod aims;
 pub mod damage;
 pub mod integers;
 pub mod print;

@@ -12,7 +12,7 @@ use crate::texts;
 use crate::tree::{Shape, Tree};
 use crate::Random;
 
-pub use limits::limits;
+pub use limits::{every_fault, limits};
 
 const MOST_BYTES: usize = 32_768;
 const MOST_ROWS: usize = 1_024;
@@ -40,6 +40,11 @@ pub fn valid(random: &mut Random) -> Schema {
     let longest = *random.pick(&[5, 5, 5, 24]);
     let style = Style::any(random, Dialect::Schema);
     valid_of(random, size, longest, style)
+}
+
+/// A valid schema of few rows, with a definition of each kind.
+pub fn small(random: &mut Random) -> Schema {
+    valid_of(random, 1, 3, Style::compact(Dialect::Schema))
 }
 
 /// A valid schema of about 1,000 rows and as many blanks and comments as 32,768 bytes have room for.

@@ -97,7 +97,7 @@ fn change_name(random: &mut Random, table: &mut [u32], row: usize, schema_length
         0 => table[place].wrapping_add(1),
         1 => table[place].wrapping_sub(1),
         2 => 0,
-        3 => huge(random),
+        3 => *random.pick(&HUGE),
         4 => schema_length as u32,
         _ => random.below(schema_length + 2) as u32,
     };
@@ -113,14 +113,13 @@ fn change_word(random: &mut Random, table: &mut [u32], row: usize, count: usize)
         3 => random.below(3) as u32,
         4 => random.below(count + 2) as u32,
         5 => random.below(count + 18) as u32,
-        6 => huge(random),
+        6 => *random.pick(&HUGE),
         _ => 16 + random.below(count) as u32,
     };
 }
 
-fn huge(random: &mut Random) -> u32 {
-    *random.pick(&[u32::MAX, u32::MAX - 1, u32::MAX - 15, 1 << 31, 1 << 29, (1 << 29) + 1, 1 << 16])
-}
+/// Words that would wrap, in 32 bits, when 16, a start, or a row's place is added or multiplied.
+const HUGE: [u32; 7] = [u32::MAX, u32::MAX - 1, u32::MAX - 15, 1 << 31, 1 << 29, (1 << 29) + 1, 1 << 16];
 
 /// Puts a copy of one row before another.
 fn copy_row(table: &mut Vec<u32>, from: usize, to: usize) {
@@ -177,6 +176,22 @@ pub fn unsound(random: &mut Random, words: &[u32]) -> Vec<u32> {
         _ => table.extend([9, 0, 0, 0, 0, 0, 0, 0]),
     }
     table
+}
+
+/// Every table that differs from a compiled one in a single word, which may be a neighbour of what it was, any link or
+/// reference, or far too large.
+pub fn every_word_changed(words: &[u32]) -> impl Iterator<Item = Vec<u32>> + '_ {
+    let references = 16 + (words.len() / ROW) as u32 + 2;
+    (0..words.len()).flat_map(move |place| {
+        let word = words[place];
+        let beside = [word.wrapping_sub(1), word.wrapping_add(1), !word, word.wrapping_neg()];
+        let values = (0..references).chain(beside).chain(HUGE);
+        values.filter(move |&value| value != word).map(move |value| {
+            let mut table = words.to_vec();
+            table[place] = value;
+            table
+        })
+    })
 }
 
 /// Words of small values, most often whole rows.

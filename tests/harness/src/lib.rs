@@ -9,8 +9,8 @@ mod program;
 mod tally;
 
 pub use checks::{check_bytes, check_expected, ensure, Check};
-pub use options::Options;
-pub use program::{finish, for_each_round};
+pub use options::{Options, Rounds};
+pub use program::{for_each_round, Report};
 pub use tally::Tally;
 
 /// The generators' dialect as the reference has it.

@@ -1,17 +1,18 @@
-//! The course of a test program: rounds until something is wrong, then the counts and one line that sums up.
+//! The course of a test program: parts, each with rounds until something is wrong and its counts, then one line that
+//! sums up.
 
 use std::process::ExitCode;
 
 use generate::Random;
 
-use crate::{Check, Options, Tally};
+use crate::{Check, Rounds, Tally};
 
 /// Runs `check` in each round with random numbers of the round's own, until it fails.
-pub fn for_each_round(options: Options, mut check: impl FnMut(&mut Random, u64) -> Check) -> Check {
-    for round in 0..options.rounds {
-        let place = format!("in round {round} from seed {}", options.seed);
+pub fn for_each_round(rounds: Rounds, mut check: impl FnMut(&mut Random, u64) -> Check) -> Check {
+    for round in 0..rounds.count {
+        let place = format!("in round {round} from seed {}", rounds.seed);
         let guard = PanicGuard { place };
-        let mut random = Random::new(options.seed.wrapping_mul(1 << 32).wrapping_add(round));
+        let mut random = Random::new(rounds.seed.wrapping_mul(1 << 32).wrapping_add(round));
         check(&mut random, round).map_err(|reason| format!("{reason}\n{}", guard.place))?;
     }
     Ok(())
@@ -30,17 +31,36 @@ impl Drop for PanicGuard {
     }
 }
 
-/// Prints the counts, what went wrong or was never reached, and last how many inputs passed and how many checks failed.
-pub fn finish(name: &str, checked: Check, tally: &Tally) -> ExitCode {
-    print!("{tally}");
-    let failures: Vec<String> = match checked {
-        Ok(()) => tally.missing().map(|outcome| format!("never reached: {outcome}")).collect(),
-        Err(reason) => vec![reason],
-    };
-    failures.iter().for_each(|failure| println!("{failure}"));
-    println!("{name}: {} passed, {} failed", tally.passed(), failures.len());
-    match failures.is_empty() {
-        true => ExitCode::SUCCESS,
-        false => ExitCode::FAILURE,
+/// What a program has run so far: how many inputs passed and how many checks failed.
+pub struct Report {
+    name: &'static str,
+    passed: u64,
+    failed: usize,
+}
+
+impl Report {
+    pub fn new(name: &'static str) -> Self {
+        Report { name, passed: 0, failed: 0 }
+    }
+
+    /// Prints the counts of a part, and what went wrong in it or was never reached.
+    pub fn add(&mut self, checked: Check, tally: &Tally) {
+        print!("{tally}");
+        let failures: Vec<String> = match checked {
+            Ok(()) => tally.missing().map(|outcome| format!("never reached: {outcome}")).collect(),
+            Err(reason) => vec![reason],
+        };
+        failures.iter().for_each(|failure| println!("{failure}"));
+        self.passed += tally.passed();
+        self.failed += failures.len();
+    }
+
+    /// Prints the last line.
+    pub fn finish(self) -> ExitCode {
+        println!("{}: {} passed, {} failed", self.name, self.passed, self.failed);
+        match self.failed {
+            0 => ExitCode::SUCCESS,
+            _ => ExitCode::FAILURE,
+        }
     }
 }

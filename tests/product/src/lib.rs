@@ -1,5 +1,6 @@
-//! The proved product, called through its static library. The only crate here with unsafe code.
+//! The proved product, called through its static libraries. The only crate here with unsafe code.
 //!
-//! `text` has the inner layers that the library `probe` exports.
+//! `gateway` has the calls, exported by the library of that name; `text` the inner layers that `probe` exports.
 
+pub mod gateway;
 pub mod text;

@@ -26,13 +26,14 @@ pub const COMMAND: u32 = 9;
 /// The rows of a table that is laid out as the paper says; `table` judges whether words are.
 #[derive(Clone, Copy, Debug)]
 pub struct Rows<'a> {
-    words: &'a [u32],
+    rows: &'a [[u32; ROW]],
     schema: &'a [u8],
 }
 
 impl<'a> Rows<'a> {
+    /// The whole rows of these words.
     pub fn new(words: &'a [u32], schema: &'a [u8]) -> Self {
-        Rows { words, schema }
+        Rows { rows: words.as_chunks().0, schema }
     }
 
     pub fn schema(self) -> &'a [u8] {
@@ -40,7 +41,7 @@ impl<'a> Rows<'a> {
     }
 
     pub fn count(self) -> usize {
-        self.words.len() / ROW
+        self.rows.len()
     }
 
     pub fn numbers(self) -> Range<usize> {
@@ -49,7 +50,7 @@ impl<'a> Rows<'a> {
 
     /// A word by its place in the paper, 1 to 8.
     pub fn word(self, row: usize, place: usize) -> u32 {
-        self.words[row * ROW + place - 1]
+        self.rows[row][place - 1]
     }
 
     pub fn kind(self, row: usize) -> u32 {

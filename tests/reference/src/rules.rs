@@ -1,10 +1,8 @@
 //! Numbers 5, 6 and 8 to 11, judged of rows: of those a schema compiles to and of those of a table alike.
 //! From 8 on, all references are filled in and fit.
 
-use std::collections::HashMap;
-
 use crate::builtins;
-use crate::names::{self, NameSet};
+use crate::names::{self, NameMap, NameSet};
 use crate::rows::{Rows, ALTERNATE, BRANCH, COMMAND, ENUM, LONGEST_CHAIN, STRUCT, UNION, VALUE};
 
 /// 5: a bad name.
@@ -17,8 +15,8 @@ fn is_good_name(rows: Rows, row: usize) -> bool {
 }
 
 /// The definitions by name; none where 6 holds of their names.
-pub fn definitions_by_name(rows: Rows<'_>) -> Option<HashMap<&[u8], usize>> {
-    let mut definitions = HashMap::new();
+pub fn definitions_by_name(rows: Rows<'_>) -> Option<NameMap<'_, usize>> {
+    let mut definitions = NameMap::default();
     for row in rows.numbers().filter(|&row| rows.is_definition(row)) {
         let name = rows.name(row);
         if builtins::number_of(name).is_some() || definitions.insert(name, row).is_some() {
@@ -50,7 +48,7 @@ fn repeats_inherited_member(rows: Rows, structure: usize) -> bool {
 }
 
 fn has_member_named(rows: Rows, structure: usize, name: &[u8]) -> bool {
-    rows.members(structure).any(|member| rows.name(member) == name)
+    rows.members(structure).any(|member| names::equal(rows.name(member), name))
 }
 
 /// 9: a union without a branch, or with a bad discriminator or branch.
@@ -83,7 +81,7 @@ fn has_branch_without_value(rows: Rows, union: usize) -> bool {
     let Some(values) = rows.discriminator(union).and_then(|member| discriminator_enum(rows, member)) else {
         return true;
     };
-    rows.list(union).any(|branch| !rows.list(values).any(|value| rows.name(value) == rows.name(branch)))
+    rows.list(union).any(|branch| !rows.list(values).any(|value| names::equal(rows.name(value), rows.name(branch))))
 }
 
 fn has_branch_repeating_base(rows: Rows, union: usize) -> bool {

@@ -55,42 +55,43 @@ pub fn compile(schema: &[u8], room: usize) -> Answer {
 pub fn compile_into(schema: &[u8], lent: &mut [u32]) -> (u32, u32) {
     lent.fill(0);
     match table_of(schema, lent.len() / ROW) {
-        Ok(words) => {
-            lent[..words.len()].copy_from_slice(&words);
-            (0, (words.len() / ROW) as u32)
+        Ok(table) => {
+            let words = table.as_flattened();
+            lent[..words.len()].copy_from_slice(words);
+            (0, table.len() as u32)
         }
         Err(refusal) => (refusal.number(), 0),
     }
 }
 
-/// The words of the table, if `lent` rows are enough.
-fn table_of(schema: &[u8], lent: usize) -> Result<Vec<u32>, Refusal> {
+/// The rows of the table, if `lent` are enough.
+fn table_of(schema: &[u8], lent: usize) -> Result<Vec<[u32; ROW]>, Refusal> {
     refuse_if(schema.len() > MOST_SCHEMA_BYTES, Refusal::TooLong)?;
     let Verdict::Whole(nodes) = text::read(Dialect::Schema, schema, SCHEMA_LEVELS) else {
         return Err(Refusal::NotSchemaText);
     };
     refuse_if(keys::repeated_key(schema, &nodes).is_some(), Refusal::RepeatedKey)?;
-    let (mut words, names) = layout::lay_out(schema, &nodes)?;
+    let (mut table, names) = layout::lay_out(schema, &nodes)?;
 
-    let rows = Rows::new(&words, schema);
+    let rows = Rows::new(table.as_flattened(), schema);
     refuse_if(rules::has_bad_name(rows), Refusal::BadName)?;
     let definitions = rules::definitions_by_name(rows).ok_or(Refusal::EqualNames)?;
     refuse_if(rules::has_equal_names_in_a_list(rows), Refusal::EqualNames)?;
     let found = references::find_definitions(rows, &names, &definitions)?;
-    references::write(&mut words, &found);
+    references::write(&mut table, &found);
 
-    let rows = Rows::new(&words, schema);
+    let rows = Rows::new(table.as_flattened(), schema);
     refuse_if(rules::has_bad_chain(rows), Refusal::BadChain)?;
     let found = references::find_discriminators(rows, &names)?;
-    references::write(&mut words, &found);
+    references::write(&mut table, &found);
 
-    let rows = Rows::new(&words, schema);
+    let rows = Rows::new(table.as_flattened(), schema);
     refuse_if(rules::has_bad_union(rows), Refusal::BadUnion)?;
     refuse_if(rules::has_bad_alternate(rows), Refusal::BadAlternate)?;
     refuse_if(rules::has_bad_return(rows), Refusal::BadReturn)?;
     refuse_if(rows.count() > MOST_ROWS, Refusal::TooManyRows)?;
     refuse_if(rows.count() > lent, Refusal::TooLittleRoom)?;
-    Ok(words)
+    Ok(table)
 }
 
 fn refuse_if(applies: bool, refusal: Refusal) -> Result<(), Refusal> {

@@ -1,7 +1,6 @@
 //! The code points that strings mean (01, "Message text"). The tokens are those of a whole text.
 
 use std::borrow::Cow;
-use std::str::Chars;
 
 use crate::text::Node;
 
@@ -19,92 +18,72 @@ impl<'a> Token<'a> {
         Token { bytes, escapes: !node.kind.is_plain() && bytes.contains(&b'\\') }
     }
 
-    pub fn code_points(self) -> CodePoints<'a> {
-        let text = std::str::from_utf8(self.bytes).expect("a whole text's strings are UTF-8");
-        CodePoints { rest: text.chars() }
-    }
-
     /// The code points in UTF-8.
     pub fn meaning(self) -> Cow<'a, [u8]> {
-        if self.escapes {
-            Cow::Owned(self.code_points().collect::<String>().into_bytes())
-        } else {
-            Cow::Borrowed(self.bytes)
+        match self.escapes {
+            true => Cow::Owned(unescaped(self.bytes)),
+            false => Cow::Borrowed(self.bytes),
         }
+    }
+
+    pub fn code_points(self) -> Vec<char> {
+        let meaning = self.meaning();
+        std::str::from_utf8(&meaning).expect("a whole text's strings are UTF-8").chars().collect()
     }
 
     /// Whether `name` is the meaning in UTF-8.
     pub fn means(self, name: &[u8]) -> bool {
-        if !self.escapes {
-            return self.bytes == name;
-        }
-        let mut buffer = [0; 4];
-        let mut rest = name;
-        for point in self.code_points() {
-            match rest.strip_prefix(point.encode_utf8(&mut buffer).as_bytes()) {
-                Some(after) => rest = after,
-                None => return false,
-            }
-        }
-        rest.is_empty()
+        *self.meaning() == *name
     }
 }
 
 impl PartialEq for Token<'_> {
     fn eq(&self, other: &Self) -> bool {
-        if self.escapes || other.escapes {
-            self.code_points().eq(other.code_points())
-        } else {
-            self.bytes == other.bytes
-        }
+        self.meaning() == other.meaning()
     }
 }
 
 impl Eq for Token<'_> {}
 
-/// The code points of a token, escapes taken for what they mean.
-pub struct CodePoints<'a> {
-    rest: Chars<'a>,
+/// Escapes taken for what they mean.
+fn unescaped(bytes: &[u8]) -> Vec<u8> {
+    let mut meaning = Vec::with_capacity(bytes.len());
+    let mut rest = bytes;
+    while let Some(place) = rest.iter().position(|&byte| byte == b'\\') {
+        meaning.extend_from_slice(&rest[..place]);
+        let (point, length) = escape(&rest[place + 1..]);
+        meaning.extend_from_slice(point.encode_utf8(&mut [0; 4]).as_bytes());
+        rest = &rest[place + 1 + length..];
+    }
+    meaning.extend_from_slice(rest);
+    meaning
 }
 
-impl Iterator for CodePoints<'_> {
-    type Item = char;
-
-    fn next(&mut self) -> Option<char> {
-        match self.rest.next()? {
-            '\\' => self.escape(),
-            point => Some(point),
-        }
+/// What an escape means, and how many bytes it has after its backslash.
+fn escape(bytes: &[u8]) -> (char, usize) {
+    match bytes[0] {
+        b'b' => ('\u{8}', 1),
+        b'f' => ('\u{C}', 1),
+        b'n' => ('\n', 1),
+        b'r' => ('\r', 1),
+        b't' => ('\t', 1),
+        b'u' => unicode(&bytes[1..]),
+        quote_or_slash => (char::from(quote_or_slash), 1),
     }
 }
 
-impl CodePoints<'_> {
-    fn escape(&mut self) -> Option<char> {
-        Some(match self.rest.next()? {
-            'b' => '\u{8}',
-            'f' => '\u{C}',
-            'n' => '\n',
-            'r' => '\r',
-            't' => '\t',
-            'u' => return self.unicode(),
-            quote_or_slash => quote_or_slash,
-        })
-    }
+/// One code unit, or the two of a surrogate pair with `\u` between them.
+fn unicode(bytes: &[u8]) -> (char, usize) {
+    let unit = code_unit(&bytes[..4]);
+    let (point, length) = match unit {
+        0xD800..0xDC00 => (0x10000 + ((unit - 0xD800) << 10) + (code_unit(&bytes[6..10]) - 0xDC00), 11),
+        _ => (unit, 5),
+    };
+    (char::from_u32(point).expect("a whole text's surrogates come in pairs"), length)
+}
 
-    /// One code unit, or the two of a surrogate pair.
-    fn unicode(&mut self) -> Option<char> {
-        let unit = self.code_unit()?;
-        if !(0xD800..0xDC00).contains(&unit) {
-            return char::from_u32(unit);
-        }
-        self.rest.nth(1)?; // the `\u` between them
-        let low = self.code_unit()?;
-        char::from_u32(0x10000 + ((unit - 0xD800) << 10) + (low - 0xDC00))
-    }
-
-    fn code_unit(&mut self) -> Option<u32> {
-        (0..4).try_fold(0, |unit, _| Some(unit * 16 + self.rest.next()?.to_digit(16)?))
-    }
+fn code_unit(digits: &[u8]) -> u32 {
+    digits.iter().fold(0, |unit, &digit| unit * 16 + char::from(digit).to_digit(16).unwrap_or(0))
 }
 
 #[cfg(test)]
@@ -122,7 +101,7 @@ mod tests {
     #[test]
     fn escapes_mean_their_code_points() {
         with_tokens(r#"["\"\\\/\b\f\n\r\t\u0000\u00e9\uD83D\ude00x", "é😀"]"#, |tokens| {
-            let points: String = tokens[0].code_points().collect();
+            let points: String = tokens[0].code_points().iter().collect();
             assert_eq!(points, "\"\\/\u{8}\u{c}\n\r\t\0é😀x");
             assert_eq!(&*tokens[0].meaning(), points.as_bytes());
             assert_eq!(&*tokens[1].meaning(), "é😀".as_bytes());

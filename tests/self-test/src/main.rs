@@ -16,28 +16,30 @@ use std::process::ExitCode;
 use generate::messages::Messages;
 use generate::print::Dialect;
 use generate::Random;
-use harness::{finish, for_each_round, Check, Options, Tally};
+use harness::{for_each_round, Check, Options, Report, Rounds, Tally};
 
 const DEFAULT_ROUNDS: u64 = 4_000;
 
 fn main() -> ExitCode {
-    let options = Options::of_program("self-test", DEFAULT_ROUNDS);
+    let rounds = Options::of_program("self-test", &[]).rounds_or(DEFAULT_ROUNDS);
     let mut tally = Tally::default();
     tally.must_reach("schema numbers", 0..=13);
     tally.must_reach("message numbers", [0].into_iter().chain(21..=30));
     tally.must_reach("tables", ["sound", "unsound"]);
     tally.must_reach("schema text", ["whole", "fault", "deep"]);
     tally.must_reach("message text", ["whole", "fault", "deep"]);
-    let checked = check_all(options, &mut tally);
-    finish("self-test", checked, &tally)
+    let checked = check_all(rounds, &mut tally);
+    let mut report = Report::new("self-test");
+    report.add(checked, &tally);
+    report.finish()
 }
 
 /// What is fixed, then rounds.
-fn check_all(options: Options, tally: &mut Tally) -> Check {
+fn check_all(rounds: Rounds, tally: &mut Tally) -> Check {
     texts::check_faults(tally)?;
     schemas::check_limits(tally)?;
     messages::check_limits(tally)?;
-    for_each_round(options, |random, round| check_round(random, round, tally))
+    for_each_round(rounds, |random, round| check_round(random, round, tally))
 }
 
 /// All sorts of cases once.

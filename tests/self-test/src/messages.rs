@@ -1,11 +1,9 @@
 //! Checking: numbers and records agree with how messages were made, answers with other rooms.
 
 use generate::messages::{MessageCase, Messages, Reading};
-use generate::Random;
+use generate::{aims, Random};
 use harness::{check_bytes, check_expected, ensure, Check, Tally};
 use reference::message::{check as check_message, Answer};
-
-use crate::schemas::faults;
 
 /// Words of as many records as any message has: 8,192 values at most, each with an alternate's record at most.
 const WHOLE_ROOM: usize = 16_400 * 4;
@@ -21,7 +19,7 @@ pub fn check(random: &mut Random, round: u64, messages: &Messages, tally: &mut T
         check_case(schema, &messages.valid(random), tally)?;
         check_case(schema, &messages.mutated(random), tally)?;
     }
-    let numbers = faults(21..31, round);
+    let numbers = aims::in_turn(21..31, round);
     check_case(schema, &messages.aimed(random, &numbers), tally)?;
     let numbers = [random.between(21, 30) as u32];
     check_case(schema, &messages.aimed(random, &numbers), tally)

@@ -1,7 +1,7 @@
 //! Compiling: numbers agree with how schemas were made, rows with their models, answers with other rooms.
 
 use generate::schemas::{self, Schema, SchemaCase};
-use generate::Random;
+use generate::{aims, Random};
 use harness::{check_bytes, check_expected, ensure, Check, Tally};
 use reference::schema::{compile, Answer};
 use reference::table::is_sound;
@@ -10,25 +10,18 @@ use reference::table::is_sound;
 const WHOLE_ROOM: usize = 1_024 * 8;
 
 pub fn check_limits(tally: &mut Tally) -> Check {
-    schemas::limits().iter().try_for_each(|case| check_case(case, tally))
+    let mut cases = schemas::limits().into_iter().chain(schemas::every_fault());
+    cases.try_for_each(|case| check_case(&case, tally))
 }
 
 /// No fault, each single one, each pair, in turn.
 pub fn check_aimed(random: &mut Random, round: u64, tally: &mut Tally) -> Check {
-    let numbers = faults(1..14, round);
+    let numbers = aims::in_turn(1..14, round);
     check_case(&schemas::aimed(random, &numbers), tally)
 }
 
 pub fn check_mutated(random: &mut Random, tally: &mut Tally) -> Check {
     check_case(&schemas::mutated(random), tally)
-}
-
-/// None, one or two of the numbers, a different choice each round until all were taken.
-pub fn faults(numbers: std::ops::Range<u32>, round: u64) -> Vec<u32> {
-    let singles = numbers.clone().map(|number| vec![number]);
-    let pairs = numbers.clone().flat_map(|low| (low + 1..numbers.end).map(move |high| vec![low, high]));
-    let choices: Vec<_> = [vec![]].into_iter().chain(singles).chain(pairs).collect();
-    choices[(round % choices.len() as u64) as usize].clone()
 }
 
 fn check_case(case: &SchemaCase, tally: &mut Tally) -> Check {

@@ -1,6 +1,7 @@
 //! Soundness: a table is sound exactly when some schema compiles to it.
 
 use generate::schemas::Schema;
+use generate::shrink::smallest_table;
 use generate::tables::{self, TableCase};
 use generate::Random;
 use harness::{ensure, Check, Tally};
@@ -15,7 +16,7 @@ pub fn check(random: &mut Random, schema: &Schema, tally: &mut Tally) -> Check {
         tally.add("tables", if judged { "sound" } else { "unsound" });
         ensure(sound.is_none_or(|sound| sound == judged), || format!("judged {judged}: {}", shown(&words, &schema)))?;
         if is_wrong(&words, &schema) {
-            let rows = fewest_rows(&words, &schema);
+            let rows = smallest_table(&words, |rows| is_wrong(rows, &schema));
             let other = if is_sound(&rows, &schema) { "sound, but not compiled" } else { "compiled, but not sound" };
             return Err(format!("{other}: {}", shown(&rows, &schema)));
         }
@@ -31,20 +32,4 @@ fn shown(words: &[u32], schema: &[u8]) -> String {
 /// Judged otherwise than compiling the schema that the table is written back to tells.
 fn is_wrong(words: &[u32], schema: &[u8]) -> bool {
     is_compiled(words, schema).is_some_and(|compiled| compiled != is_sound(words, schema))
-}
-
-/// Leaves rows out while the table is still wrong.
-fn fewest_rows(words: &[u32], schema: &[u8]) -> Vec<u32> {
-    let mut kept = words.to_vec();
-    let mut row = 0;
-    while row * 8 + 8 <= kept.len() {
-        let without = [&kept[..row * 8], &kept[row * 8 + 8..]].concat();
-        if is_wrong(&without, schema) {
-            kept = without;
-            row = 0;
-        } else {
-            row += 1;
-        }
-    }
-    kept
 }

@@ -8,7 +8,20 @@ use crate::Random;
 
 /// Trees with one fault of a number from 3 to 11; `%a` to `%d` stand for names not yet used.
 pub fn trees(random: &mut Random, names: &mut Names, number: u32) -> Vec<Tree> {
-    let texts = match number {
+    let texts = texts(number);
+    let text = match (number, random.one_in(4)) {
+        (3, true) => long_object(random),
+        (5, true) => bad_name_anywhere(random),
+        (6, true) => long_list(random),
+        (8, true) => long_chain(random),
+        _ => random.pick(texts).to_string(),
+    };
+    parse_schema(&with_names(random, names, text))
+}
+
+/// All texts with one fault of a number from 3 to 11.
+fn texts(number: u32) -> &'static [&'static str] {
+    match number {
         3 => REPEATED_KEYS,
         4 => BAD_SHAPES,
         5 => BAD_NAMES,
@@ -19,15 +32,13 @@ pub fn trees(random: &mut Random, names: &mut Names, number: u32) -> Vec<Tree> {
         10 => BAD_ALTERNATES,
         11 => BAD_RETURNS,
         _ => panic!("no definition alone is refused with {number}"),
-    };
-    let text = match (number, random.one_in(4)) {
-        (3, true) => long_object(random),
-        (5, true) => bad_name_anywhere(random),
-        (6, true) => long_list(random),
-        (8, true) => long_chain(random),
-        _ => random.pick(texts).to_string(),
-    };
-    parse_schema(&with_names(random, names, text))
+    }
+}
+
+/// Every text with one fault, alone, and its number.
+pub fn every() -> impl Iterator<Item = (String, u32)> {
+    let named = |text: &str| text.replace("%a", "A").replace("%b", "B").replace("%c", "C").replace("%d", "D");
+    (3..12).flat_map(move |number| texts(number).iter().map(move |text| (named(text), number)))
 }
 
 fn with_names(random: &mut Random, names: &mut Names, mut text: String) -> String {

@@ -1,6 +1,6 @@
 //! Schemas on either side of each limit.
 
-use super::{SchemaCase, MOST_BYTES, MOST_ROWS, ROW};
+use super::{faults, SchemaCase, MOST_BYTES, MOST_ROWS, ROW};
 
 /// Pairs of schemas, within a limit and beyond it, with their numbers.
 pub fn limits() -> Vec<SchemaCase> {
@@ -35,7 +35,27 @@ pub fn limits() -> Vec<SchemaCase> {
     add(String::new(), 0, 0);
     add(named(63), whole, 0);
     add(named(64), whole, 5);
+    add(list_of("", 10_000), whole, 5);
+    add(list_of("a", 8_000), whole, 6);
+    add(distinct_values(5_000), whole, 12);
+    add(format!("{}{}", enum_rows(1_025), named(64)), whole, 5);
+    add(format!("{}{}", enum_rows(1_025), chain(17)), 0, 8);
+    add("{}".repeat(MOST_BYTES / 2), whole, 4);
+    add("{'command':'c'}".repeat(2_000), whole, 6);
+    add(wide_structs(500), whole, 0);
+    add(wide_structs(511), whole, 0);
+    add(wide_structs(512), whole, 12);
     cases
+}
+
+/// Every definition with one fault, alone.
+pub fn every_fault() -> impl Iterator<Item = SchemaCase> {
+    let case = |(text, number): (String, u32)| SchemaCase {
+        bytes: text.into_bytes(),
+        room: MOST_ROWS * ROW,
+        number: Some(number),
+    };
+    faults::every().map(case)
 }
 
 fn chain(length: usize) -> String {
@@ -68,4 +88,24 @@ fn nested(levels: usize) -> String {
 
 fn named(length: usize) -> String {
     format!("{{'command':'{}'}}", "n".repeat(length))
+}
+
+/// An enum with one value so many times.
+fn list_of(value: &str, count: usize) -> String {
+    format!("{{'enum':'e','data':[{}'{value}']}}", format!("'{value}',").repeat(count - 1))
+}
+
+/// An enum of many values, none of more than three letters.
+fn distinct_values(count: usize) -> String {
+    const LETTERS: &[u8] = b"abcdefghijklmnopqrstuvwxyz";
+    let letter = |number: usize| char::from(LETTERS[number % LETTERS.len()]);
+    let value = |i: usize| format!("'{}{}{}'", letter(i), letter(i / 26), letter(i / 26 / 26));
+    format!("{{'enum':'e','data':[{}]}}", (0..count).map(value).collect::<Vec<_>>().join(","))
+}
+
+/// A struct and its base with so many members each.
+fn wide_structs(count: usize) -> String {
+    let members = |letter: char| (0..count).map(|i| format!("'{letter}{i}':'int'")).collect::<Vec<_>>().join(",");
+    let base = format!("{{'struct':'t','data':{{{}}}}}", members('b'));
+    format!("{{'struct':'s','base':'t','data':{{{}}}}}{base}", members('a'))
 }

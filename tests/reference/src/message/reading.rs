@@ -3,6 +3,7 @@
 use super::records::Records;
 use crate::builtins::{self, JsonKind, INT, SIZE};
 use crate::integers;
+use crate::names;
 use crate::rows::{Rows, ALTERNATE, ENUM, FIRST_ROW_REFERENCE, STRUCT, UNION};
 use crate::strings::Token;
 use crate::text::{children, Kind, Node};
@@ -136,7 +137,7 @@ impl<'a> Reader<'a> {
     /// The row of these whose name the token means.
     fn find(&self, mut rows: impl Iterator<Item = usize>, token: Token) -> Option<usize> {
         let name = token.meaning();
-        rows.find(|&row| self.rows.name(row) == &*name)
+        rows.find(|&row| names::equal(self.rows.name(row), &name))
     }
 
     fn string(&self, node: usize) -> Option<Token<'a>> {

@@ -46,21 +46,22 @@ static FORMS: [Form; 5] = [
     Form { kind: COMMAND, key: b"command", must: &[], may: &[b"data", b"returns", b"allow-oob"] },
 ];
 
-/// The words of all rows, and the names that refer.
-pub fn lay_out(text: &[u8], nodes: &[Node]) -> Result<(Vec<u32>, Vec<Reference>), Refusal> {
-    let mut layout = Layout { text, nodes, words: Vec::new(), references: Vec::new() };
+/// All rows, and the names that refer. Nearly every row has two nodes, a name and what it names.
+pub fn lay_out(text: &[u8], nodes: &[Node]) -> Result<(Vec<[u32; ROW]>, Vec<Reference>), Refusal> {
+    let room = nodes.len() / 2;
+    let mut layout = Layout { text, nodes, rows: Vec::with_capacity(room), references: Vec::with_capacity(room) };
     let mut object = 0;
     while object < nodes.len() {
         layout.definition(object)?;
         object = nodes[object].next as usize;
     }
-    Ok((layout.words, layout.references))
+    Ok((layout.rows, layout.references))
 }
 
 struct Layout<'a> {
     text: &'a [u8],
     nodes: &'a [Node],
-    words: Vec<u32>,
+    rows: Vec<[u32; ROW]>,
     references: Vec<Reference>,
 }
 
@@ -195,15 +196,14 @@ impl<'a> Layout<'a> {
         Ok(())
     }
 
-    fn row(&mut self, kind: u32, name: Span, rest: [u32; 5]) -> usize {
-        let row = self.words.len() / ROW;
-        self.words.extend([kind, name.start as u32, name.length as u32]);
-        self.words.extend(rest);
-        row
+    fn row(&mut self, kind: u32, name: Span, [fourth, fifth, sixth, seventh, eighth]: [u32; 5]) -> usize {
+        let (start, length) = (name.start as u32, name.length as u32);
+        self.rows.push([kind, start, length, fourth, fifth, sixth, seventh, eighth]);
+        self.rows.len() - 1
     }
 
     fn set(&mut self, row: usize, place: usize, word: u32) {
-        self.words[row * ROW + place - 1] = word;
+        self.rows[row][place - 1] = word;
     }
 
     /// The value under a key that must be there.

@@ -1,22 +1,17 @@
 //! Names that refer, found (number 7, and the discriminators of 9). Good names have no backslash, so one with an
 //! escape equals none.
 
-use std::collections::HashMap;
-
 use super::layout::{Reference, Span, Target};
 use super::Refusal;
 use crate::builtins;
+use crate::names::NameMap;
 use crate::rows::{Rows, FIRST_ROW_REFERENCE, ROW};
 
 /// A word to be written: row, place, word.
 pub type Found = (usize, usize, u32);
 
 /// The types and structs that names refer to.
-pub fn find_definitions(
-    rows: Rows,
-    names: &[Reference],
-    definitions: &HashMap<&[u8], usize>,
-) -> Result<Vec<Found>, Refusal> {
+pub fn find_definitions(rows: Rows, names: &[Reference], definitions: &NameMap<usize>) -> Result<Vec<Found>, Refusal> {
     let find = |reference: &Reference| {
         let name = bytes(rows, reference.name);
         let row = || definitions.get(name).copied();
@@ -51,9 +46,9 @@ fn find_all<'a>(
     references.map(|reference| Some((reference.row, reference.place, find(reference)?))).collect()
 }
 
-pub fn write(words: &mut [u32], found: &[Found]) {
+pub fn write(rows: &mut [[u32; ROW]], found: &[Found]) {
     for &(row, place, word) in found {
-        words[row * ROW + place - 1] = word;
+        rows[row][place - 1] = word;
     }
 }
 

@@ -33,7 +33,7 @@ pub fn compare(random: &mut Random, dialect: Dialect, text: &[u8], nodes: &[Node
 
 fn decoded(text: &[u8], node: Node) -> Text {
     let token = Token { start: node.start as usize, end: node.end as usize, plain: node.kind.is_plain() };
-    let points = strings::Token::new(text, node).code_points().map(u32::from).collect();
+    let points = strings::Token::new(text, node).code_points().into_iter().map(u32::from).collect();
     Text { token, points }
 }
 

@@ -5,7 +5,7 @@ use generate::texts::{every_fault, Expected};
 use harness::{check_expected, Check, Tally};
 use product::text::Verdict::{self, Deep, Fault, TooLong, Whole};
 
-use crate::texts::compare_text;
+use super::compare_text;
 
 /// Each text is asked in so many ways.
 const SEEDS: u64 = 4;

@@ -1,0 +1,67 @@
+//! The calls, with as many words lent as the program lends. Both set every word lent.
+
+use generate::schemas::Schema;
+use product::gateway;
+use reference::message::check_into;
+use reference::schema::compile_into;
+use reference::table::is_sound;
+
+use crate::inputs::Inputs;
+use crate::line::{measured, Line, Task};
+
+const ROWS: usize = 1_024 * 8;
+const RECORDS: usize = 4_096 * 4;
+/// How often each batch of schemas, and of messages, is run in each way.
+const SCHEMA_REPETITIONS: usize = 100;
+const MESSAGE_REPETITIONS: usize = 7;
+
+pub fn lines(inputs: &Inputs) -> Vec<Line> {
+    [schema_lines(&inputs.schemas), message_lines(&inputs.schemas[0], &inputs.messages)].concat()
+}
+
+fn schema_lines(schemas: &[Schema]) -> Vec<Line> {
+    let (mut rows, mut rust_rows) = (vec![0; ROWS], vec![0; ROWS]);
+    let compile = Task {
+        what: "compile a schema of about 32 KB and 1,000 rows",
+        product: Box::new(|schema: &Schema| accepted(gateway::compile(&schema.bytes, &mut rows))),
+        rust: Box::new(|schema: &Schema| {
+            let (number, count) = compile_into(&schema.bytes, &mut rust_rows);
+            accepted((number, count as usize))
+        }),
+    };
+    let judge = Task {
+        what: "judge its table",
+        product: Box::new(|schema: &Schema| usize::from(gateway::is_sound(&schema.bytes, &schema.words))),
+        rust: Box::new(|schema: &Schema| usize::from(is_sound(&schema.words, &schema.bytes))),
+    };
+    measured(schemas, |schema| schema.bytes.len(), SCHEMA_REPETITIONS, [compile, judge]).to_vec()
+}
+
+fn accepted((number, count): (u32, usize)) -> usize {
+    assert_eq!(number, 0, "only what is accepted is timed");
+    count
+}
+
+/// The table is judged with each message by both; judging it is timed apart in the same run, and taken off.
+fn message_lines(schema: &Schema, messages: &[Vec<u8>]) -> Vec<Line> {
+    let Schema { bytes, words, .. } = schema;
+    let (mut records, mut rust_records) = (vec![0; RECORDS], vec![0; RECORDS]);
+    let check = Task {
+        what: "check a message of 200 to 4,000 bytes",
+        product: Box::new(|message: &Vec<u8>| {
+            let (number, _, count) = gateway::check(words, bytes, message, &mut records);
+            accepted((number, count))
+        }),
+        rust: Box::new(|message: &Vec<u8>| {
+            let (number, _, count) = check_into(words, bytes, message, &mut rust_records);
+            accepted((number, count as usize))
+        }),
+    };
+    let judge = Task {
+        what: "- judging its table of about 1,000 rows alone",
+        product: Box::new(|_: &Vec<u8>| usize::from(gateway::is_sound(bytes, words))),
+        rust: Box::new(|_: &Vec<u8>| usize::from(is_sound(words, bytes))),
+    };
+    let [check, judge] = measured(messages, Vec::len, MESSAGE_REPETITIONS, [check, judge]);
+    vec![check, judge, check.without("- the rest, by subtraction", judge)]
+}
