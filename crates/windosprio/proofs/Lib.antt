@@ -1,0 +1,3 @@
+-- Laws of the program.
+pub mod ProgramLaws
+pub mod AnswerLaws

@@ -1,0 +1,96 @@
+// The answer lines, put into lent bytes.
+use gateway::numbers::message_number;
+use gateway::numbers::message_records;
+use gateway::numbers::message_row;
+use gateway::numbers::schema_number;
+use gateway::numbers::schema_rows;
+use lines::ends::line_end;
+use lines::numbers::put_line;
+use lines::numbers::put_pair;
+use message::check::check_message;
+use rules::RECORD_WORDS;
+use rules::SchemaAnswer;
+ghost use Prim.Native.Nat.{_+_, _*_, _≤_, _<_, min};
+ghost use mathlib.Core.Path.{_≡_};
+ghost use lib.ListN.{length};
+ghost use Rattle.lines.specs.Text.{Puts};
+ghost use Rattle.windosprio.specs.Program.{schemaLine, messageLine, Answers};
+
+// The longest line: 16,384 words of 10 digits after three numbers.
+const LINE: usize = 180287;
+
+// The place after the last line answered, and the place after its answer.
+pub struct Progress {
+    pub next: usize,
+    pub at: usize,
+}
+
+// How many words so many rows or records have, of those lent.
+pub fn words_of(count: usize, width: usize, lent: usize) -> usize
+    requires { ⌜ 0 < width ⌝ }
+    ensures { λ r. ⌜ (r ≡ min (width * count) lent) × (r ≤ lent) ⌝ }
+{
+    if count <= lent / width {
+        return width * count;
+    }
+    lent
+}
+
+pub fn answer_schema(answer: SchemaAnswer, line: &mut [u8]) -> usize
+    requires { ⌜ 42 ≤ length (now line) ⌝ }
+    ensures { λ r. ⌜ Puts (schemaLine answer) 0 (now (line .entry)) (now (line .exit)) r ⌝ }
+{
+    put_pair(line, 0, schema_number(answer) as usize, schema_rows(answer))
+}
+
+// The answer to one message, put at a place.
+pub fn answer(
+    table: &[u32],
+    schema: &[u8],
+    message: &[u8],
+    records: &mut [u32],
+    out: &mut [u8],
+    at: usize,
+) -> usize
+    requires { ⌜ (length (now records) ≤ 16384) × (at + 180287 ≤ length (now out)) ⌝ }
+    ensures { λ r. ⌜ Puts (messageLine (now (schema .entry)) (now (table .entry)) (length (now (records .entry))) (now (message .entry))) at (now (out .entry)) (now (out .exit)) r ⌝ }
+{
+    let a = check_message(table, schema, message, records);
+    let count = message_records(a);
+    let n = words_of(count, RECORD_WORDS, records.len());
+    put_line(
+        out,
+        at,
+        message_number(a) as usize,
+        message_row(a),
+        count,
+        &records[0..n],
+    )
+}
+
+// The answers to the whole lines from a place on, as long as there is room for a line.
+pub fn answer_lines(
+    table: &[u32],
+    schema: &[u8],
+    s: &[u8],
+    from: usize,
+    records: &mut [u32],
+    out: &mut [u8],
+) -> Progress
+    requires { ⌜ (length (now records) ≤ 16384) × (from ≤ length (now s)) ⌝ }
+    ensures { λ r. ⌜ Answers (now (schema .entry)) (now (table .entry)) (length (now (records .entry))) (now (s .entry)) from (now (out .entry)) (now (out .exit)) (r .next) (r .at) ⌝ }
+{
+    let mut i = from;
+    let mut at = 0;
+    loop {
+        let e = line_end(s, i);
+        if e == s.len() {
+            return Progress { next: i, at };
+        }
+        if out.len() - at < LINE {
+            return Progress { next: i, at };
+        }
+        at = answer(table, schema, &s[i..e], records, out, at);
+        i = e + 1;
+    }
+}
