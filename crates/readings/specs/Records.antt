@@ -7,7 +7,7 @@ use mathlib.Core.Option.{Option, none, some}
 use lib.Dec.{leb}
 use lib.ListN.{length}
 use lib.Seq.{sets}
-use Rattle.grammar.specs.Limits.{record-words}
+use Rattle.grammar.specs.Limits.{message-levels, record-words}
 use Rattle.grammar.specs.Tree.{Json}
 use Rattle.grammar.specs.Machine.Message.{message}
 use Rattle.rules.specs.Rows.{arguments}
@@ -38,4 +38,4 @@ pub record ReadsAt (S T m w old new : List ℕ) (k t f left n : ℕ) (r : Count)
 
 -- the arguments at node k of the command at row c
 pub record ReadsArgumentsAt (S T m w old new : List ℕ) (k c : ℕ) (r : Count) : Type 0 where
-  pub told : (j : Json) (l : ℕ) → sound S T ≡ true → Holds message m w j l k → l ≤ 32 → ReadTold old new 0 (argumentsReading S T (arguments T c) j) r
+  pub told : (j : Json) (l : ℕ) → sound S T ≡ true → Holds message m w j l k → l ≤ message-levels → ReadTold old new 0 (argumentsReading S T (arguments T c) j) r

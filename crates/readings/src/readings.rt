@@ -11,15 +11,13 @@ use table::rows::wide;
 use table::rows::word;
 use text::nodes::node_number;
 use text::nodes::node_word;
+use text::texts::MESSAGE_LEVELS;
 ghost use mathlib.Core.Path.{_≡_};
 ghost use mathlib.Core.List.{[], _∷_};
 ghost use Prim.Native.Nat.{suc, _+_, _*_, _≤_, _<_, _^_};
 ghost use Rattle.text.specs.Nodes.{node};
 ghost use Rattle.readings.specs.Records.{putRecord, ReadsArgumentsAt};
 ghost use Rattle.readings.specs.Readers.{ReadsValue, ReadsPlain, ReadsItems, ReadsFields, IsEmpty};
-
-// The most levels of a message.
-const MESSAGE_LEVELS: usize = 32;
 
 // How many records there are now, or that there is no reading.
 pub enum Count {

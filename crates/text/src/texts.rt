@@ -12,7 +12,7 @@ ghost use Rattle.strings.specs.Classes.{classOf, tabulate};
 ghost use Rattle.text.specs.Texts.{ReadsMessage, ReadsSchema};
 
 // The most levels of brackets; an outermost bracket is level 1.
-const MESSAGE_LEVELS: usize = 32;
+pub const MESSAGE_LEVELS: usize = 32;
 
 const SCHEMA_LEVELS: usize = 8;
 

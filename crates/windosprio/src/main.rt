@@ -10,14 +10,15 @@ use crate::input::read_all;
 use crate::turns::serve;
 use libc::STDOUT_FILENO;
 use rules::ROW_WORDS;
+use rules::SCHEMA_BYTES;
 use rules::SchemaAnswer;
+use rules::TABLE_ROWS;
 use schema::compile::compile_schema;
 
 // A byte more than the limit, so that a longer schema is seen to be longer.
-const SCHEMA_ROOM: usize = 32769;
+const SCHEMA_ROOM: usize = SCHEMA_BYTES + 1;
 
-// 1,024 rows.
-const TABLE_WORDS: usize = 8192;
+const TABLE_WORDS: usize = TABLE_ROWS * ROW_WORDS;
 
 // Answers the messages where the schema was accepted and its line could be written.
 fn with_answer(answer: SchemaAnswer, schema: &[u8], rows: &[u32]) {

@@ -5,16 +5,18 @@ use libc::STDIN_FILENO;
 use libc::STDOUT_FILENO;
 use lines::ends::keep;
 use lines::ends::line_end;
+use rules::MESSAGE_BYTES;
+use rules::RECORD_WORDS;
 ghost use Prim.Native.Nat.{_≤_};
 ghost use mathlib.Core.Path.{_≡_};
 ghost use lib.ListN.{length};
 ghost use Rattle.windosprio.specs.Program.{Room, KeptIn};
 
 // A byte more than the limit, so that a longer message is seen to be longer.
-const CARRY: usize = 16385;
+const CARRY: usize = MESSAGE_BYTES + 1;
 
 // 4,096 records.
-const RECORD_ROOM: usize = 16384;
+const RECORD_ROOM: usize = 4096 * RECORD_WORDS;
 
 // More than the longest answer line.
 const OUT: usize = 262144;
