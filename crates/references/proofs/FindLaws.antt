@@ -16,9 +16,10 @@ use Rattle.rules.specs.Rows.{rowCount, kind, nameOf}
 use Rattle.rules.specs.SchemaTable.{placeIn, reference}
 use Rattle.rules.specs.Cells.{firstLink, isNamed}
 use Rattle.rules.proofs.Lists.{clash, and-left, and-right}
-use Rattle.table.specs.Definitions.{definitionRows, markOf, Listed}
+use Rattle.table.specs.Definitions.{definitionRows, Listed}
+use Rattle.table.specs.Marks.{markOf}
 use Rattle.table.proofs.Walks.{granted, denied}
-use Rattle.table.proofs.DefinitionFacts.{other-mark}
+use Rattle.table.proofs.MarkLaws.{other-mark}
 use Rattle.references.specs.Lookups.{nameIn, fitting, findRow, refersTo, wordRefers, Heads, Finds, Refers}
 
 -- kinds that may be meant

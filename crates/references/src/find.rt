@@ -1,6 +1,6 @@
 // What a name refers to, by the list of definitions.
 use table::definitions::built_in;
-use table::definitions::mark_of;
+use table::marks::mark_of;
 use table::names::name_of;
 use table::names::part_of;
 use table::names::same_bytes;

@@ -22,6 +22,9 @@ const NODE_WORDS: usize = 2 * SCHEMA_BYTES;
 // There is at most one row for each node.
 const RAW_WORDS: usize = 4 * SCHEMA_BYTES;
 
+// There is at most one row for every two bytes.
+const MOST_ROWS: usize = SCHEMA_BYTES / 2;
+
 // Two words for each row.
 const LIST_WORDS: usize = SCHEMA_BYTES;
 
@@ -32,7 +35,9 @@ fn with_rows(schema: &[u8], table: &mut [u32], rows: &mut [u32]) -> SchemaAnswer
 {
     let mut list = [0u32; LIST_WORDS];
     let found = resolve(schema, table, &mut list);
-    judge(schema, table, &mut list, found, rows)
+    let mut marks = [0u32; MOST_ROWS];
+    let n = table.len() / ROW_WORDS;
+    judge(schema, table, &mut marks[..n], &mut list, found, rows)
 }
 
 // Numbers 3 and 4, over the nodes.

@@ -7,11 +7,13 @@ use table::alternates::good_alternates;
 use table::chains::good_chains;
 use table::definitions::distinct_names;
 use table::definitions::good_names;
+use table::marks::put_marks;
 use table::returns::good_returns;
 use table::unions::good_unions;
 use words::copy;
 ghost use Prim.Native.Nat.{_*_, _≤_, _<_, _^_};
 ghost use lib.ListN.{length};
+ghost use Rattle.table.specs.Marks.{Marks};
 ghost use Rattle.schema.specs.Stages.{Answered, Zero, IsTable, Refers};
 
 // Numbers 12 and 13, and the lent rows.
@@ -31,14 +33,14 @@ fn hand_over(table: &[u32], rows: &mut [u32], schema: &[u8]) -> SchemaAnswer
 }
 
 // Numbers 8 to 11.
-fn judge_definitions(schema: &[u8], table: &[u32], rows: &mut [u32]) -> SchemaAnswer
-    requires { ⌜ (length (now table) < 2 ^ 32) × Zero (now rows) × IsTable (now schema) (now table) ⌝ }
+fn judge_definitions(schema: &[u8], table: &[u32], marks: &[u32], rows: &mut [u32]) -> SchemaAnswer
+    requires { ⌜ (length (now table) < 2 ^ 32) × Zero (now rows) × IsTable (now schema) (now table) × Marks (now schema) (now table) (now marks) ⌝ }
     ensures { λ r. ⌜ Answered (now (schema .entry)) 7 (now (rows .entry)) (now (rows .exit)) r ⌝ }
 {
-    if !good_chains(schema, table) {
+    if !good_chains(schema, table, marks) {
         return SchemaAnswer::Refused(SchemaRefusal::BadChain);
     }
-    if !good_unions(schema, table) {
+    if !good_unions(schema, table, marks) {
         return SchemaAnswer::Refused(SchemaRefusal::BadUnion);
     }
     if !good_alternates(table) {
@@ -50,10 +52,11 @@ fn judge_definitions(schema: &[u8], table: &[u32], rows: &mut [u32]) -> SchemaAn
     hand_over(table, rows, schema)
 }
 
-// Numbers 5 to 7; `found` says whether every name that refers found its row. The list lends two words for each row.
+// Numbers 5 to 7; `found` says whether every name that refers found its row. The marks lend a word for each row, the list two.
 pub fn judge(
     schema: &[u8],
     table: &[u32],
+    marks: &mut [u32],
     list: &mut [u32],
     found: bool,
     rows: &mut [u32],
@@ -64,11 +67,12 @@ pub fn judge(
     if !good_names(schema, table) {
         return SchemaAnswer::Refused(SchemaRefusal::BadName);
     }
-    if !distinct_names(schema, table, list) {
+    put_marks(schema, table, marks);
+    if !distinct_names(schema, table, marks, list) {
         return SchemaAnswer::Refused(SchemaRefusal::RepeatedName);
     }
     if !found {
         return SchemaAnswer::Refused(SchemaRefusal::UnknownName);
     }
-    judge_definitions(schema, table, rows)
+    judge_definitions(schema, table, marks, rows)
 }

@@ -18,7 +18,7 @@ use Rattle.grammar.specs.Machine.Message.{message}
 use Rattle.grammar.proofs.Booleans.{clash, by, either, both, within-true, within-is, within-below, within-above}
 use Rattle.grammar.proofs.SchemaDialect.{schema-tokens-sound}
 use Rattle.strings.specs.declared.chars.Char.the-variants.{Code}
-use Rattle.strings.specs.Classes.{classOf}
+use Rattle.strings.specs.Classes.{named, classOf}
 use Rattle.strings.specs.Chars.{charAt}
 use Rattle.strings.specs.Strings.{dialect, plainByte}
 use Rattle.strings.proofs.CharRuns.{standing, fault-not-code, char-there, none-at-quote}
@@ -43,7 +43,7 @@ plain-true b t =
     let g = within-true 0x20 0x7F b (h .0) in
     (g .0, g .1, λ e. clash (h .1) (ap not (eq-eqb b (code "\\") e)))
 
--- classes 5, 6 and 7 are those bytes
+-- classes from 5 on are those bytes
 pub class-itself : (b : ℕ) → 5 ≤ classOf b → Itself b
 unfolding classOf
 class-itself b =
@@ -80,7 +80,7 @@ class-coded b =
     (λ _. by P (leb 0x80 b) (λ t _ _. simp (within-above 0x20 0x7F b (leb-true 0x80 b t)))
     (λ _. by P (eqb b (code "\"")) (λ t _ n. absurd (n (eqb-true b (code "\"") t)))
     (λ _. by P (eqb b (code "\\")) (λ t _ _. rw (eqb-true b (code "\\") t) refl)
-    (λ _. by P (within (code "0") (code "9") b) (λ _ h. absurd (omega arith)) (λ _ h. absurd (omega arith))))))))
+    (λ _. by P (within (code "0") (code "9") b) (λ _ h. absurd (omega arith)) (λ _. by P (named b) (λ _ h. absurd (omega arith)) (λ _ h. absurd (omega arith)))))))))
   where
     P : ℕ → Type 0
     P n = n < 5 → (b ≡ code "\"" → ⊥) → plainByte b ≡ false

@@ -16,8 +16,10 @@ use Rattle.rules.specs.Rows.{upFrom, base, inlineRows, childCount, children, me
 use Rattle.rules.specs.Rules.{any, is, namesOf, noClash, base-structs, chainFits}
 use Rattle.rules.proofs.Lists.{none-not-some, any-true, any-of, is-true, in-upFrom, upFrom-bounds}
 use Rattle.rules.proofs.First.{decided}
-use Rattle.table.specs.Chains.{chainEnds, hasChild, hasMember, isMember, childrenNew, membersNew}
-use Rattle.table.proofs.ListLaws.{all-map, any-map, all-map-append, any-map-append, any-append, all-same, no-clash-is, is-guard}
+use Rattle.table.specs.Marks.{freshOf, runsApart}
+use Rattle.table.specs.Chains.{chainEnds, hasChild, hasMember, isMember, listsApart, childrenNew, membersNew}
+use Rattle.table.proofs.ListLaws.{all-map, all-map-append, any-map-append, any-append, all-same, all-true, all-both, not-any, not-not, not-or, no-clash-is, is-guard}
+use Rattle.table.proofs.ChildLaws.{children-run}
 
 -- a walk by structs left and link: `none` at link 0, `out` where no struct is left, and `on` of the walk from the base and the struct's row
 pub record Walk (T : List ℕ) (f : ℕ → ℕ → Bool) (none out : Bool) (on : Bool → ℕ → Bool) : Type 0 where
@@ -80,9 +82,22 @@ module _ (T : List ℕ) where
 
 -- children and members by name
 module _ (S T : List ℕ) where
-  pub has-child-is : (r : ℕ) (x : List ℕ) → hasChild S T r x ≡ any (λ c. sameName x (nameOf S T c)) (children T r)
-  unfolding hasChild
-  has-child-is r x = any-map (nameOf S T) (sameName x) (children T r)
+  -- the children of row r are the n rows from a on
+  module _ (r : ℕ) {a n : ℕ} (p : a ≡ suc r + inlineRows T r) (q : n ≡ childCount T r) where
+    fresh-child : (x : List ℕ) → freshOf S T x a (a + n) ≡ not (hasChild S T r x)
+    unfolding hasChild
+    fresh-child x = rw (children-run T r p q) (sym (not-any (sameName x) (namesOf S T (upFrom a (a + n - a)))))
+
+    pub has-child-of : {b : Bool} (c : ℕ) → b ≡ freshOf S T (nameOf S T c) a (a + n) → not b ≡ hasChild S T r (nameOf S T c)
+    has-child-of c e = rw (e, fresh-child (nameOf S T c)) (not-not (hasChild S T r (nameOf S T c)))
+
+    -- and those of row s the m rows from b on
+    pub lists-apart-of : (s : ℕ) {b m : ℕ} {v : Bool} → b ≡ suc s + inlineRows T s → m ≡ childCount T s → v ≡ runsApart S T b (b + m) a (a + n) → v ≡ listsApart S T r s
+    unfolding listsApart runsApart
+    lists-apart-of s {b} {m} x y e =
+        e ∙ rw (← children-run T s x y)
+        (all-same (λ i. freshOf S T (nameOf S T i) a (a + n)) (λ i. not (hasChild S T r (nameOf S T i))) (children T s) (λ i. fresh-child (nameOf S T i))
+        ∙ sym (all-map (nameOf S T) (λ y. not (hasChild S T r y)) (children T s)))
 
   pub has-member-walk : (x : List ℕ) → Walk T (λ n l. hasMember S T n l x) false false (λ b r. b || hasChild S T r x)
   unfolding hasMember
@@ -93,9 +108,22 @@ module _ (S T : List ℕ) where
   has-member-is n l x ms e = walk-members (λ rs. any (sameName x) (namesOf S T rs)) _||_ refl (any-map-append (nameOf S T) (sameName x)) (has-member-walk x) n l ms e
 
   -- children that are new, and members
-  pub children-new-rows : (n other r : ℕ) → childrenNew S T n other r ≡ all (λ c. not (hasMember S T n other (nameOf S T c))) (children T r)
-  unfolding childrenNew
-  children-new-rows n other r = all-map (nameOf S T) (λ x. not (hasMember S T n other x)) (children T r)
+  pub children-new-walk : (r : ℕ) → Walk T (λ n l. childrenNew S T n l r) true true (λ b s. b && listsApart S T s r)
+  unfolding childrenNew listsApart hasMember
+  children-new-walk r = record {
+    at-none = elim [ zero ↦ none | suc n ↦ none ];
+    at-out = λ _. none;
+    at-struct = λ n s.
+        all-same (λ x. not (hasMember S T n (base T s) x || hasChild S T s x)) (λ x. not (hasMember S T n (base T s) x) && not (hasChild S T s x)) names
+        (λ x. not-or (hasMember S T n (base T s) x) (hasChild S T s x))
+        ∙ all-both (λ x. not (hasMember S T n (base T s) x)) (λ x. not (hasChild S T s x)) names;
+  }
+    where
+      names : List (List ℕ)
+      names = namesOf S T (children T r)
+
+      none : all (λ x. true) (namesOf S T (children T r)) ≡ true
+      none = all-true (λ x. true) (namesOf S T (children T r)) (λ x. refl)
 
   pub members-new-walk : (other : ℕ) → Walk T (λ n l. membersNew S T n l other) true true (λ b r. b && childrenNew S T chain-structs other r)
   unfolding membersNew

@@ -1,22 +1,21 @@
--- Laws of definitions: good names row by row, places of built-ins, kinds of definitions, and marks of names.
--- Places are counted from any number on, so that a list of names may be looked through in parts; a mark is a function of the name.
-use Prim.Native.Nat.{ℕ, zero, suc, _+_, _-_, _*_, _%_}
+-- Laws of definitions: good names row by row, places of built-ins, and kinds of definitions.
+-- Places are counted from any number on, so that a list of names may be looked through in parts.
+use Prim.Native.Nat.{ℕ, zero, suc, _+_}
 use mathlib.Core.Path.{_≡_, refl, sym, ap, _∙_}
 use mathlib.Core.Bool.{Bool, true, false, not, cond, _&&_, _||_}
 use mathlib.Core.List.{List, [], _∷_, _++_}
 use native.Mathlib.Nat.{add-zero}
 use native.Mathlib.Omega.{arith}
 use lib.Dec.{eqb}
-use lib.ListN.{length, getD}
-use borrow.Author.Tests.{eq-eqb, ne-eqb}
-use Rattle.grammar.proofs.Lists.{different}
+use lib.ListN.{length}
+use borrow.Author.Tests.{ne-eqb}
 use Rattle.grammar.specs.Notation.{same}
 use Rattle.rules.proofs.TableRows.{inline-struct}
 use Rattle.rules.specs.Names.{goodName}
 use Rattle.rules.specs.Rows.{rowCount, kind, inline, nameOf}
 use Rattle.rules.specs.Rules.{isDefinition, goodNames}
 use Rattle.rules.specs.SchemaTable.{placeIn, later}
-use Rattle.table.specs.Definitions.{nameFits, placeFrom, markOf}
+use Rattle.table.specs.Definitions.{nameFits, placeFrom}
 use Rattle.table.proofs.Walks.{upTo, upTo-rows}
 use Rattle.table.proofs.NameFacts.{fresh}
 use Rattle.table.proofs.LayoutFacts.{ofDefinition}
@@ -124,15 +123,3 @@ module _ (T : List ℕ) (r k : ℕ) (e : k ≡ kind T r) where
 
   pub no-definition : (k ≡ 1 → ⊥) → (k ≡ 3 → ⊥) → (k ≡ 5 → ⊥) → (k ≡ 7 → ⊥) → (k ≡ 9 → ⊥) → false ≡ isDefinition T r
   no-definition a b c d f = rw (← e, ne-eqb k 1 a, ne-eqb k 3 b, ne-eqb k 5 c, ne-eqb k 7 d, ne-eqb k 9 f)
-
--- marks
-pub mark-none : (x : List ℕ) → length x ≡ 0 → 0 ≡ markOf x
-unfolding markOf
-mark-none x e = rw (eq-eqb (length x) 0 e)
-
-pub mark-some : (x : List ℕ) → (length x ≡ 0 → ⊥) → length x % 256 + 256 * getD x 0 0 + 65536 * getD x (length x - 1) 0 ≡ markOf x
-unfolding markOf
-mark-some x n = rw (ne-eqb (length x) 0 n)
-
-pub other-mark : (x y : List ℕ) → (markOf y ≡ markOf x → ⊥) → same x y ≡ false
-other-mark x y n = different x y (λ e. n (ap markOf (sym e)))

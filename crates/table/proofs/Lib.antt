@@ -3,6 +3,7 @@ pub mod Walks
 pub mod RowFacts
 pub mod NameFacts
 pub mod LayoutFacts
+pub mod MarkLaws
 pub mod DefinitionFacts
 pub mod ListFacts
 -- In the order of the argument: lists, loops over rows and over children; then the laws of each file of the judge.

@@ -16,11 +16,13 @@ use Rattle.rules.specs.Names.{clash}
 use Rattle.rules.specs.Rows.{upFrom, rowCount, inlineRows, childCount, children, nameOf}
 use Rattle.rules.specs.Rules.{those, isDefinition, namesOf, noClash, distinctNames}
 use Rattle.rules.specs.SchemaTable.{placeIn}
-use Rattle.table.specs.Definitions.{markOf, definitionsBelow, definitionRows, Marked, Listed, definitionName, definitionApart, definitionsClear, childrenApart}
+use Rattle.table.specs.Marks.{markOf}
+use Rattle.table.specs.Definitions.{definitionsBelow, definitionRows, Marked, Listed, definitionName, definitionApart, definitionsClear, childrenApart}
 use Rattle.table.proofs.Walks.{upTo, upTo-of}
 use Rattle.table.proofs.RowFacts.{children-from}
 use Rattle.table.proofs.NameFacts.{fresh}
-use Rattle.table.proofs.DefinitionFacts.{other-mark, taken-of-place, fresh-of-place}
+use Rattle.table.proofs.DefinitionFacts.{taken-of-place, fresh-of-place}
+use Rattle.table.proofs.MarkLaws.{other-mark}
 
 -- the definitions below the next row
 those-append : (f : ℕ → Bool) (xs ys : List ℕ) → those f (xs ++ ys) ≡ those f xs ++ those f ys

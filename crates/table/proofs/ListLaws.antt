@@ -27,6 +27,15 @@ module _ {A : Type 0} (f : A → Bool) where
       go true h = refl
       go false h = h
 
+-- what is not so is so
+pub not-not : (b : Bool) → not (not b) ≡ b
+not-not true = refl
+not-not false = refl
+
+pub not-or : (a b : Bool) → not (a || b) ≡ not a && not b
+not-or true b = refl
+not-or false b = refl
+
 -- images
 module _ {A B : Type 0} (f : A → B) (g : B → Bool) where
   pub all-map : (l : List A) → all g (map f l) ≡ all (λ x. g (f x)) l
@@ -51,6 +60,10 @@ all-same f g (x ∷ l) h = rw (h x, all-same f g l h)
 pub any-same : {A : Type 0} (f g : A → Bool) (l : List A) → ((x : A) → f x ≡ g x) → any f l ≡ any g l
 any-same f g [] h = refl
 any-same f g (x ∷ l) h = rw (h x, any-same f g l h)
+
+pub all-true : {A : Type 0} (f : A → Bool) (l : List A) → ((x : A) → f x ≡ true) → all f l ≡ true
+all-true f [] h = refl
+all-true f (x ∷ l) h = rw (h x) (all-true f l h)
 
 pub any-none : {A : Type 0} (f : A → Bool) (l : List A) → ((x : A) → f x ≡ false) → any f l ≡ false
 any-none f [] h = refl

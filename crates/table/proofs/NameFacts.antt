@@ -1,7 +1,7 @@
 -- Laws of names: parts of the schema's bytes, equal bytes, good names, and names of rows that do not clash.
 -- Equal bytes, fresh names and names apart are tests of every place or row from the first on.
 use Prim.Native.Nat.{ℕ, _+_, _-_, _≤_, _<_}
-use mathlib.Core.Path.{_≡_, refl, sym, _∙_}
+use mathlib.Core.Path.{_≡_, refl, sym, ap, _∙_}
 use mathlib.Core.Bool.{Bool, true, false, not, _&&_, _||_, and-true, and-false, or-true, or-false}
 use mathlib.Core.List.{List, [], _∷_}
 use native.Mathlib.Nat.{sub-self}
@@ -13,10 +13,13 @@ use lib.Seq.{take-nil, take-all, drop-cons}
 use borrow.Author.Tests.{eq-eqb, ne-eqb, le-leb, lt-leb}
 use Rattle.grammar.proofs.Booleans.{within-is, within-below, within-above, Outside}
 use Rattle.grammar.proofs.Booleans.Outside.{below, above}
+use Rattle.grammar.specs.Lexis.{blank}
 use Rattle.grammar.specs.Notation.{text, within, same, all, apart}
 use Rattle.rules.specs.Names.{letter, digit, nameByte, goodName, clash}
 use Rattle.rules.specs.Rows.{upFrom, nameOf}
 use Rattle.rules.specs.Rules.{namesOf}
+use Rattle.strings.proofs.Tables.{entry}
+use Rattle.strings.specs.Classes.{classOf, tabulate}
 use Rattle.table.proofs.Walks.{upFrom-on, upFrom-end, upTo, upTo-of}
 
 -- n bytes from a on, or those that there are
@@ -39,6 +42,24 @@ same-upTo x y e =
     (λ i h. rw (add-one, drop-cons x i 0 h, drop-cons y i 0 (let g : i < length y = omega arith in g)))
     (λ i h. rw (drop-of-length-le x h, drop-of-length-le y (let g : length y ≤ i = omega arith in g))) 0
 
+-- name bytes by their class
+class-names : tabulate (λ b. within 6 7 (classOf b)) 0 256 ≡ tabulate nameByte 0 256
+unfolding classOf blank
+class-names = refl
+
+name-class : (b : ℕ) → b < 256 → within 6 7 (classOf b) ≡ nameByte b
+name-class b h = sym (entry (λ i. within 6 7 (classOf i)) 256 b false h) ∙ ap (λ l. getD l b false) class-names ∙ entry nameByte 256 b false h
+
+module _ {b c : ℕ} (h : b < 256) (e : c ≡ classOf b) where
+  pub class-name : 6 ≤ c → c ≤ 7 → true ≡ nameByte b
+  class-name l u = sym (within-is 6 7 c l u) ∙ ap (within 6 7) e ∙ name-class b h
+
+  pub class-low : c < 6 → false ≡ nameByte b
+  class-low l = sym (within-below 6 7 c l) ∙ ap (within 6 7) e ∙ name-class b h
+
+  pub class-high : 7 < c → false ≡ nameByte b
+  class-high u = sym (within-above 6 7 c u) ∙ ap (within 6 7) e ∙ name-class b h
+
 -- classes of bytes
 within-out : (a e b : ℕ) → Outside a e b → within a e b ≡ false
 within-out a e b (below h) = within-below a e b h
@@ -53,12 +74,6 @@ module _ (b : ℕ) where
 
   pub no-letter : Outside 65 90 b → Outside 97 122 b → false ≡ letter b
   no-letter h k = rw (within-out 65 90 b h, within-out 97 122 b k)
-
-  pub digit-name : 48 ≤ b → b ≤ 57 → true ≡ nameByte b
-  digit-name h k = rw (within-is 48 57 b h k, or-true (letter b))
-
-  pub other-name : Outside 48 57 b → (b ≡ 45 → ⊥) → (b ≡ 95 → ⊥) → nameByte b ≡ letter b
-  other-name h p q = rw (within-out 48 57 b h, ne-eqb b 45 p, ne-eqb b 95 q) (simp or-false)
 
   pub digit-start : (digits : Bool) → 48 ≤ b → b ≤ 57 → digits ≡ (letter b || digits && digit b)
   digit-start digits h k =

@@ -32,6 +32,10 @@ isMember T zero (suc r) m = false
 isMember T (suc n) zero m = false
 isMember T (suc n) (suc r) m = isMember T n (base T r) m || any (eqb m) (children T r)
 
+-- no child of row r has the name of a child of row s
+unfoldable pub listsApart : List ℕ → List ℕ → ℕ → ℕ → Bool
+listsApart S T s r = all (λ x. not (hasChild S T s x)) (namesOf S T (children T r))
+
 -- no child of row r has the name of a member of the struct with the link `other`
 unfoldable pub childrenNew : List ℕ → List ℕ → ℕ → ℕ → ℕ → Bool
 childrenNew S T n other r = all (λ x. not (hasMember S T n other x)) (namesOf S T (children T r))

@@ -1,4 +1,4 @@
--- Serves contracts: rule 5 of one row, places counted from a number on, marks of names, and the list of definitions that rule 6 goes by.
+-- Serves contracts: rule 5 of one row, places counted from a number on, and the list of definitions that rule 6 goes by.
 use Prim.Native.Nat.{ℕ, suc, _+_, _-_, _*_, _%_, _≤_, _<_}
 use mathlib.Core.Path.{_≡_}
 use mathlib.Core.Bool.{Bool, not, cond, _&&_, _||_}
@@ -10,6 +10,7 @@ use Rattle.rules.specs.Types.{built-ins}
 use Rattle.rules.specs.Names.{goodName, sameName, clash}
 use Rattle.rules.specs.Rows.{upFrom, rowCount, kind, inline, children, nameOf}
 use Rattle.rules.specs.Rules.{those, everyRow, isDefinition, namesOf, noClash, definitionNames}
+use Rattle.table.specs.Marks.{markOf}
 
 -- row r is an inline struct or has a good name
 abbrev pub nameFits : List ℕ → List ℕ → ℕ → Bool
@@ -19,10 +20,6 @@ nameFits S T r = inline T r || goodName (eqb (kind T r) 2 || eqb (kind T r) 6) (
 unfoldable pub placeFrom : ℕ → List (List ℕ) → List ℕ → ℕ
 placeFrom n [] x = 0
 placeFrom n (y ∷ ys) x = cond (sameName x y) n (placeFrom (suc n) ys x)
-
--- a number that equal names share: the length, the first and the last byte
-unfoldable pub markOf : List ℕ → ℕ
-markOf x = cond (eqb (length x) 0) 0 (length x % 256 + 256 * getD x 0 0 + 65536 * getD x (length x - 1) 0)
 
 -- the definitions below row n, and all of a table's
 unfoldable pub definitionsBelow : List ℕ → ℕ → List ℕ

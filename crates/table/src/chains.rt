@@ -1,6 +1,6 @@
 // Chains of bases and inherited members, by recursion over base links, the structs left falling: rule 8.
-use crate::names::name_of;
-use crate::names::same_bytes;
+use crate::marks::is_fresh;
+use crate::marks::runs_apart;
 use crate::rows::child_count;
 use crate::rows::first_child;
 use crate::rows::wide;
@@ -10,8 +10,10 @@ use rules::ROW_WORDS;
 ghost use mathlib.Core.Path.{_≡_};
 ghost use Prim.Native.Nat.{_<_, _^_};
 ghost use lib.ListN.{length};
+ghost use Rattle.rules.specs.Rows.{nameOf};
 ghost use Rattle.rules.specs.Rules.{chainFits, goodChains};
-ghost use Rattle.table.specs.Chains.{chainEnds, hasChild, hasMember, isMember, childrenNew, membersNew};
+ghost use Rattle.table.specs.Marks.{Marks};
+ghost use Rattle.table.specs.Chains.{chainEnds, hasChild, isMember, listsApart, childrenNew, membersNew};
 
 // The most structs on the chain of a base: the struct that has it is the first one counted.
 const BASE_STRUCTS: usize = CHAIN_STRUCTS - 1;
@@ -29,39 +31,25 @@ pub fn chain_ends(rows: &[u32], link: usize, left: usize) -> bool
     chain_ends(rows, wide(word(rows, link - 1, 4)), left - 1)
 }
 
-// Whether row r has a child of that name.
-pub fn has_child(schema: &[u8], rows: &[u32], r: usize, name: &[u8]) -> bool
-    requires { ⌜ r < 2 ^ 39 ⌝ }
-    ensures { λ b. ⌜ b ≡ hasChild (now (schema .entry)) (now (rows .entry)) r (now (name .entry)) ⌝ }
+// Whether row r has a child with the name of row c.
+pub fn has_child(schema: &[u8], rows: &[u32], marks: &[u32], r: usize, c: usize) -> bool
+    requires { ⌜ (r < 2 ^ 39) × Marks (now schema) (now rows) (now marks) ⌝ }
+    ensures { λ b. ⌜ b ≡ hasChild (now (schema .entry)) (now (rows .entry)) r (nameOf (now (schema .entry)) (now (rows .entry)) c) ⌝ }
+{
+    let a = first_child(rows, r);
+    !is_fresh(schema, rows, marks, c, a, a + child_count(rows, r))
+}
+
+// Whether no child of row r has the name of a child of row s.
+fn lists_apart(schema: &[u8], rows: &[u32], marks: &[u32], r: usize, s: usize) -> bool
+    requires { ⌜ (r < 2 ^ 39) × (s < 2 ^ 39) × Marks (now schema) (now rows) (now marks) ⌝ }
+    ensures { λ b. ⌜ b ≡ listsApart (now (schema .entry)) (now (rows .entry)) s r ⌝ }
 {
     let a = first_child(rows, r);
     let e = a + child_count(rows, r);
-    let mut c = a;
-    while c < e {
-        if same_bytes(name, name_of(schema, rows, c)) {
-            return true;
-        }
-        c += 1;
-    }
-    false
-}
-
-// Whether the struct with that link has a member of that name, its own or inherited.
-pub fn has_member(schema: &[u8], rows: &[u32], link: usize, left: usize, name: &[u8]) -> bool
-    requires { ⌜ link < 2 ^ 39 ⌝ }
-    ensures { λ b. ⌜ b ≡ hasMember (now (schema .entry)) (now (rows .entry)) left link (now (name .entry)) ⌝ }
-{
-    if link == 0 {
-        return false;
-    }
-    if left == 0 {
-        return false;
-    }
-    let s = link - 1;
-    if has_member(schema, rows, wide(word(rows, s, 4)), left - 1, name) {
-        return true;
-    }
-    has_child(schema, rows, s, name)
+    let b = first_child(rows, s);
+    let f = b + child_count(rows, s);
+    runs_apart(schema, rows, marks, a, e, b, f)
 }
 
 // Whether row m is a member of the struct with that link, its own or inherited.
@@ -86,26 +74,41 @@ pub fn is_member(rows: &[u32], link: usize, left: usize, m: usize) -> bool
     m - a < child_count(rows, s)
 }
 
-// Whether no child of row r has the name of a member of the struct with the link `other`.
-pub fn children_new(schema: &[u8], rows: &[u32], r: usize, other: usize, left: usize) -> bool
-    requires { ⌜ (r < 2 ^ 39) × (other < 2 ^ 39) ⌝ }
+// Whether no child of row r has the name of a member of the struct with the link `other`, its own or inherited.
+pub fn children_new(
+    schema: &[u8],
+    rows: &[u32],
+    marks: &[u32],
+    r: usize,
+    other: usize,
+    left: usize,
+) -> bool
+    requires { ⌜ (r < 2 ^ 39) × (other < 2 ^ 39) × Marks (now schema) (now rows) (now marks) ⌝ }
     ensures { λ b. ⌜ b ≡ childrenNew (now (schema .entry)) (now (rows .entry)) left other r ⌝ }
 {
-    let a = first_child(rows, r);
-    let e = a + child_count(rows, r);
-    let mut c = a;
-    while c < e {
-        if has_member(schema, rows, other, left, name_of(schema, rows, c)) {
-            return false;
-        }
-        c += 1;
+    if other == 0 {
+        return true;
     }
-    true
+    if left == 0 {
+        return true;
+    }
+    let s = other - 1;
+    if !children_new(schema, rows, marks, r, wide(word(rows, s, 4)), left - 1) {
+        return false;
+    }
+    lists_apart(schema, rows, marks, r, s)
 }
 
 // Whether no member of the struct with that link, its own or inherited, has the name of a member of the one with the link `other`.
-pub fn members_new(schema: &[u8], rows: &[u32], link: usize, left: usize, other: usize) -> bool
-    requires { ⌜ (link < 2 ^ 39) × (other < 2 ^ 39) ⌝ }
+pub fn members_new(
+    schema: &[u8],
+    rows: &[u32],
+    marks: &[u32],
+    link: usize,
+    left: usize,
+    other: usize,
+) -> bool
+    requires { ⌜ (link < 2 ^ 39) × (other < 2 ^ 39) × Marks (now schema) (now rows) (now marks) ⌝ }
     ensures { λ b. ⌜ b ≡ membersNew (now (schema .entry)) (now (rows .entry)) left link other ⌝ }
 {
     if link == 0 {
@@ -115,33 +118,33 @@ pub fn members_new(schema: &[u8], rows: &[u32], link: usize, left: usize, other:
         return true;
     }
     let s = link - 1;
-    if !members_new(schema, rows, wide(word(rows, s, 4)), left - 1, other) {
+    if !members_new(schema, rows, marks, wide(word(rows, s, 4)), left - 1, other) {
         return false;
     }
-    children_new(schema, rows, s, other, CHAIN_STRUCTS)
+    children_new(schema, rows, marks, s, other, CHAIN_STRUCTS)
 }
 
 // Whether the chain of struct r fits, and it repeats no inherited member.
-fn chain_fits(schema: &[u8], rows: &[u32], r: usize) -> bool
-    requires { ⌜ r < 2 ^ 39 ⌝ }
+fn chain_fits(schema: &[u8], rows: &[u32], marks: &[u32], r: usize) -> bool
+    requires { ⌜ (r < 2 ^ 39) × Marks (now schema) (now rows) (now marks) ⌝ }
     ensures { λ b. ⌜ b ≡ chainFits (now (schema .entry)) (now (rows .entry)) r ⌝ }
 {
     let base = wide(word(rows, r, 4));
     if !chain_ends(rows, base, BASE_STRUCTS) {
         return false;
     }
-    children_new(schema, rows, r, base, BASE_STRUCTS)
+    children_new(schema, rows, marks, r, base, BASE_STRUCTS)
 }
 
-pub fn good_chains(schema: &[u8], rows: &[u32]) -> bool
-    requires { ⌜ length (now rows) < 2 ^ 32 ⌝ }
+pub fn good_chains(schema: &[u8], rows: &[u32], marks: &[u32]) -> bool
+    requires { ⌜ (length (now rows) < 2 ^ 32) × Marks (now schema) (now rows) (now marks) ⌝ }
     ensures { λ b. ⌜ b ≡ goodChains (now (schema .entry)) (now (rows .entry)) ⌝ }
 {
     let n = rows.len() / ROW_WORDS;
     let mut r = 0;
     while r < n {
         if word(rows, r, 0) == 3 {
-            if !chain_fits(schema, rows, r) {
+            if !chain_fits(schema, rows, marks, r) {
                 return false;
             }
         }

@@ -1,5 +1,6 @@
 // Names of definitions and of what is in them: rules 5 and 6.
-use crate::names::all_apart;
+use crate::marks::all_apart;
+use crate::marks::mark_of;
 use crate::names::good_name;
 use crate::names::name_of;
 use crate::names::same_bytes;
@@ -10,6 +11,7 @@ use crate::rows::is_inline;
 use crate::rows::wide;
 use crate::rows::word;
 use rules::ROW_WORDS;
+use strings::classes::class_table;
 ghost use mathlib.Core.Path.{_≡_};
 ghost use Prim.Native.Nat.{_*_, _+_, _≤_, _<_, _^_};
 ghost use mathlib.Core.Bool.{_||_};
@@ -21,7 +23,9 @@ ghost use Rattle.rules.specs.Names.{clash};
 ghost use Rattle.rules.specs.Rows.{rowCount, nameOf};
 ghost use Rattle.rules.specs.Rules.{isDefinition, goodNames, distinctNames};
 ghost use Rattle.rules.specs.SchemaTable.{placeIn};
-ghost use Rattle.table.specs.Definitions.{nameFits, placeFrom, markOf, Listed, definitionName, definitionApart, definitionsClear, childrenApart};
+ghost use Rattle.strings.specs.Classes.{classOf, tabulate};
+ghost use Rattle.table.specs.Marks.{markOf, Marks};
+ghost use Rattle.table.specs.Definitions.{nameFits, placeFrom, Listed, definitionName, definitionApart, definitionsClear, childrenApart};
 
 // The number of a name among five that are numbered from n on; 0 if it is none of them.
 fn place_of(name: &[u8], n: u32, a: &[u8], b: &[u8], c: &[u8], d: &[u8], e: &[u8]) -> u32
@@ -66,10 +70,11 @@ pub fn good_names(schema: &[u8], rows: &[u32]) -> bool
     requires { ⌜ length (now rows) < 2 ^ 32 ⌝ }
     ensures { λ r. ⌜ r ≡ goodNames (now (schema .entry)) (now (rows .entry)) ⌝ }
 {
+    let classes = class_table();
     let n = rows.len() / ROW_WORDS;
     let mut r = 0;
     while r < n {
-        if !name_fits(schema, rows, r) {
+        if !name_fits(schema, rows, &classes, r) {
             return false;
         }
         r += 1;
@@ -89,14 +94,18 @@ fn takes_digit(k: u32) -> bool
 }
 
 // Whether row r is an inline struct or has a good name.
-fn name_fits(schema: &[u8], rows: &[u32], r: usize) -> bool
-    requires { ⌜ r < 2 ^ 39 ⌝ }
+fn name_fits(schema: &[u8], rows: &[u32], classes: &[u8; 256], r: usize) -> bool
+    requires { ⌜ (r < 2 ^ 39) × (now classes ≡ tabulate classOf 0 256) ⌝ }
     ensures { λ b. ⌜ b ≡ nameFits (now (schema .entry)) (now (rows .entry)) r ⌝ }
 {
     if is_inline(rows, r) {
         return true;
     }
-    good_name(name_of(schema, rows, r), takes_digit(word(rows, r, 0)))
+    good_name(
+        name_of(schema, rows, r),
+        classes,
+        takes_digit(word(rows, r, 0)),
+    )
 }
 
 // Whether row r is a definition of its own.
@@ -113,17 +122,6 @@ pub fn is_definition(rows: &[u32], r: usize) -> bool
         9 => true,
         _ => false,
     }
-}
-
-// A number that equal names share: the length, the first and the last byte.
-pub fn mark_of(name: &[u8]) -> u32
-    ensures { λ r. ⌜ r ≡ markOf (now (name .entry)) ⌝ }
-{
-    let n = name.len();
-    if n == 0 {
-        return 0;
-    }
-    ((n % 256) as u32) + 256 * (name[0] as u32) + 65536 * (name[n - 1] as u32)
 }
 
 // Adds row r to the m definitions of the list if it is one too, with its name's mark; gives their number.
@@ -209,15 +207,15 @@ fn definitions_apart(schema: &[u8], rows: &[u32], list: &[u32], m: usize) -> boo
 }
 
 // Whether in each list of values, members, branches or alternatives no two names are the same.
-fn children_apart(schema: &[u8], rows: &[u32]) -> bool
-    requires { ⌜ length (now rows) < 2 ^ 32 ⌝ }
+fn children_apart(schema: &[u8], rows: &[u32], marks: &[u32]) -> bool
+    requires { ⌜ (length (now rows) < 2 ^ 32) × Marks (now schema) (now rows) (now marks) ⌝ }
     ensures { λ b. ⌜ b ≡ childrenApart (now (schema .entry)) (now (rows .entry)) ⌝ }
 {
     let n = rows.len() / ROW_WORDS;
     let mut r = 0;
     while r < n {
         let a = first_child(rows, r);
-        if !all_apart(schema, rows, a, a + child_count(rows, r)) {
+        if !all_apart(schema, rows, marks, a, a + child_count(rows, r)) {
             return false;
         }
         r += 1;
@@ -226,13 +224,13 @@ fn children_apart(schema: &[u8], rows: &[u32]) -> bool
 }
 
 // Rule 6, with room for two words for each row lent.
-pub fn distinct_names(schema: &[u8], rows: &[u32], list: &mut [u32]) -> bool
-    requires { ⌜ (length (now rows) < 2 ^ 32) × (length (now rows) ≤ 4 * length (now list)) ⌝ }
+pub fn distinct_names(schema: &[u8], rows: &[u32], marks: &[u32], list: &mut [u32]) -> bool
+    requires { ⌜ (length (now rows) < 2 ^ 32) × Marks (now schema) (now rows) (now marks) × (length (now rows) ≤ 4 * length (now list)) ⌝ }
     ensures { λ r. ⌜ r ≡ distinctNames (now (schema .entry)) (now (rows .entry)) ⌝ }
 {
     let m = list_definitions(schema, rows, list);
     if !definitions_apart(schema, rows, list, m) {
         return false;
     }
-    children_apart(schema, rows)
+    children_apart(schema, rows, marks)
 }

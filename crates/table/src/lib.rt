@@ -3,6 +3,7 @@ pub mod alternates;
 pub mod chains;
 pub mod definitions;
 pub mod layout;
+pub mod marks;
 pub mod names;
 pub mod references;
 pub mod returns;

@@ -2,14 +2,14 @@
 use crate::rows::wide;
 use crate::rows::word;
 use rules::NAME_BYTES;
+use strings::classes::class_in;
 ghost use mathlib.Core.Path.{_≡_};
-ghost use Prim.Native.Nat.{_-_};
 ghost use lib.ListN.{take, drop};
 ghost use mathlib.Core.Bool.{not, _&&_, _||_};
-ghost use Rattle.grammar.specs.Notation.{text, same, all, apart};
-ghost use Rattle.rules.specs.Names.{letter, digit, nameByte, goodName, clash};
-ghost use Rattle.rules.specs.Rows.{upFrom, nameOf};
-ghost use Rattle.rules.specs.Rules.{namesOf};
+ghost use Rattle.grammar.specs.Notation.{text, same, all};
+ghost use Rattle.rules.specs.Names.{letter, digit, nameByte, goodName};
+ghost use Rattle.rules.specs.Rows.{nameOf};
+ghost use Rattle.strings.specs.Classes.{classOf, tabulate};
 
 // The n bytes from a on, or those of them that there are.
 pub fn part_of(s: &[u8], a: usize, n: usize) -> &[u8]
@@ -75,24 +75,25 @@ fn is_letter(b: u8) -> bool
     }
 }
 
-fn is_name_byte(b: u8) -> bool
+fn is_name_byte(classes: &[u8; 256], b: u8) -> bool
+    requires { ⌜ now classes ≡ tabulate classOf 0 256 ⌝ }
     ensures { λ r. ⌜ r ≡ nameByte b ⌝ }
 {
-    match b {
-        b'0'..=b'9' => true,
-        b'-' => true,
-        b'_' => true,
-        _ => is_letter(b),
+    let c = class_in(classes, b);
+    match c {
+        6..=7 => true,
+        _ => false,
     }
 }
 
 // Whether every byte from there on is one of a name.
-fn name_bytes(name: &[u8], from: usize) -> bool
+fn name_bytes(name: &[u8], classes: &[u8; 256], from: usize) -> bool
+    requires { ⌜ now classes ≡ tabulate classOf 0 256 ⌝ }
     ensures { λ r. ⌜ r ≡ all nameByte (drop from (now (name .entry))) ⌝ }
 {
     let mut i = from;
     while i < name.len() {
-        if !is_name_byte(name[i]) {
+        if !is_name_byte(classes, name[i]) {
             return false;
         }
         i += 1;
@@ -124,7 +125,8 @@ fn is_reserved(name: &[u8]) -> bool
 }
 
 // Whether a name is good: a digit may be its first byte where `digits` says so.
-pub fn good_name(name: &[u8], digits: bool) -> bool
+pub fn good_name(name: &[u8], classes: &[u8; 256], digits: bool) -> bool
+    requires { ⌜ now classes ≡ tabulate classOf 0 256 ⌝ }
     ensures { λ r. ⌜ r ≡ goodName digits (now (name .entry)) ⌝ }
 {
     let n = name.len();
@@ -140,33 +142,5 @@ pub fn good_name(name: &[u8], digits: bool) -> bool
     if is_reserved(name) {
         return false;
     }
-    name_bytes(name, 1)
-}
-
-// Whether the name of row a clashes with none of the rows from b up to e.
-pub fn is_fresh(schema: &[u8], rows: &[u32], a: usize, b: usize, e: usize) -> bool
-    ensures { λ r. ⌜ r ≡ all (λ y. not (clash (nameOf (now (schema .entry)) (now (rows .entry)) a) y)) (namesOf (now (schema .entry)) (now (rows .entry)) (upFrom b (e - b))) ⌝ }
-{
-    let mut i = b;
-    while i < e {
-        if same_name(schema, rows, a, i) {
-            return false;
-        }
-        i += 1;
-    }
-    true
-}
-
-// Whether no two names of the rows from a up to e clash.
-pub fn all_apart(schema: &[u8], rows: &[u32], a: usize, e: usize) -> bool
-    ensures { λ r. ⌜ r ≡ apart clash (namesOf (now (schema .entry)) (now (rows .entry)) (upFrom a (e - a))) ⌝ }
-{
-    let mut i = a;
-    while i < e {
-        if !is_fresh(schema, rows, i, i + 1, e) {
-            return false;
-        }
-        i += 1;
-    }
-    true
+    name_bytes(name, classes, 1)
 }

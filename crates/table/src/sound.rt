@@ -5,6 +5,7 @@ use crate::definitions::distinct_names;
 use crate::definitions::good_names;
 use crate::layout::is_laid_out;
 use crate::layout::rest_zero;
+use crate::marks::put_marks;
 use crate::references::references_fit;
 use crate::returns::good_returns;
 use crate::rows::wide;
@@ -17,6 +18,7 @@ ghost use mathlib.Core.Path.{_≡_};
 ghost use Prim.Native.Nat.{_*_, _≤_, _<_, _^_};
 ghost use lib.ListN.{length};
 ghost use Rattle.rules.specs.Sound.{sound};
+ghost use Rattle.table.specs.Marks.{Marks};
 ghost use Rattle.table.specs.RuleParts.{namesWithin, rowsFit, shaped, definitionsFit, keepsRules};
 
 const TABLE_WORDS: usize = TABLE_ROWS * ROW_WORDS;
@@ -74,14 +76,14 @@ fn is_shaped(schema: &[u8], rows: &[u32]) -> bool
 }
 
 // Rules 8 to 11: chains, unions, alternates and what commands return.
-fn definitions_fit(schema: &[u8], rows: &[u32]) -> bool
-    requires { ⌜ length (now rows) < 2 ^ 32 ⌝ }
+fn definitions_fit(schema: &[u8], rows: &[u32], marks: &[u32]) -> bool
+    requires { ⌜ (length (now rows) < 2 ^ 32) × Marks (now schema) (now rows) (now marks) ⌝ }
     ensures { λ b. ⌜ b ≡ definitionsFit (now (schema .entry)) (now (rows .entry)) ⌝ }
 {
-    if !good_chains(schema, rows) {
+    if !good_chains(schema, rows, marks) {
         return false;
     }
-    if !good_unions(schema, rows) {
+    if !good_unions(schema, rows, marks) {
         return false;
     }
     if !good_alternates(rows) {
@@ -90,18 +92,19 @@ fn definitions_fit(schema: &[u8], rows: &[u32]) -> bool
     good_returns(rows)
 }
 
-// Rules 5 to 11, of which 7 is that references fit; with room for two words for each row lent.
-fn keeps_rules(schema: &[u8], rows: &[u32], list: &mut [u32]) -> bool
+// Rules 5 to 11, of which 7 is that references fit; with room for the marks of rows lent, and for two words for each row.
+fn keeps_rules(schema: &[u8], rows: &[u32], marks: &mut [u32], list: &mut [u32]) -> bool
     requires { ⌜ (length (now rows) < 2 ^ 32) × (length (now rows) ≤ 4 * length (now list)) ⌝ }
     ensures { λ b. ⌜ b ≡ keepsRules (now (schema .entry)) (now (rows .entry)) ⌝ }
 {
     if !good_names(schema, rows) {
         return false;
     }
-    if !distinct_names(schema, rows, list) {
+    put_marks(schema, rows, marks);
+    if !distinct_names(schema, rows, marks, list) {
         return false;
     }
-    definitions_fit(schema, rows)
+    definitions_fit(schema, rows, marks)
 }
 
 // Whether the table is sound.
@@ -120,6 +123,8 @@ pub fn is_sound(schema: &[u8], rows: &[u32]) -> bool
     if !is_shaped(schema, rows) {
         return false;
     }
+    let n = rows.len() / ROW_WORDS;
+    let mut marks = [0u32; TABLE_ROWS];
     let mut list = [0u32; LIST_WORDS];
-    keeps_rules(schema, rows, &mut list)
+    keeps_rules(schema, rows, &mut marks[..n], &mut list)
 }

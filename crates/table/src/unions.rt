@@ -3,7 +3,6 @@ use crate::chains::chain_ends;
 use crate::chains::has_child;
 use crate::chains::is_member;
 use crate::chains::members_new;
-use crate::names::name_of;
 use crate::rows::child_count;
 use crate::rows::first_child;
 use crate::rows::wide;
@@ -17,6 +16,7 @@ ghost use lib.ListN.{length};
 ghost use Rattle.grammar.specs.Notation.{all};
 ghost use Rattle.rules.specs.Rows.{children};
 ghost use Rattle.rules.specs.Rules.{unionFits, goodUnions};
+ghost use Rattle.table.specs.Marks.{Marks};
 ghost use Rattle.table.specs.RuleParts.{isTag, tagFits, branchNew};
 
 // Whether row d is a mandatory member, no array, of an enum type.
@@ -51,30 +51,30 @@ fn discriminator_fits(rows: &[u32], r: usize) -> bool
 }
 
 // Whether branch b is named by a value of the enum at row e, and its struct repeats no member of the one with the link `base`.
-fn branch_fits(schema: &[u8], rows: &[u32], b: usize, e: usize, base: usize) -> bool
-    requires { ⌜ (e < 2 ^ 39) × (base < 2 ^ 39) ⌝ }
+fn branch_fits(schema: &[u8], rows: &[u32], marks: &[u32], b: usize, e: usize, base: usize) -> bool
+    requires { ⌜ (e < 2 ^ 39) × (base < 2 ^ 39) × Marks (now schema) (now rows) (now marks) ⌝ }
     ensures { λ r. ⌜ r ≡ branchNew (now (schema .entry)) (now (rows .entry)) e base b ⌝ }
 {
-    if !has_child(schema, rows, e, name_of(schema, rows, b)) {
+    if !has_child(schema, rows, marks, e, b) {
         return false;
     }
     let link = wide(word(rows, b, 3));
     if !chain_ends(rows, link, CHAIN_STRUCTS) {
         return false;
     }
-    members_new(schema, rows, link, CHAIN_STRUCTS, base)
+    members_new(schema, rows, marks, link, CHAIN_STRUCTS, base)
 }
 
 // Whether every branch of union r fits.
-fn branches_fit(schema: &[u8], rows: &[u32], r: usize, e: usize, base: usize) -> bool
-    requires { ⌜ (r < 2 ^ 38) × (e < 2 ^ 39) × (base < 2 ^ 39) ⌝ }
+fn branches_fit(schema: &[u8], rows: &[u32], marks: &[u32], r: usize, e: usize, base: usize) -> bool
+    requires { ⌜ (r < 2 ^ 38) × (e < 2 ^ 39) × (base < 2 ^ 39) × Marks (now schema) (now rows) (now marks) ⌝ }
     ensures { λ b. ⌜ b ≡ all (branchNew (now (schema .entry)) (now (rows .entry)) e base) (children (now (rows .entry)) r) ⌝ }
 {
     let a = first_child(rows, r);
     let end = a + child_count(rows, r);
     let mut b = a;
     while b < end {
-        if !branch_fits(schema, rows, b, e, base) {
+        if !branch_fits(schema, rows, marks, b, e, base) {
             return false;
         }
         b += 1;
@@ -82,8 +82,8 @@ fn branches_fit(schema: &[u8], rows: &[u32], r: usize, e: usize, base: usize) ->
     true
 }
 
-fn union_is_good(schema: &[u8], rows: &[u32], r: usize) -> bool
-    requires { ⌜ r < 2 ^ 38 ⌝ }
+fn union_is_good(schema: &[u8], rows: &[u32], marks: &[u32], r: usize) -> bool
+    requires { ⌜ (r < 2 ^ 38) × Marks (now schema) (now rows) (now marks) ⌝ }
     ensures { λ b. ⌜ b ≡ unionFits (now (schema .entry)) (now (rows .entry)) r ⌝ }
 {
     if word(rows, r, 4) == 0 {
@@ -98,18 +98,18 @@ fn union_is_good(schema: &[u8], rows: &[u32], r: usize) -> bool
     }
     let tag = wide(word(rows, r, 5)) - 1;
     let e = wide(word(rows, tag, 3)) - FIRST_ROW;
-    branches_fit(schema, rows, r, e, base)
+    branches_fit(schema, rows, marks, r, e, base)
 }
 
-pub fn good_unions(schema: &[u8], rows: &[u32]) -> bool
-    requires { ⌜ length (now rows) < 2 ^ 32 ⌝ }
+pub fn good_unions(schema: &[u8], rows: &[u32], marks: &[u32]) -> bool
+    requires { ⌜ (length (now rows) < 2 ^ 32) × Marks (now schema) (now rows) (now marks) ⌝ }
     ensures { λ b. ⌜ b ≡ goodUnions (now (schema .entry)) (now (rows .entry)) ⌝ }
 {
     let n = rows.len() / ROW_WORDS;
     let mut r = 0;
     while r < n {
         if word(rows, r, 0) == 5 {
-            if !union_is_good(schema, rows, r) {
+            if !union_is_good(schema, rows, marks, r) {
                 return false;
             }
         }

@@ -11,7 +11,7 @@ use Rattle.grammar.specs.Notation.{within}
 use Rattle.grammar.specs.Lexis.{blank}
 use Rattle.grammar.specs.MessageText.{digit}
 use Rattle.grammar.proofs.Booleans.{by, either, within-is, within-below, within-above}
-use Rattle.strings.specs.Classes.{classOf}
+use Rattle.strings.specs.Classes.{named, classOf}
 
 module _ (b : ℕ) where
   space-blank : eqb b (code " ") ≡ true → blank b ≡ true
@@ -45,7 +45,7 @@ module _ (b : ℕ) where
       (λ f. by P (leb b 0x1F) (λ t. let e = leb-true b 0x1F t in (f, below (omega arith)))
       (λ _. by P (leb 0x80 b) (λ t. let e = leb-true 0x80 b t in (f, above (omega arith)))
       (λ _. by P (eqb b (code "\"")) (λ t. let e = eqb-true b (code "\"") t in (f, below (omega arith)))
-      (λ _. by P (eqb b (code "\\")) (λ t. let e = eqb-true b (code "\\") t in (f, above (omega arith))) (λ _. by P (digit b) (λ t. (f, t)) (λ t. (f, t))))))))
+      (λ _. by P (eqb b (code "\\")) (λ t. let e = eqb-true b (code "\\") t in (f, above (omega arith))) (λ _. by P (digit b) (λ t. (f, t)) (λ t. by P (named b) (λ _. (f, t)) (λ _. (f, t)))))))))
 
 -- the class c that was read for b
 module _ (b : ℕ) {c : ℕ} (e : c ≡ classOf b) where

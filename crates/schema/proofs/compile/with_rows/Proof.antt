@@ -1,4 +1,6 @@
 -- `compile::with_rows` meets its contract: the resolved rows are the table.
+use mathlib.Core.Path.{sym}
+use lib.Seq.{length-take-le}
 use Rattle.schema.proofs.TextLaws.{is-table, refers}
 use borrow.Author.Needs.{needs}
 use Rattle.schema.proofs.compile.with_rows.Statement.{statement}
@@ -10,11 +12,17 @@ slice-aggregate-resolve c = search needs
 resolve-requires : tie.Need-resolve-requires
 resolve-requires c κs = search needs
 
+array-borrow-prefix-marks : tie.Need-array-borrow-prefix-marks
+array-borrow-prefix-marks c = search needs
+
 slice-aggregate-judge : tie.Need-slice-aggregate-judge
-slice-aggregate-judge c = search needs
+slice-aggregate-judge c = sym (length-take-le _ _ (search needs))
+
+slice-aggregate-judge-2 : tie.Need-slice-aggregate-judge-2
+slice-aggregate-judge-2 c = search needs
 
 judge-requires : tie.Need-judge-requires
-judge-requires c κs = (search needs, search needs, search needs, is-table (c .before .before .before .before .before .before .before .before .before .before .before .before .pre .0) (c .before .before .before .before .before .before .resolve .ensures), refers (c .before .before .before .before .before .before .before .before .before .before .before .before .pre .0) (c .before .before .before .before .before .before .resolve .ensures))
+judge-requires c κs = (search needs, search needs, search needs, is-table (c .before .before .before .before .before .before .before .before .before .before .before .before .before .pre .0) (c .before .before .before .before .before .before .before .resolve .ensures), refers (c .before .before .before .before .before .before .before .before .before .before .before .before .before .pre .0) (c .before .before .before .before .before .before .before .resolve .ensures))
 
 same-length : tie.Need-same-length
 same-length c = search needs
@@ -31,7 +39,9 @@ with-rows-spec =
     (tie.spec
     slice-aggregate-resolve
     resolve-requires
+    array-borrow-prefix-marks
     slice-aggregate-judge
+    slice-aggregate-judge-2
     judge-requires
     same-length
     same-length-2

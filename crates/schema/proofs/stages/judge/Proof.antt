@@ -13,7 +13,10 @@ good-names-requires : tie.Need-good-names-requires
 good-names-requires c κs = search needs
 
 returns : tie.Need-returns
-returns c = let p = c .before .before .before .before .before .before .pre in let S = c .before .before .before .before .before .before .args .schema .now in broken (p .3) 4 BadName _ (goodNames S) refl refl (p .2) (denied (c .before .good-names .ensures) (c .if1 .taken))
+returns c = let p = c .before .before .before .before .before .before .before .pre in let S = c .before .before .before .before .before .before .before .args .schema .now in broken (p .3) 4 BadName _ (goodNames S) refl refl (p .2) (denied (c .before .good-names .ensures) (c .if1 .taken))
+
+put-marks-requires : tie.Need-put-marks-requires
+put-marks-requires c κs = search needs
 
 distinct-names-requires : tie.Need-distinct-names-requires
 distinct-names-requires c κs = search needs
@@ -21,17 +24,11 @@ distinct-names-requires c κs = search needs
 same-length : tie.Need-same-length
 same-length c = search needs
 
-returns-2 : tie.Need-returns-2
-returns-2 c = let p = c .before .before .before .before .before .before .before .before .before .before .before .pre in let S = c .before .before .before .before .before .before .before .before .before .before .before .args .schema .now in kept (p .3) 4 5 BadName (goodNames S) refl refl (granted (c .before .before .before .before .before .before .good-names .ensures) (c .before .before .before .before .before .if1 .left)) (broken (p .3) 5 RepeatedName _ (distinctNames S) refl refl (p .2) (denied (c .before .before .before .distinct-names .ensures) (c .if2 .taken)))
-
 same-length-2 : tie.Need-same-length-2
 same-length-2 c = search needs
 
-returns-3 : tie.Need-returns-3
-returns-3 c = let p = c .before .before .before .before .before .before .before .before .before .before .before .before .pre in let S = c .before .before .before .before .before .before .before .before .before .before .before .before .args .schema .now in kept (p .3) 4 5 BadName (goodNames S) refl refl (granted (c .before .before .before .before .before .before .before .good-names .ensures) (c .before .before .before .before .before .before .if1 .left)) (kept (p .3) 5 6 RepeatedName (distinctNames S) refl refl (granted (c .before .before .before .before .distinct-names .ensures) (c .before .if2 .left)) (unknown (p .3) (p .4) (p .2) (not-true _ (c .if3 .taken))))
-
-judge-definitions-requires : tie.Need-judge-definitions-requires
-judge-definitions-requires c κs = search needs
+returns-2 : tie.Need-returns-2
+returns-2 c = let p = c .before .before .before .before .before .before .before .before .before .before .before .before .before .before .before .before .before .pre in let S = c .before .before .before .before .before .before .before .before .before .before .before .before .before .before .before .before .before .args .schema .now in kept (p .3) 4 5 BadName (goodNames S) refl refl (granted (c .before .before .before .before .before .before .before .before .before .before .before .good-names .ensures) (c .before .before .before .before .before .before .before .before .before .before .if1 .left)) (broken (p .3) 5 RepeatedName _ (distinctNames S) refl refl (p .2) (denied (c .before .before .before .distinct-names .ensures) (c .if2 .taken)))
 
 same-length-3 : tie.Need-same-length-3
 same-length-3 c = search needs
@@ -39,8 +36,23 @@ same-length-3 c = search needs
 same-length-4 : tie.Need-same-length-4
 same-length-4 c = search needs
 
+returns-3 : tie.Need-returns-3
+returns-3 c = let p = c .before .before .before .before .before .before .before .before .before .before .before .before .before .before .before .before .before .before .pre in let S = c .before .before .before .before .before .before .before .before .before .before .before .before .before .before .before .before .before .before .args .schema .now in kept (p .3) 4 5 BadName (goodNames S) refl refl (granted (c .before .before .before .before .before .before .before .before .before .before .before .before .good-names .ensures) (c .before .before .before .before .before .before .before .before .before .before .before .if1 .left)) (kept (p .3) 5 6 RepeatedName (distinctNames S) refl refl (granted (c .before .before .before .before .distinct-names .ensures) (c .before .if2 .left)) (unknown (p .3) (p .4) (p .2) (not-true _ (c .if3 .taken))))
+
+judge-definitions-requires : tie.Need-judge-definitions-requires
+judge-definitions-requires c κs = search needs
+
+same-length-5 : tie.Need-same-length-5
+same-length-5 c = search needs
+
+same-length-6 : tie.Need-same-length-6
+same-length-6 c = search needs
+
+same-length-7 : tie.Need-same-length-7
+same-length-7 c = search needs
+
 returns-4 : tie.Need-returns-4
-returns-4 c = let p = c .before .before .before .before .before .before .before .before .before .before .before .before .before .before .before .before .pre in let S = c .before .before .before .before .before .before .before .before .before .before .before .before .before .before .before .before .args .schema .now in kept (p .3) 4 5 BadName (goodNames S) refl refl (granted (c .before .before .before .before .before .before .before .before .before .before .before .good-names .ensures) (c .before .before .before .before .before .before .before .before .before .before .if1 .left)) (kept (p .3) 5 6 RepeatedName (distinctNames S) refl refl (granted (c .before .before .before .before .before .before .before .before .distinct-names .ensures) (c .before .before .before .before .before .if2 .left)) (all-known (p .3) (p .4) (not-false _ (c .before .before .before .before .if3 .left)) (c .before .before .judge-definitions .ensures)))
+returns-4 c = let p = c .before .before .before .before .before .before .before .before .before .before .before .before .before .before .before .before .before .before .before .before .before .before .before .pre in let S = c .before .before .before .before .before .before .before .before .before .before .before .before .before .before .before .before .before .before .before .before .before .before .before .args .schema .now in kept (p .3) 4 5 BadName (goodNames S) refl refl (granted (c .before .before .before .before .before .before .before .before .before .before .before .before .before .before .before .before .before .good-names .ensures) (c .before .before .before .before .before .before .before .before .before .before .before .before .before .before .before .before .if1 .left)) (kept (p .3) 5 6 RepeatedName (distinctNames S) refl refl (granted (c .before .before .before .before .before .before .before .before .before .distinct-names .ensures) (c .before .before .before .before .before .before .if2 .left)) (all-known (p .3) (p .4) (not-false _ (c .before .before .before .before .before .if3 .left)) (c .before .before .judge-definitions .ensures)))
 
 pub judge-spec : {M : Type 1} → statement M
 judge-spec =
@@ -48,12 +60,16 @@ judge-spec =
     (tie.spec
     good-names-requires
     returns
+    put-marks-requires
     distinct-names-requires
     same-length
-    returns-2
     same-length-2
-    returns-3
-    judge-definitions-requires
+    returns-2
     same-length-3
     same-length-4
+    returns-3
+    judge-definitions-requires
+    same-length-5
+    same-length-6
+    same-length-7
     returns-4)

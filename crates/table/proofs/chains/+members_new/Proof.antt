@@ -16,16 +16,16 @@ use Rattle.table.proofs.rows.word.Reads as word-reads
 use Rattle.table.proofs.chains.+members_new.{statement}
 use Rattle.table.proofs.chains.+members_new.Tie.{close}
 
-abbrev μ-members-new : Measures 2 members-new-kinds.ps ℕ
-μ-members-new κs a = a .1 .1 .1 .0
+abbrev μ-members-new : Measures 3 members-new-kinds.ps ℕ
+μ-members-new κs a = a .1 .1 .1 .1 .0
 
-abbrev members-new-at : ℕ → In 2 members-new-kinds.ps
+abbrev members-new-at : ℕ → In 3 members-new-kinds.ps
 members-new-at t =
-    and 2 members-new-kinds.ps (is 2 members-new-kinds.ps μ-members-new t) members-new.Pre
+    and 3 members-new-kinds.ps (is 3 members-new-kinds.ps μ-members-new t) members-new.Pre
 
-abbrev members-new-below : ℕ → In 2 members-new-kinds.ps
+abbrev members-new-below : ℕ → In 3 members-new-kinds.ps
 members-new-below t =
-    and 2 members-new-kinds.ps (falls 2 members-new-kinds.ps _<_ μ-members-new t) members-new.Pre
+    and 3 members-new-kinds.ps (falls 3 members-new-kinds.ps _<_ μ-members-new t) members-new.Pre
 
 abbrev members-new-calls : ℕ → members-new-lts.Claims
 members-new-calls t = (

@@ -16,13 +16,13 @@ use Rattle.table.proofs.definitions.children_apart.Statement.{statement
 use Rattle.table.proofs.definitions.children_apart.Tie as tie
 
 abbrev Inv-loop : tie.InvT-loop
-Inv-loop schema rows n r₀ r = childrenApart schema rows ≡ upTo (λ x. apart clash (namesOf schema rows (children rows x))) r n
+Inv-loop schema rows marks n r₀ r = childrenApart schema rows ≡ upTo (λ x. apart clash (namesOf schema rows (children rows x))) r n
 
 abbrev μ-loop : tie.MeasureT-loop
-μ-loop schema rows n r₀ r = n - r
+μ-loop schema rows marks n r₀ r = n - r
 
 loop-holds : tie.Need-loop-holds Inv-loop μ-loop
-loop-holds c = let a = c .before .before .args in upTo-rows _ (a .rows .now)
+loop-holds c = let a = c .before .before .before .args in upTo-rows _ (a .rows .now)
 
 first-child-requires : tie.Need-first-child-requires Inv-loop μ-loop
 first-child-requires c κs = search needs
@@ -32,11 +32,9 @@ child-count-requires c κs = search needs
 
 add-all-apart : tie.Need-add-all-apart Inv-loop μ-loop
 add-all-apart c =
-    let c₃ = c .before .before .before in
-    let c₆ = c₃ .before .before .before in
-    let b = c₃ .loop in
-    let a = c₆ .args in
-    let s = c₃ .before .shared-slice-known2 .given in
+    let b = c .before .before .before .loop in
+    let a = c .before .before .before .before .before .before .before .args in
+    let s = c .before .before .before .before .before .shared-slice-known2 .given in
     omega (arith, inlineRows-small (a .rows .now) s (b .r), childCount-small (a .rows .now) s (b .r))
 
 all-apart-requires : tie.Need-all-apart-requires Inv-loop μ-loop
@@ -44,13 +42,11 @@ all-apart-requires c κs = search needs
 
 returns : tie.Need-returns Inv-loop μ-loop
 returns c =
-    let c₃ = c .before .before .before in
-    let c₈ = c₃ .before .before .before .before .before in
-    let b = c₃ .before .before .loop in
-    let a = c₈ .args in
-    let e = apart-children (a .schema .now) (a .rows .now) (b .r) _ _ _ (c₃ .first-child .ensures)
-    (ap (λ n. c₃ .first-child .result + n) (c .before .before .child-count .ensures)) (c .before .all-apart .ensures) in
-    upTo-hit _ _ _ (c₃ .before .before .loop .inv) (c₃ .before .loop-test .taken) (denied e (c .if1 .taken))
+    let b = c .before .before .before .before .before .loop in
+    let a = c .before .before .before .before .before .before .before .before .before .args in
+    let e = apart-children (a .schema .now) (a .rows .now) (b .r) _ _ _ (c .before .before .before .first-child .ensures)
+    (ap (λ n. c .before .before .before .first-child .result + n) (c .before .before .child-count .ensures)) (c .before .all-apart .ensures) in
+    upTo-hit _ _ _ (c .before .before .before .before .before .loop .inv) (c .before .before .before .before .loop-test .taken) (denied e (c .if1 .taken))
 
 add-r : tie.Need-add-r Inv-loop μ-loop
 add-r c = search needs
@@ -60,13 +56,11 @@ loop-less c = search needs
 
 loop-again : tie.Need-loop-again Inv-loop μ-loop
 loop-again c =
-    let c₃ = c .before .before .before in
-    let c₈ = c₃ .before .before .before .before .before in
-    let b = c₃ .before .before .loop in
-    let a = c₈ .args in
-    let e = apart-children (a .schema .now) (a .rows .now) (b .r) _ _ _ (c₃ .first-child .ensures)
-    (ap (λ n. c₃ .first-child .result + n) (c .before .before .child-count .ensures)) (c .before .all-apart .ensures) in
-    upTo-on _ _ _ (c₃ .before .before .loop .inv) (c₃ .before .loop-test .taken) (granted e (c .if1 .left))
+    let b = c .before .before .before .before .before .loop in
+    let a = c .before .before .before .before .before .before .before .before .before .args in
+    let e = apart-children (a .schema .now) (a .rows .now) (b .r) _ _ _ (c .before .before .before .first-child .ensures)
+    (ap (λ n. c .before .before .before .first-child .result + n) (c .before .before .child-count .ensures)) (c .before .all-apart .ensures) in
+    upTo-on _ _ _ (c .before .before .before .before .before .loop .inv) (c .before .before .before .before .loop-test .taken) (granted e (c .if1 .left))
 
 returns-2 : tie.Need-returns-2 Inv-loop μ-loop
 returns-2 c = upTo-end _ _ _ (c .before .loop .inv) (c .loop-test .left)

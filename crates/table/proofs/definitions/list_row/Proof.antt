@@ -4,7 +4,7 @@ use mathlib.Core.Path.{ap, _∙_}
 use native.Mathlib.Omega.{arith}
 use lib.ListN.{length-set}
 use borrow.Author.Needs.{needs}
-use Rattle.table.specs.Definitions.{markOf}
+use Rattle.table.specs.Marks.{markOf}
 use Rattle.table.proofs.Walks.{granted, denied}
 use Rattle.table.proofs.ListFacts.{listed-same, listed-more}
 use Rattle.table.proofs.definitions.list_row.Statement.{statement}

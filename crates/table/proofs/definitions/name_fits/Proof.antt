@@ -29,10 +29,8 @@ good-name-requires c κs = search needs
 
 returns-2 : tie.Need-returns-2
 returns-2 c =
-    let c₃ = c .before .before .before in
-    let c₈ = c₃ .before .before .before .before .before in
-    let a = c₈ .args in
-    name-fits-at (a .schema .now) (a .rows .now) (a .r) _ _ _ (so (c₃ .before .before .is-inline .ensures) (c₃ .before .if1 .left)) (c₃ .name-of .ensures)
+    let a = c .before .before .before .before .before .before .before .before .args in
+    name-fits-at (a .schema .now) (a .rows .now) (a .r) _ _ _ (so (c .before .before .before .before .before .is-inline .ensures) (c .before .before .before .before .if1 .left)) (c .before .before .before .name-of .ensures)
     (c .before .takes-digit .ensures ∙ ap (λ k. eqb k 2 || eqb k 6) (c .before .before .word .ensures)) (c .good-name .ensures)
 
 pub name-fits-spec : {M : Type 1} → statement M

@@ -20,30 +20,22 @@ good-start-requires : tie.Need-good-start-requires
 good-start-requires c κs = search needs
 
 returns-3 : tie.Need-returns-3
-returns-3 c =
-    let a = c .before .before .before .before .before .before .args in
-    name-start (a .digits) (a .name .now) (c .before .before .before .before .if1 .left) (denied (c .before .good-start .ensures) (c .if3 .taken))
+returns-3 c = let a = c .before .before .before .before .before .before .args in name-start (a .digits) (a .name .now) (c .before .before .before .before .if1 .left) (denied (c .before .good-start .ensures) (c .if3 .taken))
 
 is-reserved-requires : tie.Need-is-reserved-requires
 is-reserved-requires c κs = search needs
 
 returns-4 : tie.Need-returns-4
-returns-4 c =
-    let c₆ = c .before .before .before .before .before .before in
-    let a = c₆ .before .before .args in
-    name-reserved (a .digits) (a .name .now) (c₆ .if1 .left) (so (c .before .is-reserved .ensures) (c .if4 .taken))
+returns-4 c = let a = c .before .before .before .before .before .before .before .before .args in name-reserved (a .digits) (a .name .now) (c .before .before .before .before .before .before .if1 .left) (so (c .before .is-reserved .ensures) (c .if4 .taken))
 
 name-bytes-requires : tie.Need-name-bytes-requires
 name-bytes-requires c κs = search needs
 
 returns-5 : tie.Need-returns-5
 returns-5 c =
-    let c₃ = c .before .before .before in
-    let c₆ = c₃ .before .before .before in
-    let c₉ = c₆ .before .before .before in
-    let a = c₉ .args in
-    c .name-bytes .ensures ∙ name-rest (a .digits) (a .name .now) (c₆ .before .if1 .left) (c₆ .if2 .left)
-    (granted (c₃ .before .good-start .ensures) (c₃ .if3 .left)) (so (c .before .before .is-reserved .ensures) (c .before .if4 .left))
+    let a = c .before .before .before .before .before .before .before .before .before .args in
+    c .name-bytes .ensures ∙ name-rest (a .digits) (a .name .now) (c .before .before .before .before .before .before .before .if1 .left) (c .before .before .before .before .before .before .if2 .left)
+    (granted (c .before .before .before .before .good-start .ensures) (c .before .before .before .if3 .left)) (so (c .before .before .is-reserved .ensures) (c .before .if4 .left))
 
 pub good-name-spec : {M : Type 1} → statement M
 good-name-spec =

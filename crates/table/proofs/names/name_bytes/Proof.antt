@@ -11,10 +11,10 @@ use Rattle.table.proofs.names.name_bytes.Statement.{statement}
 use Rattle.table.proofs.names.name_bytes.Tie as tie
 
 abbrev Inv-loop : tie.InvT-loop
-Inv-loop name from i₀ i = all nameByte (drop from name) ≡ upTo (λ k. nameByte (getD name k 0)) i (length name)
+Inv-loop name classes from i₀ i = all nameByte (drop from name) ≡ upTo (λ k. nameByte (getD name k 0)) i (length name)
 
 abbrev μ-loop : tie.MeasureT-loop
-μ-loop name from i₀ i = length name - i
+μ-loop name classes from i₀ i = length name - i
 
 loop-holds : tie.Need-loop-holds Inv-loop μ-loop
 loop-holds c = let a = c .before .args in upTo-list nameByte 0 (a .name .now) (a .from)
@@ -26,9 +26,7 @@ is-name-byte-requires : tie.Need-is-name-byte-requires Inv-loop μ-loop
 is-name-byte-requires c κs = search needs
 
 returns : tie.Need-returns Inv-loop μ-loop
-returns c =
-    upTo-hit _ _ _ (c .before .before .before .before .loop .inv) (c .before .before .before .loop-test .taken)
-    (denied (c .before .is-name-byte .ensures) (c .if1 .taken))
+returns c = upTo-hit _ _ _ (c .before .before .before .before .loop .inv) (c .before .before .before .loop-test .taken) (denied (c .before .is-name-byte .ensures) (c .if1 .taken))
 
 add-i : tie.Need-add-i Inv-loop μ-loop
 add-i c = search needs
@@ -37,9 +35,7 @@ loop-less : tie.Need-loop-less Inv-loop μ-loop
 loop-less c = search needs
 
 loop-again : tie.Need-loop-again Inv-loop μ-loop
-loop-again c =
-    upTo-on _ _ _ (c .before .before .before .before .loop .inv) (c .before .before .before .loop-test .taken)
-    (granted (c .before .is-name-byte .ensures) (c .if1 .left))
+loop-again c = upTo-on _ _ _ (c .before .before .before .before .loop .inv) (c .before .before .before .loop-test .taken) (granted (c .before .is-name-byte .ensures) (c .if1 .left))
 
 returns-2 : tie.Need-returns-2 Inv-loop μ-loop
 returns-2 c = upTo-end _ _ _ (c .before .loop .inv) (c .loop-test .left)

@@ -1,5 +1,7 @@
 -- `is_sound` meets its contract.
 -- A law for each return: the lengths, the shape, then the rules.
+use mathlib.Core.Path.{sym}
+use lib.Seq.{length-take-le}
 use borrow.Author.Needs.{needs}
 use Rattle.table.proofs.Walks.{denied, granted}
 use Rattle.table.proofs.SoundLaws.{not-whole-rows, too-many-rows, too-long-schema, not-shaped, sound-is}
@@ -19,21 +21,22 @@ is-shaped-requires : tie.Need-is-shaped-requires
 is-shaped-requires c κs = search needs
 
 returns-4 : tie.Need-returns-4
-returns-4 c =
-    not-shaped _ _ (c .before .before .before .before .if1 .left) (c .before .before .before .if2 .left) (c .before .before .if3 .left)
-    (denied (c .before .is-shaped .ensures) (c .if4 .taken))
+returns-4 c = not-shaped _ _ (c .before .before .before .before .if1 .left) (c .before .before .before .if2 .left) (c .before .before .if3 .left) (denied (c .before .is-shaped .ensures) (c .if4 .taken))
+
+array-borrow-prefix-marks : tie.Need-array-borrow-prefix-marks
+array-borrow-prefix-marks c = search needs
 
 slice-aggregate-keeps-rules : tie.Need-slice-aggregate-keeps-rules
-slice-aggregate-keeps-rules c = search needs
+slice-aggregate-keeps-rules c = sym (length-take-le _ _ (search needs))
+
+slice-aggregate-keeps-rules-2 : tie.Need-slice-aggregate-keeps-rules-2
+slice-aggregate-keeps-rules-2 c = search needs
 
 keeps-rules-requires : tie.Need-keeps-rules-requires
 keeps-rules-requires c κs = search needs
 
 returns-5 : tie.Need-returns-5
-returns-5 c =
-    sound-is _ _ (c .before .before .before .before .before .before .before .if1 .left) (c .before .before .before .before .before .before .if2 .left)
-    (c .before .before .before .before .before .if3 .left)
-    (granted (c .before .before .before .before .is-shaped .ensures) (c .before .before .before .if4 .left)) (c .before .keeps-rules .ensures)
+returns-5 c = sound-is _ _ (c .before .before .before .before .before .before .before .before .before .if1 .left) (c .before .before .before .before .before .before .before .before .if2 .left) (c .before .before .before .before .before .before .before .if3 .left) (granted (c .before .before .before .before .before .before .is-shaped .ensures) (c .before .before .before .before .before .if4 .left)) (c .before .before .keeps-rules .ensures)
 
 pub is-sound-spec : {M : Type 1} → statement M
 is-sound-spec =
@@ -44,6 +47,8 @@ is-sound-spec =
     returns-3
     is-shaped-requires
     returns-4
+    array-borrow-prefix-marks
     slice-aggregate-keeps-rules
+    slice-aggregate-keeps-rules-2
     keeps-rules-requires
     returns-5)

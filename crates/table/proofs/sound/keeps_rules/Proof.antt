@@ -13,33 +13,34 @@ returns : tie.Need-returns
 unfolding keepsRules
 returns c = rw (denied (c .before .good-names .ensures) (c .if1 .taken))
 
+put-marks-requires : tie.Need-put-marks-requires
+put-marks-requires c κs = search needs
+
 distinct-names-requires : tie.Need-distinct-names-requires
 distinct-names-requires c κs = search needs
 
 same-length : tie.Need-same-length
 same-length c = search needs
 
+same-length-2 : tie.Need-same-length-2
+same-length-2 c = search needs
+
 returns-2 : tie.Need-returns-2
 unfolding keepsRules
-returns-2 c =
-    rw (
-      granted (c .before .before .before .before .before .before .good-names .ensures) (c .before .before .before .before .before .if1 .left),
-      denied (c .before .before .before .distinct-names .ensures) (c .if2 .taken),
-    )
+returns-2 c = rw (granted (c .before .before .before .before .before .before .before .before .before .before .before .good-names .ensures) (c .before .before .before .before .before .before .before .before .before .before .if1 .left), denied (c .before .before .before .distinct-names .ensures) (c .if2 .taken))
 
 definitions-fit-requires : tie.Need-definitions-fit-requires
 definitions-fit-requires c κs = search needs
 
-same-length-2 : tie.Need-same-length-2
-same-length-2 c = search needs
+same-length-3 : tie.Need-same-length-3
+same-length-3 c = search needs
+
+same-length-4 : tie.Need-same-length-4
+same-length-4 c = search needs
 
 returns-3 : tie.Need-returns-3
 unfolding keepsRules
-returns-3 c =
-    rw (
-      granted (c .before .before .before .before .before .before .before .good-names .ensures) (c .before .before .before .before .before .before .if1 .left),
-      granted (c .before .before .before .before .distinct-names .ensures) (c .before .if2 .left),
-    ) (c .definitions-fit .ensures)
+returns-3 c = rw (granted (c .before .before .before .before .before .before .before .before .before .before .before .before .before .good-names .ensures) (c .before .before .before .before .before .before .before .before .before .before .before .before .if1 .left), granted (c .before .before .before .before .before .distinct-names .ensures) (c .before .before .if2 .left)) (c .definitions-fit .ensures)
 
 pub keeps-rules-spec : {M : Type 1} → statement M
 keeps-rules-spec =
@@ -47,9 +48,12 @@ keeps-rules-spec =
     (tie.spec
     good-names-requires
     returns
+    put-marks-requires
     distinct-names-requires
     same-length
+    same-length-2
     returns-2
     definitions-fit-requires
-    same-length-2
+    same-length-3
+    same-length-4
     returns-3)

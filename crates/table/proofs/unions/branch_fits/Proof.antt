@@ -1,22 +1,18 @@
 -- `branch_fits` meets its contract.
 -- A law for each return: no such value, a chain that does not end, or whether the members are new.
-use mathlib.Core.Path.{ap, _∙_}
+use mathlib.Core.Path.{_∙_}
 use borrow.Author.Needs.{needs}
-use Rattle.table.specs.Chains.{hasChild}
 use Rattle.table.proofs.Walks.{denied, granted}
 use Rattle.table.proofs.UnionLaws.{branch-unnamed, branch-endless, branch-is}
 use Rattle.table.proofs.unions.branch_fits.Statement.{statement}
 use Rattle.table.proofs.unions.branch_fits.Tie as tie
-
-name-of-requires : tie.Need-name-of-requires
-name-of-requires c κs = search needs
 
 has-child-requires : tie.Need-has-child-requires
 has-child-requires c κs = search needs
 
 returns : tie.Need-returns
 returns c =
-    branch-unnamed _ _ _ _ _ (denied (c .before .has-child .ensures ∙ ap (hasChild _ _ _) (c .before .before .name-of .ensures)) (c .if1 .taken))
+    branch-unnamed _ _ _ _ _ (denied (c .before .has-child .ensures) (c .if1 .taken))
 
 word-requires : tie.Need-word-requires
 word-requires c κs = search needs
@@ -31,8 +27,7 @@ returns-2 : tie.Need-returns-2
 returns-2 c =
     branch-endless _ _ _ _ _
     (granted
-    (c .before .before .before .before .before .has-child .ensures ∙ ap (hasChild _ _ _)
-    (c .before .before .before .before .before .before .name-of .ensures)) (c .before .before .before .before .if1 .left))
+    (c .before .before .before .before .before .has-child .ensures) (c .before .before .before .before .if1 .left))
     (c .before .before .wide .ensures ∙ c .before .before .before .word .ensures) (denied (c .before .chain-ends .ensures) (c .if2 .taken))
 
 members-new-requires : tie.Need-members-new-requires
@@ -42,8 +37,7 @@ returns-3 : tie.Need-returns-3
 returns-3 c =
     branch-is _ _ _ _ _
     (granted
-    (c .before .before .before .before .before .before .has-child .ensures ∙ ap (hasChild _ _ _)
-    (c .before .before .before .before .before .before .before .name-of .ensures)) (c .before .before .before .before .before .if1 .left))
+    (c .before .before .before .before .before .before .has-child .ensures) (c .before .before .before .before .before .if1 .left))
     (c .before .before .before .wide .ensures ∙ c .before .before .before .before .word .ensures)
     (granted (c .before .before .chain-ends .ensures) (c .before .if2 .left)) (c .members-new .ensures)
 
@@ -51,7 +45,6 @@ pub branch-fits-spec : {M : Type 1} → statement M
 branch-fits-spec =
     tie.close
     (tie.spec
-    name-of-requires
     has-child-requires
     returns
     word-requires

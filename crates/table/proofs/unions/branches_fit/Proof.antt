@@ -14,10 +14,10 @@ use Rattle.table.proofs.unions.branches_fit.Statement.{statement}
 use Rattle.table.proofs.unions.branches_fit.Tie as tie
 
 abbrev Inv-loop : tie.InvT-loop
-Inv-loop schema rows r e base a end b₀ b = AllLeft (all (branchNew schema rows e base) (children rows r)) (branchNew schema rows e base) b end
+Inv-loop schema rows marks r e base a end b₀ b = AllLeft (all (branchNew schema rows e base) (children rows r)) (branchNew schema rows e base) b end
 
 abbrev μ-loop : tie.MeasureT-loop
-μ-loop schema rows r e base a end b₀ b = end - b
+μ-loop schema rows marks r e base a end b₀ b = end - b
 
 first-child-requires : tie.Need-first-child-requires Inv-loop μ-loop
 first-child-requires c κs = search needs
@@ -26,7 +26,7 @@ child-count-requires : tie.Need-child-count-requires Inv-loop μ-loop
 child-count-requires c κs = search needs
 
 add-end : tie.Need-add-end Inv-loop μ-loop
-add-end c = end-fits _ (c .before .before .shared-slice-known2 .given) _ (omega arith) (c .before .first-child .ensures) (c .child-count .ensures)
+add-end c = end-fits _ (c .before .before .before .shared-slice-known2 .given) _ (omega arith) (c .before .first-child .ensures) (c .child-count .ensures)
 
 loop-holds : tie.Need-loop-holds Inv-loop μ-loop
 loop-holds c = all-children _ _ (c .before .first-child .ensures) (c .child-count .ensures) _ refl
@@ -40,7 +40,7 @@ returns c = all-fails (c .before .before .before .loop .inv) (omega arith) (deni
 add-b : tie.Need-add-b Inv-loop μ-loop
 add-b c =
     next-fits (omega arith)
-    (end-fits _ (c .before .before .before .before .before .before .shared-slice-known2 .given) _ (omega arith)
+    (end-fits _ (c .before .before .before .before .before .before .before .shared-slice-known2 .given) _ (omega arith)
     (c .before .before .before .before .before .first-child .ensures) (c .before .before .before .before .child-count .ensures))
 
 loop-less : tie.Need-loop-less Inv-loop μ-loop

@@ -12,14 +12,14 @@ use Rattle.table.proofs.unions.good_unions.Statement.{statement}
 use Rattle.table.proofs.unions.good_unions.Tie as tie
 
 abbrev Inv-loop : tie.InvT-loop
-Inv-loop schema rows n r₀ r = KindLeft (goodUnions schema rows) rows 5 (unionFits schema rows) r n
+Inv-loop schema rows marks n r₀ r = KindLeft (goodUnions schema rows) rows 5 (unionFits schema rows) r n
 
 abbrev μ-loop : tie.MeasureT-loop
-μ-loop schema rows n r₀ r = n - r
+μ-loop schema rows marks n r₀ r = n - r
 
 loop-holds : tie.Need-loop-holds Inv-loop μ-loop
 unfolding goodUnions
-loop-holds c = kind-starts (c .before .before .args .rows .now) 5 _ refl
+loop-holds c = kind-starts (c .before .before .before .args .rows .now) 5 _ refl
 
 word-requires : tie.Need-word-requires Inv-loop μ-loop
 word-requires c κs = search needs

@@ -13,8 +13,8 @@ word-requires c κs = search needs
 
 returns : tie.Need-returns
 returns c =
-    union-empty (c .before .before .before .before .args .schema .now) (c .before .before .before .before .args .rows .now)
-    (c .before .before .before .before .args .r) (c .before .word .ensures) (c .if1 .taken)
+    union-empty (c .before .before .before .before .before .args .schema .now) (c .before .before .before .before .before .args .rows .now)
+    (c .before .before .before .before .before .args .r) (c .before .word .ensures) (c .if1 .taken)
 
 word-requires-2 : tie.Need-word-requires-2
 word-requires-2 c κs = search needs
@@ -27,9 +27,9 @@ chain-ends-requires c κs = search needs
 
 returns-2 : tie.Need-returns-2
 returns-2 c =
-    union-endless (c .before .before .before .before .before .before .before .before .args .schema .now)
-    (c .before .before .before .before .before .before .before .before .args .rows .now)
-    (c .before .before .before .before .before .before .before .before .args .r) (c .before .before .before .before .before .word .ensures)
+    union-endless (c .before .before .before .before .before .before .before .before .before .args .schema .now)
+    (c .before .before .before .before .before .before .before .before .before .args .rows .now)
+    (c .before .before .before .before .before .before .before .before .before .args .r) (c .before .before .before .before .before .word .ensures)
     (c .before .before .before .before .if1 .left) (c .before .before .wide .ensures ∙ c .before .before .before .word2 .ensures)
     (denied (c .before .chain-ends .ensures) (c .if2 .taken))
 
@@ -38,9 +38,9 @@ discriminator-fits-requires c κs = search needs
 
 returns-3 : tie.Need-returns-3
 returns-3 c =
-    union-untagged (c .before .before .before .before .before .before .before .before .before .before .args .schema .now)
-    (c .before .before .before .before .before .before .before .before .before .before .args .rows .now)
-    (c .before .before .before .before .before .before .before .before .before .before .args .r)
+    union-untagged (c .before .before .before .before .before .before .before .before .before .before .before .args .schema .now)
+    (c .before .before .before .before .before .before .before .before .before .before .before .args .rows .now)
+    (c .before .before .before .before .before .before .before .before .before .before .before .args .r)
     (c .before .before .before .before .before .before .before .word .ensures) (c .before .before .before .before .before .before .if1 .left)
     (c .before .before .before .before .wide .ensures ∙ c .before .before .before .before .before .word2 .ensures)
     (granted (c .before .before .before .chain-ends .ensures) (c .before .before .if2 .left))
@@ -72,9 +72,9 @@ branches-fit-requires c κs = search needs
 returns-4 : tie.Need-returns-4
 returns-4 c =
     union-is
-    (c .before .before .before .before .before .before .before .before .before .before .before .before .before .before .before .args .schema .now)
-    (c .before .before .before .before .before .before .before .before .before .before .before .before .before .before .before .args .rows .now)
-    (c .before .before .before .before .before .before .before .before .before .before .before .before .before .before .before .args .r)
+    (c .before .before .before .before .before .before .before .before .before .before .before .before .before .before .before .before .args .schema .now)
+    (c .before .before .before .before .before .before .before .before .before .before .before .before .before .before .before .before .args .rows .now)
+    (c .before .before .before .before .before .before .before .before .before .before .before .before .before .before .before .before .args .r)
     (c .before .before .before .before .before .before .before .before .before .before .before .before .word .ensures)
     (c .before .before .before .before .before .before .before .before .before .before .before .if1 .left)
     (c .before .before .before .before .before .before .before .before .before .wide .ensures ∙ c .before .before .before .before .before .before

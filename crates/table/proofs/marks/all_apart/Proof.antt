@@ -1,4 +1,4 @@
--- `table::names::all_apart` says whether no two names of the rows from a up to e clash.
+-- `table::marks::all_apart` says whether no two names of the rows from a up to e clash.
 -- The loop tests of every row from a on that its name is fresh among those after it.
 use Prim.Native.Nat.{_-_}
 use mathlib.Core.Path.{_≡_}
@@ -9,17 +9,17 @@ use Rattle.rules.specs.Rows.{upFrom}
 use Rattle.rules.specs.Rules.{namesOf}
 use Rattle.table.proofs.Walks.{granted, denied, upTo, upTo-hit, upTo-on, upTo-end}
 use Rattle.table.proofs.NameFacts.{freshAfter, apart-upTo}
-use Rattle.table.proofs.names.all_apart.Statement.{statement}
-use Rattle.table.proofs.names.all_apart.Tie as tie
+use Rattle.table.proofs.marks.all_apart.Statement.{statement}
+use Rattle.table.proofs.marks.all_apart.Tie as tie
 
 abbrev Inv-loop : tie.InvT-loop
-Inv-loop schema rows a e i₀ i = apart clash (namesOf schema rows (upFrom a (e - a))) ≡ upTo (freshAfter schema rows e) i e
+Inv-loop schema rows marks a e i₀ i = apart clash (namesOf schema rows (upFrom a (e - a))) ≡ upTo (freshAfter schema rows e) i e
 
 abbrev μ-loop : tie.MeasureT-loop
-μ-loop schema rows a e i₀ i = e - i
+μ-loop schema rows marks a e i₀ i = e - i
 
 loop-holds : tie.Need-loop-holds Inv-loop μ-loop
-loop-holds c = let a = c .before .before .args in apart-upTo (a .schema .now) (a .rows .now) (a .e) (a .a)
+loop-holds c = let a = c .before .before .before .args in apart-upTo (a .schema .now) (a .rows .now) (a .e) (a .a)
 
 add-is-fresh : tie.Need-add-is-fresh Inv-loop μ-loop
 add-is-fresh c = search needs
