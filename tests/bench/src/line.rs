@@ -53,12 +53,7 @@ pub fn measured<T, const N: usize>(
     }
     let count = inputs.len();
     let each = |total: Duration| total / count as u32;
-    std::array::from_fn(|i| Line {
-        what: tasks[i].what,
-        bytes: bytes / count,
-        product: each(totals[i][0]),
-        rust: each(totals[i][1]),
-    })
+    std::array::from_fn(|i| Line::new(tasks[i].what, bytes / count, totals[i].map(each)))
 }
 
 fn timed<T>(batch: &[T], run: &mut Way<T>) -> Duration {
@@ -70,6 +65,11 @@ fn timed<T>(batch: &[T], run: &mut Way<T>) -> Duration {
 }
 
 impl Line {
+    /// An input of so many bytes on average, and what it takes the product and Rust.
+    pub fn new(what: &'static str, bytes: usize, [product, rust]: [Duration; 2]) -> Line {
+        Line { what, bytes, product, rust }
+    }
+
     pub fn heading() -> String {
         format!(
             "{:<48} {:>7} {:>11} {:>9} {:>13} {:>10} {:>6}",

@@ -7,6 +7,7 @@
 mod calls;
 mod inputs;
 mod line;
+mod programs;
 mod texts;
 
 use generate::Random;
@@ -17,7 +18,9 @@ fn main() {
     let mut random = Random::new(1);
     let inputs = Inputs::new(&mut random);
     println!("{}", Line::heading());
-    for line in texts::lines(&mut random, &inputs).into_iter().chain(calls::lines(&inputs)) {
+    for line in
+        texts::lines(&mut random, &inputs).into_iter().chain(calls::lines(&inputs)).chain(programs::line(&inputs))
+    {
         println!("{line}");
     }
 }
