@@ -1,10 +1,10 @@
 //! The calls, with as many words lent as the program lends. Both set every word lent.
 
 use generate::schemas::Schema;
-use product::gateway;
 use reference::message::check_into;
 use reference::schema::compile_into;
 use reference::table::is_sound;
+use windosprio::calls;
 
 use crate::inputs::Inputs;
 use crate::line::{measured, Line, Task};
@@ -23,7 +23,7 @@ fn schema_lines(schemas: &[Schema]) -> Vec<Line> {
     let (mut rows, mut rust_rows) = (vec![0; ROWS], vec![0; ROWS]);
     let compile = Task {
         what: "compile a schema of about 32 KB and 1,000 rows",
-        product: Box::new(|schema: &Schema| accepted(gateway::compile(&schema.bytes, &mut rows))),
+        product: Box::new(|schema: &Schema| accepted(calls::compile(&schema.bytes, &mut rows))),
         rust: Box::new(|schema: &Schema| {
             let (number, count) = compile_into(&schema.bytes, &mut rust_rows);
             accepted((number, count as usize))
@@ -31,7 +31,7 @@ fn schema_lines(schemas: &[Schema]) -> Vec<Line> {
     };
     let judge = Task {
         what: "judge its table",
-        product: Box::new(|schema: &Schema| usize::from(gateway::is_sound(&schema.bytes, &schema.words))),
+        product: Box::new(|schema: &Schema| usize::from(calls::is_sound(&schema.bytes, &schema.words))),
         rust: Box::new(|schema: &Schema| usize::from(is_sound(&schema.words, &schema.bytes))),
     };
     measured(schemas, |schema| schema.bytes.len(), SCHEMA_REPETITIONS, [compile, judge]).to_vec()
@@ -49,7 +49,7 @@ fn message_lines(schema: &Schema, messages: &[Vec<u8>]) -> Vec<Line> {
     let check = Task {
         what: "check a message of 200 to 4,000 bytes",
         product: Box::new(|message: &Vec<u8>| {
-            let (number, _, count) = gateway::check(words, bytes, message, &mut records);
+            let (number, _, count) = calls::check(words, bytes, message, &mut records);
             accepted((number, count))
         }),
         rust: Box::new(|message: &Vec<u8>| {
@@ -59,7 +59,7 @@ fn message_lines(schema: &Schema, messages: &[Vec<u8>]) -> Vec<Line> {
     };
     let judge = Task {
         what: "- judging its table of about 1,000 rows alone",
-        product: Box::new(|_: &Vec<u8>| usize::from(gateway::is_sound(bytes, words))),
+        product: Box::new(|_: &Vec<u8>| usize::from(calls::is_sound(bytes, words))),
         rust: Box::new(|_: &Vec<u8>| usize::from(is_sound(words, bytes))),
     };
     let [check, judge] = measured(messages, Vec::len, MESSAGE_REPETITIONS, [check, judge]);

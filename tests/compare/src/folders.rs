@@ -5,8 +5,8 @@ use std::fs;
 use std::path::{Path, PathBuf};
 
 use harness::{Check, Options, Tally};
-use product::gateway;
 use reference_gateway::{read_schema, serve, Calls, Reference};
+use windosprio::calls;
 
 /// From this crate's folder.
 const FOLDERS: &str = "../../../shared/cases/base";
@@ -15,11 +15,11 @@ struct Product;
 
 impl Calls for Product {
     fn compile(&self, schema: &[u8], rows: &mut [u32]) -> (u32, usize) {
-        gateway::compile(schema, rows)
+        calls::compile(schema, rows)
     }
 
     fn check(&self, table: &[u32], schema: &[u8], message: &[u8], records: &mut [u32]) -> (u32, usize, usize) {
-        gateway::check(table, schema, message, records)
+        calls::check(table, schema, message, records)
     }
 }
 

@@ -1,6 +1,6 @@
 //! Compares the product with the independent reference, through its static libraries.
 //!
-//!     compare [texts] [schemas] [tables] [messages] [folders] [--cases ROUNDS] [--seed SEED]
+//!     compare [texts] [schemas] [tables] [messages] [wrapper] [folders] [--cases ROUNDS] [--seed SEED]
 
 #![forbid(unsafe_code)]
 
@@ -11,6 +11,7 @@ mod rooms;
 mod schemas;
 mod tables;
 mod texts;
+mod wrapper;
 
 use std::process::ExitCode;
 use std::time::Instant;
@@ -20,11 +21,12 @@ use harness::{Check, Options, Report, Tally};
 /// Runs one part and counts what it reached.
 type Run = fn(&Options, &mut Tally) -> Check;
 
-const PARTS: [(&str, Run); 5] = [
+const PARTS: [(&str, Run); 6] = [
     ("texts", texts::run),
     ("schemas", schemas::run),
     ("tables", tables::run),
     ("messages", messages::run),
+    ("wrapper", wrapper::run),
     ("folders", folders::run),
 ];
 

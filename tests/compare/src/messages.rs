@@ -6,9 +6,9 @@ use generate::messages::{MessageCase, Messages};
 use generate::shrink::{smallest, smallest_table};
 use generate::{aims, schemas, tables, Random};
 use harness::{check_expected, ensure, for_each_round, Check, Options, Tally};
-use product::gateway;
 use reference::message::{check, Answer};
 use reference::table::is_sound;
+use windosprio::calls;
 
 use crate::lent::{LentWords, PlacedTable, PlacedText};
 use crate::rooms::{Need, KINDS};
@@ -107,7 +107,7 @@ impl Call<'_> {
         let schema = PlacedText::new(&mut random, self.schema);
         let message = PlacedText::new(&mut random, self.message);
         let mut lent = LentWords::with_garbage(&mut random, self.room);
-        let got = gateway::check(table.words(), schema.bytes(), message.bytes(), lent.words_mut());
+        let got = calls::check(table.words(), schema.bytes(), message.bytes(), lent.words_mut());
         let answer = self.by_reference(self.room);
         let expected = (answer.number, answer.row as usize, answer.count as usize);
         ensure(got == expected, || format!("number, row and count: product {got:?}, reference {expected:?}"))?;

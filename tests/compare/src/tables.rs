@@ -7,8 +7,8 @@ use generate::shrink::{smallest, smallest_table};
 use generate::tables::{self, TableCase};
 use generate::Random;
 use harness::{ensure, for_each_round, Check, Options, Tally};
-use product::gateway;
 use reference::table::is_sound;
+use windosprio::calls;
 
 use crate::lent::{PlacedTable, PlacedText};
 
@@ -63,7 +63,7 @@ fn compare_table(table: &[u32], schema: &[u8], made: Option<bool>, seed: u64, ta
 fn judge(table: &[u32], schema: &[u8], seed: u64) -> Result<bool, String> {
     let mut random = Random::new(seed);
     let (text, words) = (PlacedText::new(&mut random, schema), PlacedTable::new(&mut random, table));
-    let said = gateway::is_sound(text.bytes(), words.words());
+    let said = calls::is_sound(text.bytes(), words.words());
     let expected = is_sound(table, schema);
     ensure(said == expected, || format!("sound: product {said}, reference {expected}"))?;
     Ok(said)

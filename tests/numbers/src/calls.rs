@@ -1,22 +1,22 @@
 //! What the program prints of a case, over the product's calls: the only use of its library here.
 
 use numbers::Case;
-use product::gateway::{check, compile};
+use windosprio::calls::{check, compile};
+use windosprio::limits::{RECORD_WORDS, ROWS, ROW_WORDS};
 
-/// Words of a row and of a record.
-const ROW: usize = 8;
-const RECORD: usize = 4;
+/// What the program lends for records.
+const RECORDS: usize = 4_096;
 
 /// The line of a case's answer. A schema that is refused beside a message has its own line.
 pub fn answer(case: &Case) -> String {
-    let mut rows = vec![0; case.row_words.unwrap_or(1_024 * ROW)];
+    let mut rows = vec![0; case.row_words.unwrap_or(ROWS * ROW_WORDS)];
     let (number, count) = compile(&case.schema, &mut rows);
     let Some(message) = case.message.as_deref().filter(|_| number == 0) else {
         return format!("{number} {count}");
     };
-    let table = case.table.as_deref().unwrap_or(&rows[..count * ROW]);
-    let mut records = vec![0; case.record_words.unwrap_or(4_096 * RECORD)];
+    let table = case.table.as_deref().unwrap_or(&rows[..count * ROW_WORDS]);
+    let mut records = vec![0; case.record_words.unwrap_or(RECORDS * RECORD_WORDS)];
     let (number, row, count) = check(table, &case.schema, message, &mut records);
-    let words: String = records[..count * RECORD].iter().map(|word| format!(" {word}")).collect();
+    let words: String = records[..count * RECORD_WORDS].iter().map(|word| format!(" {word}")).collect();
     format!("{number} {row} {count}{words}")
 }

@@ -1,6 +1,3 @@
-//! The proved product, called through its static libraries. The only crate here with unsafe code.
-//!
-//! `gateway` has the calls, exported by the library of that name; `text` the inner layers that `probe` exports.
+//! The inner layers of the proved product, called through the static library `probe`. Its calls are in `windosprio`.
 
-pub mod gateway;
 pub mod text;

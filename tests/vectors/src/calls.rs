@@ -2,8 +2,8 @@
 //! expected one.
 
 use harness::{check_expected, ensure};
-use product::gateway;
 use reference::{message, schema, table};
+use windosprio::calls;
 
 /// Words that the program of 01 lends, and what they hold before.
 const SCHEMA_ROOM: usize = 1_024 * ROW;
@@ -32,13 +32,13 @@ pub fn check_message(schema: &[u8], message: &[u8], expected: (u32, usize, usize
 /// Number, row count and table.
 fn compile(text: &[u8]) -> Result<(u32, usize, Vec<u32>), String> {
     let mut words = vec![GARBAGE; SCHEMA_ROOM];
-    let (number, count) = gateway::compile(text, &mut words);
+    let (number, count) = calls::compile(text, &mut words);
     let answer = schema::compile(text, SCHEMA_ROOM);
     agree("number and rows", (number, count), (answer.number, answer.count as usize))?;
     agree_on_words(&words, &answer.words)?;
     words.truncate(count * ROW);
     if number == 0 {
-        agree("soundness", gateway::is_sound(text, &words), table::is_sound(&words, text))?;
+        agree("soundness", calls::is_sound(text, &words), table::is_sound(&words, text))?;
         ensure(table::is_sound(&words, text), || "the table of an accepted schema isn't sound".to_string())?;
     }
     Ok((number, count, words))
@@ -47,7 +47,7 @@ fn compile(text: &[u8]) -> Result<(u32, usize, Vec<u32>), String> {
 /// Number, command row and record count.
 fn check(table: &[u32], schema: &[u8], text: &[u8]) -> Result<(u32, usize, usize), String> {
     let mut words = vec![GARBAGE; MESSAGE_ROOM];
-    let got = gateway::check(table, schema, text, &mut words);
+    let got = calls::check(table, schema, text, &mut words);
     let answer = message::check(table, schema, text, MESSAGE_ROOM);
     agree("number, command row and records", got, (answer.number, answer.row as usize, answer.count as usize))?;
     agree_on_words(&words, &answer.words)?;

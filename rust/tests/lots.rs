@@ -1,6 +1,6 @@
-//! P1 to P12 of 01, "Lots on either side of the line", through the product's calls: every number and every word lent.
+//! P1 to P12 of 01, "Lots on either side of the line", through the calls: every number and every word lent.
 
-use product::gateway::{check, compile, is_sound};
+use windosprio::calls::{check, compile, is_sound};
 
 const STOP_LOT: &str = "{'command':'stop-lot','data':{'lot':'str'}}";
 const STOP_LOT_ROWS: &[[u32; 8]] = &[[9, 12, 8, 2, 0, 0, 0, 0], [3, 0, 0, 1, 0, 0, 0, 0], [4, 31, 3, 1, 0, 0, 0, 0]];

@@ -1,36 +1,46 @@
-//! The calls: schema to table, message to records, and whether a table is sound.
+//! The calls as the library exports them: over slices that the caller lends, with the paper's numbers.
+//!
+//! Any bytes and any words may be handed over. A call sets every word lent to it. A refusal leaves them all zero, an
+//! acceptance those after the last row or record. No call keeps anything, so calls may run on several threads at once.
+//! How much stack they need is in [`limits`](crate::limits).
 
 mod exports {
     extern "C" {
         pub fn windosprio_compile_schema(
             schema: *const u8,
-            length: usize,
+            schema_bytes: usize,
             rows: *mut u32,
-            words: usize,
-            count: *mut usize,
+            row_words: usize,
+            row_count: *mut usize,
         ) -> u32;
 
         pub fn windosprio_check_message(
             table: *const u32,
             table_words: usize,
             schema: *const u8,
-            schema_length: usize,
+            schema_bytes: usize,
             message: *const u8,
-            message_length: usize,
+            message_bytes: usize,
             records: *mut u32,
-            words: usize,
-            row: *mut usize,
-            count: *mut usize,
+            record_words: usize,
+            command_row: *mut usize,
+            record_count: *mut usize,
         ) -> u32;
 
-        pub fn windosprio_is_sound(schema: *const u8, length: usize, table: *const u32, words: usize) -> bool;
+        pub fn windosprio_is_sound(
+            schema: *const u8,
+            schema_bytes: usize,
+            table: *const u32,
+            table_words: usize,
+        ) -> bool;
     }
 }
 
-/// What a number holds that the product doesn't set; no answer has it.
+/// What a count holds before a call sets it; no answer has it.
 const UNSET: usize = usize::MAX;
 
-/// Compiles a schema into the rows lent; gives number and row count.
+/// Compiles a schema into the rows lent, [`ROW_WORDS`](crate::limits::ROW_WORDS) words each; gives the number, 0 or 1
+/// to 13, and the count of rows.
 pub fn compile(schema: &[u8], rows: &mut [u32]) -> (u32, usize) {
     let mut count = UNSET;
     // SAFETY: each pointer goes with the length of its slice, which lives and isn't used otherwise during the call.
@@ -40,7 +50,11 @@ pub fn compile(schema: &[u8], rows: &mut [u32]) -> (u32, usize) {
     (number, count)
 }
 
-/// Checks a message with a table and the schema it is of; gives number, command row and record count.
+/// Checks a message with a table and the schema it is of, into the records lent,
+/// [`RECORD_WORDS`](crate::limits::RECORD_WORDS) words each; gives the number, 0 or 21 to 30, the command's row and the
+/// count of records.
+///
+/// The table is the rows that [`compile`] counted, not the whole room lent to it: a row of zeros isn't sound.
 pub fn check(table: &[u32], schema: &[u8], message: &[u8], records: &mut [u32]) -> (u32, usize, usize) {
     let (mut row, mut count) = (UNSET, UNSET);
     // SAFETY: each pointer goes with the length of its slice, which lives and isn't used otherwise during the call.
@@ -61,7 +75,7 @@ pub fn check(table: &[u32], schema: &[u8], message: &[u8], records: &mut [u32]) 
     (number, row, count)
 }
 
-/// Whether words are a sound table beside schema bytes.
+/// Whether words are a sound table beside schema bytes; [`check`] refuses any other with 21.
 pub fn is_sound(schema: &[u8], table: &[u32]) -> bool {
     // SAFETY: each pointer goes with the length of its slice, which lives during the call.
     unsafe { exports::windosprio_is_sound(schema.as_ptr(), schema.len(), table.as_ptr(), table.len()) }

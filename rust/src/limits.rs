@@ -1,0 +1,41 @@
+//! What the calls take at most, how wide rows and records are, and how much stack a call needs: at least a quarter
+//! more than the project's tests measure.
+
+/// The most bytes of a schema; one more is refused with 1.
+pub const SCHEMA_BYTES: usize = 32_768;
+
+/// The most bytes of a message; one more is refused with 22.
+pub const MESSAGE_BYTES: usize = 16_384;
+
+/// The most rows of a table.
+pub const ROWS: usize = 1_024;
+
+/// Words of a row.
+pub const ROW_WORDS: usize = 8;
+
+/// Words of a record.
+pub const RECORD_WORDS: usize = 4;
+
+/// Bytes of stack that suffice for compiling a schema.
+pub const COMPILE_STACK: usize = 1_536 * 1_024;
+
+/// Bytes of stack that suffice for checking a message.
+pub const CHECK_STACK: usize = 256 * 1_024;
+
+/// Bytes of stack that suffice for judging a table.
+pub const IS_SOUND_STACK: usize = 64 * 1_024;
+
+/// As many records as an accepted message of so many bytes can have, so that a room for them is never too small.
+///
+/// It is the number of bytes. A text of n bytes has at most (n + 1) / 2 values and keys: each takes a byte or more and,
+/// but for the whole, has a comma, a colon or a closing bracket of its own. The envelope, the key `execute` and the
+/// command's name have no record. A value has at most two, an alternate's and its alternative's, which is no alternate.
+/// That makes at most 2 · ((n + 1) / 2 − 3) records, which is less than n. Absent arguments have one record.
+///
+/// A message over the limit has none: it is refused.
+pub const fn most_records(message_bytes: usize) -> usize {
+    match message_bytes {
+        0..=MESSAGE_BYTES => message_bytes,
+        _ => 0,
+    }
+}
