@@ -58,7 +58,7 @@ module _ (b : Bool) {s : List ℕ} {a e : ℕ} where
       let n : e - (a + 1) - 1 ≡ e - a - 2 = omega arith in
       w .codes ∙ ap (λ (k : ℕ). take k (drop (a + 1) s)) n
 
-spans : {D : Dialect} {s : List ℕ} {a e : ℕ} {cs : List ℕ} → Means D s a e cs → Spans s a e
+pub spans : {D : Dialect} {s : List ℕ} {a e : ℕ} {cs : List ℕ} → Means D s a e cs → Spans s a e
 spans m = record { wide = m .wide; within = m .within }
 
 -- a string against a name

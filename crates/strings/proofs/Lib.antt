@@ -9,3 +9,4 @@ pub mod StringRuns
 pub mod StringReads
 pub mod Codes
 pub mod Comparisons
+pub mod MarkLaws

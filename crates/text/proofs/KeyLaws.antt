@@ -25,7 +25,7 @@ lt-or-ge a zero = inr (omega arith)
 lt-or-ge zero (suc b) = inl (omega arith)
 lt-or-ge (suc a) (suc b) = ⊎-elim (λ p. inl (omega arith)) (λ p. inr (omega arith)) (lt-or-ge a b)
 
-and-false : (a b : Bool) → b ≡ false → a && b ≡ false
+pub and-false : (a b : Bool) → b ≡ false → a && b ≡ false
 and-false true b e = e
 and-false false b e = refl
 

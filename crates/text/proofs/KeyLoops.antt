@@ -20,7 +20,7 @@ use Rattle.text.specs.Keys.{KeyAt, SameKeys, NewKey, KeysApart, KeysOnce
 use Rattle.text.proofs.KeyLaws.{first, no-keys, Says, Clean, once-items, twice-items, clean-more}
 
 -- a key's node says that it is plain only where it is
-plain-key : (s : List ℕ) (a e k : ℕ) → k ≡ keyNode s a e → eqb k 10 ≡ true → plainString s a e ≡ true
+pub plain-key : (s : List ℕ) (a e k : ℕ) → k ≡ keyNode s a e → eqb k 10 ≡ true → plainString s a e ≡ true
 plain-key s a e k h t = go (plainString s a e) (sym (eqb-true k 10 t) ∙ h)
   where
     go : (b : Bool) → _≡_ {A = ℕ} 10 (cond b 10 11) → b ≡ true

@@ -8,3 +8,5 @@ pub mod Values
 pub mod Wholes
 pub mod KeyLaws
 pub mod KeyLoops
+pub mod KeyChains
+pub mod KeyIndex

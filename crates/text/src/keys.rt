@@ -1,9 +1,29 @@
 // Repeated keys, over the nodes: one loop over all of them, and no value is read again.
+// The keys of a small object are compared pairwise, those of a larger one looked up in an index by the marks of what they mean.
 use crate::nodes::node_number;
 use crate::nodes::node_word;
+use buckets::BUCKETS;
+use buckets::add;
+use buckets::first;
+use buckets::next;
+use strings::marks::mark_of;
 use strings::meanings::same_meaning;
+ghost use mathlib.Core.Path.{_≡_};
+ghost use mathlib.Core.Bool.{true};
+ghost use Prim.Native.Nat.{_^_, _≤_, _<_};
+ghost use lib.ListN.{length, replicate};
+ghost use Rattle.buckets.specs.Buckets.{buckets};
 ghost use Rattle.strings.specs.Strings.{dialect};
-ghost use Rattle.text.specs.Keys.{SameKeys, NewKey, KeysApart, KeysOnce};
+ghost use Rattle.text.specs.Keys.{SameKeys, NewKey, KeyMark, Unlisted, KeysApart, KeysOnce};
+
+// In an object of fewer nodes an index costs more than it saves.
+const LARGE: usize = 24;
+
+// Links of an index, one for each node of a text: enough for most messages.
+const FEW_LINKS: usize = 1024;
+
+// Enough for any text that the gateway reads.
+const LINKS: usize = 16384;
 
 // Whether the keys at nodes a and b mean the same.
 fn same_key(s: &[u8], schema: bool, nodes: &[u32], a: usize, b: usize) -> bool
@@ -36,8 +56,8 @@ fn is_new_key(s: &[u8], schema: bool, nodes: &[u32], a: usize, b: usize, end: us
     true
 }
 
-// Whether no two keys from node b up to node `end` mean the same.
-fn are_apart(s: &[u8], schema: bool, nodes: &[u32], b: usize, end: usize) -> bool
+// Whether no two keys from node b up to node `end` mean the same: each is compared with those after it.
+fn are_pairs_apart(s: &[u8], schema: bool, nodes: &[u32], b: usize, end: usize) -> bool
     ensures { λ r. ⌜ KeysApart (dialect schema) (now (s .entry)) (now (nodes .entry)) b end r ⌝ }
 {
     let mut i = b;
@@ -54,19 +74,129 @@ fn are_apart(s: &[u8], schema: bool, nodes: &[u32], b: usize, end: usize) -> boo
     true
 }
 
-// Whether no object of the first `count` nodes has a key twice.
-pub fn keys_once(s: &[u8], schema: bool, nodes: &[u32], count: usize) -> bool
+// The mark of what the key at node a means.
+fn key_mark(s: &[u8], schema: bool, nodes: &[u32], a: usize) -> u32
+    ensures { λ r. ⌜ KeyMark (dialect schema) (now (s .entry)) (now (nodes .entry)) a r ⌝ }
+{
+    let start = node_number(nodes, a, 1);
+    let end = node_number(nodes, a, 2);
+    let plain = node_word(nodes, a, 0) == 10;
+    mark_of(s, schema, start, end, plain)
+}
+
+// Whether no key of a chain, from the word `head` on, means what the key at node a does. The chain has at most `most` keys.
+fn is_unlisted(
+    s: &[u8],
+    schema: bool,
+    nodes: &[u32],
+    a: usize,
+    links: &[u32],
+    head: usize,
+    most: usize,
+) -> bool
+    ensures { λ r. ⌜ Unlisted (dialect schema) (now (s .entry)) (now (nodes .entry)) a (now (links .entry)) head most r ⌝ }
+{
+    let mut word = head;
+    let mut left = most;
+    while 0 < left {
+        if word == 0 {
+            return true;
+        }
+        let i = word - 1;
+        if same_key(s, schema, nodes, i, a) {
+            return false;
+        }
+        word = next(links, i);
+        left -= 1;
+    }
+    true
+}
+
+// Whether no two keys from node b up to node `end` mean the same: each is looked up among those before it.
+fn are_listed_apart(
+    s: &[u8],
+    schema: bool,
+    nodes: &[u32],
+    b: usize,
+    end: usize,
+    heads: &mut [u32; BUCKETS],
+    links: &mut [u32],
+) -> bool
+    requires { ⌜ (end ≤ length (now links)) × (length (now links) < 2 ^ 32) × (now heads ≡ replicate buckets 0) ⌝ }
+    ensures { λ r. ⌜ KeysApart (dialect schema) (now (s .entry)) (now (nodes .entry)) b end r ⌝ }
+{
+    let mut i = b;
+    while i < end {
+        let n = node_number(nodes, i, 3);
+        if n <= i {
+            return true;
+        }
+        let mark = key_mark(s, schema, nodes, i);
+        let head = first(heads, mark);
+        if !is_unlisted(s, schema, nodes, i, links, head, i) {
+            return false;
+        }
+        add(heads, links, mark, i);
+        i = n;
+    }
+    true
+}
+
+// Whether an index pays for the keys from node b up to node `end`, and has the room.
+fn is_large(b: usize, end: usize, room: usize) -> bool
+    ensures { λ r. ⌜ (r ≡ true → end ≤ room) ⌝ }
+{
+    if end < LARGE {
+        return false;
+    }
+    if end - LARGE < b {
+        return false;
+    }
+    end <= room
+}
+
+// Whether no two keys from node b up to node `end` mean the same. The links are scratch.
+fn are_apart(s: &[u8], schema: bool, nodes: &[u32], b: usize, end: usize, links: &mut [u32]) -> bool
+    requires { ⌜ length (now links) < 2 ^ 32 ⌝ }
+    ensures { λ r. ⌜ KeysApart (dialect schema) (now (s .entry)) (now (nodes .entry)) b end r ⌝ }
+{
+    if is_large(b, end, links.len()) {
+        let mut heads = [0u32; BUCKETS];
+        return are_listed_apart(s, schema, nodes, b, end, &mut heads, links);
+    }
+    are_pairs_apart(s, schema, nodes, b, end)
+}
+
+// Whether no object of the first `count` nodes has a key twice. The links are scratch.
+fn objects_once(s: &[u8], schema: bool, nodes: &[u32], count: usize, links: &mut [u32]) -> bool
+    requires { ⌜ length (now links) < 2 ^ 32 ⌝ }
     ensures { λ r. ⌜ KeysOnce (dialect schema) (now (s .entry)) (now (nodes .entry)) count r ⌝ }
 {
     let mut k = 0;
     while k < count {
         if node_word(nodes, k, 0) == 9 {
             let end = node_number(nodes, k, 3);
-            if !are_apart(s, schema, nodes, k + 1, end) {
+            if !are_apart(s, schema, nodes, k + 1, end, links) {
                 return false;
             }
         }
         k += 1;
     }
     true
+}
+
+// Whether no object of the first `count` nodes has a key twice. A short text pays for few links.
+pub fn keys_once(s: &[u8], schema: bool, nodes: &[u32], count: usize) -> bool
+    ensures { λ r. ⌜ KeysOnce (dialect schema) (now (s .entry)) (now (nodes .entry)) count r ⌝ }
+{
+    if count < LARGE {
+        let mut links = [0u32; 1];
+        return objects_once(s, schema, nodes, count, &mut links);
+    }
+    if count <= FEW_LINKS {
+        let mut links = [0u32; FEW_LINKS];
+        return objects_once(s, schema, nodes, count, &mut links);
+    }
+    let mut links = [0u32; LINKS];
+    objects_once(s, schema, nodes, count, &mut links)
 }

@@ -17,7 +17,7 @@ pub fn compare(tally: &mut Tally) -> Check {
     for (text, verdict) in SMALL_SCHEMAS {
         check(Schema, text, *verdict, tally)?;
     }
-    for (dialect, text, verdict) in levels().into_iter().chain(long()) {
+    for (dialect, text, verdict) in levels().into_iter().chain(long()).chain(many_keys()) {
         check(dialect, &text, verdict, tally)?;
     }
     check_planted_faults(tally)?;
@@ -105,6 +105,26 @@ fn levels() -> Vec<(Dialect, Vec<u8>, Verdict)> {
         (Schema, in_schema(open(7, "1")), Fault(12)),
         (Schema, in_schema(open(7, "'a'[")), Fault(15)),
     ]
+}
+
+/// Objects of few and of many keys, each there once, and with a last key that is an earlier one again.
+fn many_keys() -> Vec<(Dialect, Vec<u8>, Verdict)> {
+    let mut texts = Vec::new();
+    for count in [2, 11, 12, 13, 100, 511, 513, 2_000, 8_200] {
+        for again in [None, Some(0), Some(count / 2), Some(count - 2)] {
+            let members = |quote: char, value: &str, respelled: &str| -> Vec<u8> {
+                let key = |i: usize| match again {
+                    Some(earlier) if i == count - 1 => format!("{quote}{respelled}{earlier}{quote}:{value}"),
+                    _ => format!("{quote}k{i}{quote}:{value}"),
+                };
+                format!("{{{}}}", (0..count).map(key).collect::<Vec<_>>().join(",")).into_bytes()
+            };
+            texts.push((Message, members('"', "1", "\\u006b"), Whole(2 * count + 1)));
+            texts.push((Message, members('"', "1", "k"), Whole(2 * count + 1)));
+            texts.push((Schema, members('\'', "true", "k"), Whole(2 * count + 1)));
+        }
+    }
+    texts
 }
 
 /// About a million bytes.

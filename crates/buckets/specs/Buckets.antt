@@ -1,0 +1,45 @@
+-- Serves contracts: an index of items by a mark that equal things share. An item is of any type; `place` gives its number and `mark` its mark.
+use Prim.{Unit}
+use Prim.Native.Nat.{ℕ, suc, _%_, _<_}
+use mathlib.Core.Path.{_≡_}
+use mathlib.Core.Bool.{cond}
+use mathlib.Core.List.{List, [], _∷_}
+use lib.Dec.{eqb}
+use lib.ListN.{getD, set}
+
+abbrev pub buckets : ℕ
+buckets = 512
+
+-- the bucket of a mark
+abbrev pub bucketOf : ℕ → ℕ
+bucketOf mark = mark % buckets
+
+-- item i was put first in the bucket of its mark
+pub record Added (heads links : List ℕ) (mark i : ℕ) (heads′ links′ : List ℕ) : Type 0 where
+  pub head : heads′ ≡ set heads (bucketOf mark) (suc i)
+  pub link : links′ ≡ set links i (getD heads (bucketOf mark) 0)
+
+-- P holds of every item
+abbrev pub All : {A : Type 0} → (A → Type 0) → List A → Type 0
+All P [] = Unit {0}
+All P (y ∷ ys) = P y × All P ys
+
+module _ {A : Type 0} (place : A → ℕ) where
+  -- no item has the number i
+  abbrev pub Free : ℕ → List A → Type 0
+  Free i = All (λ y. place y ≡ i → ⊥)
+
+  -- the items that follow a word: 0 for none, else the first item's number and one
+  abbrev pub Chain : List ℕ → ℕ → List A → Type 0
+  Chain links x [] = x ≡ 0
+  Chain links x (y ∷ ys) = (x ≡ suc (place y)) × Chain links (getD links (place y) 0) ys
+
+module _ {A : Type 0} (mark : A → ℕ) where
+  -- the items of bucket h
+  abbrev pub inBucket : ℕ → List A → List A
+  inBucket h [] = []
+  inBucket h (y ∷ ys) = cond (eqb (bucketOf (mark y)) h) (y ∷ inBucket h ys) (inBucket h ys)
+
+-- the chain of each bucket has its items, in the order of the list
+pub record Indexed {A : Type 0} (place mark : A → ℕ) (heads links : List ℕ) (items : List A) : Type 0 where
+  pub chains : (h : ℕ) → h < buckets → Chain place links (getD heads h 0) (inBucket mark h items)

@@ -1,0 +1,2 @@
+-- An index of numbered items by a mark.
+pub mod Buckets
