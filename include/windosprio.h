@@ -38,7 +38,7 @@ extern "C" {
 
 /* Bytes of stack that suffice for a call. */
 #define WINDOSPRIO_COMPILE_STACK 1572864
-#define WINDOSPRIO_CHECK_STACK 262144
+#define WINDOSPRIO_CHECK_STACK 393216
 #define WINDOSPRIO_IS_SOUND_STACK 65536
 
 /* The number of an acceptance. */

@@ -20,7 +20,7 @@ pub const RECORD_WORDS: usize = 4;
 pub const COMPILE_STACK: usize = 1_536 * 1_024;
 
 /// Bytes of stack that suffice for checking a message.
-pub const CHECK_STACK: usize = 256 * 1_024;
+pub const CHECK_STACK: usize = 384 * 1_024;
 
 /// Bytes of stack that suffice for judging a table.
 pub const IS_SOUND_STACK: usize = 64 * 1_024;
