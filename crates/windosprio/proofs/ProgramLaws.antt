@@ -1,7 +1,6 @@
 -- Messages answered one after another; a count that an answer holds.
-use Prim.Native.Nat.{ℕ, zero, suc, _+_, _*_, _-_, _/_, _≤_, _<_, min}
-use native.Mathlib.Nat.{not-suc-le-zero, mul-comm, le-div-iff-mul-le, div-lt-iff-lt-mul, min-eq-left, min-eq-right, le-of-lt}
-use native.Mathlib.Numerals.{add-one}
+use Prim.Native.Nat.{ℕ, suc, _+_, _-_, _≤_, _<_, min}
+use native.Mathlib.Nat.{not-suc-le-zero, min-eq-left, min-eq-right, le-of-lt}
 use native.Mathlib.Omega.{arith}
 use mathlib.Core.Path.{_≡_, refl, sym, ap, subst, _∙_}
 use mathlib.Core.Bool.{Bool, true, false}
@@ -13,24 +12,12 @@ use borrow.Author.Tests.{leb-true, leb-false}
 use Rattle.lines.specs.Lines.{beforeLF, orNext, LineEnd}
 use Rattle.lines.specs.Text.{Puts}
 use Rattle.lines.proofs.TextLaws.{puts-none, puts-on}
-use Rattle.windosprio.specs.declared.input.Read.{Read}
-use Rattle.windosprio.specs.declared.input.Read.the-variants.{Bytes, Failed}
 use Rattle.windosprio.specs.declared.turns.Turn.{Turn}
-use Rattle.windosprio.specs.declared.turns.Turn.the-variants.{Kept, Stop}
-use Rattle.windosprio.specs.Program.{messageLine, answersAfter, Done, Within, KeptIn}
+use Rattle.windosprio.specs.declared.turns.Turn.the-variants.{Kept}
+use Rattle.windosprio.specs.Program.{messageLine, answersAfter, Done, KeptIn}
 
 pub kept-in : (room : ℕ) {n : ℕ} {t : Turn} → t ≡ Kept n → KeptIn room t → n ≤ room
 kept-in room e h = subst (KeptIn room) e h
-
-pub bytes-in : (room : ℕ) {n : ℕ} {t : Read} → t ≡ Bytes n → Within room t → n ≤ room
-bytes-in room e h = subst (Within room) e h
-
--- whole rows within the words lent, or past them
-pub within-words : (w n l : ℕ) → 0 < w → n ≤ l / w → w * n ≤ l
-within-words w n l h k = subst (λ (x : ℕ). x ≤ l) (mul-comm n w) (le-div-iff-mul-le h .0 k)
-
-pub past-words : (w n l : ℕ) → 0 < w → l / w < n → l ≤ w * n
-past-words w n l h k = subst (λ (x : ℕ). l ≤ x) (mul-comm n w) (le-of-lt (div-lt-iff-lt-mul h .0 k))
 
 take-least : (n : ℕ) (l : List ℕ) (b : Bool) → leb n (length l) ≡ b → take (min n (length l)) l ≡ take n l
 take-least n l true e = ap (λ (k : ℕ). take k l) (min-eq-left (leb-true n (length l) e))

@@ -13,8 +13,6 @@ use Rattle.rules.specs.MessageAnswers as Messages
 use Rattle.rules.specs.Answers.{MessageResult, messageResult}
 use Rattle.lines.specs.Lines.{beforeLF}
 use Rattle.lines.specs.Text.{Puts, lineText}
-use Rattle.windosprio.specs.declared.input.Read.{Read}
-use Rattle.windosprio.specs.declared.input.Read.the-variants.{Bytes, Failed}
 use Rattle.windosprio.specs.declared.turns.Turn.{Turn}
 use Rattle.windosprio.specs.declared.turns.Turn.the-variants.{Kept, Stop}
 
@@ -56,11 +54,6 @@ module _ (S T : List ℕ) (room : ℕ) where
 pub record Room (records out : List ℕ) : Type 0 where
   pub few : length records ≤ 16384
   pub wide : 180287 ≤ length out
-
--- a count of bytes within the room
-abbrev pub Within : ℕ → Read → Type 0
-Within room (Bytes n) = n ≤ room
-Within room Failed = Unit {0}
 
 abbrev pub KeptIn : ℕ → Turn → Type 0
 KeptIn room (Kept n) = n ≤ room

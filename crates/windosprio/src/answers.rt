@@ -4,14 +4,14 @@ use gateway::numbers::message_records;
 use gateway::numbers::message_row;
 use gateway::numbers::schema_number;
 use gateway::numbers::schema_rows;
+use input::lent::words_of;
 use lines::ends::line_end;
 use lines::numbers::put_line;
 use lines::numbers::put_pair;
 use message::check::check_message;
 use rules::RECORD_WORDS;
 use rules::SchemaAnswer;
-ghost use Prim.Native.Nat.{_+_, _*_, _≤_, _<_, min};
-ghost use mathlib.Core.Path.{_≡_};
+ghost use Prim.Native.Nat.{_+_, _≤_};
 ghost use lib.ListN.{length};
 ghost use Rattle.lines.specs.Text.{Puts};
 ghost use Rattle.windosprio.specs.Program.{schemaLine, messageLine, Answers};
@@ -23,17 +23,6 @@ const LINE: usize = 180287;
 pub struct Progress {
     pub next: usize,
     pub at: usize,
-}
-
-// How many words so many rows or records have, of those lent.
-pub fn words_of(count: usize, width: usize, lent: usize) -> usize
-    requires { ⌜ 0 < width ⌝ }
-    ensures { λ r. ⌜ (r ≡ min (width * count) lent) × (r ≤ lent) ⌝ }
-{
-    if count <= lent / width {
-        return width * count;
-    }
-    lent
 }
 
 pub fn answer_schema(answer: SchemaAnswer, line: &mut [u8]) -> usize

@@ -1,13 +1,12 @@
 // Reads schema.json, then one message per line from standard input, and prints an answer line for each.
 mod answers;
-mod input;
 mod turns;
 
 use crate::answers::answer_schema;
-use crate::answers::words_of;
-use crate::input::Read;
-use crate::input::read_all;
 use crate::turns::serve;
+use input::files::Read;
+use input::files::read_all;
+use input::lent::words_of;
 use libc::STDOUT_FILENO;
 use rules::ROW_WORDS;
 use rules::SCHEMA_BYTES;

@@ -1,10 +1,11 @@
 // Standard input, chunk by chunk. What is answered is written before the next read.
 use crate::answers::answer;
 use crate::answers::answer_lines;
+use input::joins::Joined;
+use input::joins::join_line;
 use libc::STDIN_FILENO;
 use libc::STDOUT_FILENO;
 use lines::ends::keep;
-use lines::ends::line_end;
 use rules::MESSAGE_BYTES;
 use rules::RECORD_WORDS;
 ghost use Prim.Native.Nat.{_≤_};
@@ -87,15 +88,15 @@ fn take_chunk(
     if kept == 0 {
         return take_lines(table, schema, chunk, 0, carry, records, out);
     }
-    let e = line_end(chunk, 0);
-    let all = keep(carry, kept, &chunk[0..e]);
-    if e == chunk.len() {
-        return Turn::Kept(all);
+    match join_line(carry, kept, chunk, 0) {
+        Joined::More(n) => Turn::Kept(n),
+        Joined::Line(size, next) => {
+            if !take_kept(table, schema, carry, size, records, out) {
+                return Turn::Stop;
+            }
+            take_lines(table, schema, chunk, next, carry, records, out)
+        }
     }
-    if !take_kept(table, schema, carry, all, records, out) {
-        return Turn::Stop;
-    }
-    take_lines(table, schema, chunk, e + 1, carry, records, out)
 }
 
 fn take_some(

@@ -1,5 +1,5 @@
 -- `main` is safe: what was read is within the room.
-use Rattle.windosprio.proofs.ProgramLaws.{bytes-in}
+use Rattle.input.proofs.JoinLaws.{bytes-in}
 use borrow.Author.Needs.{needs}
 use Rattle.windosprio.proofs.main.Statement.{statement}
 use Rattle.windosprio.proofs.main.Tie as tie

@@ -1,8 +1,5 @@
--- `take_chunk` is safe: the line's end is within the chunk.
-use Prim.Native.Nat.{_-_, _≤_}
-use native.Mathlib.Omega.{arith}
-use mathlib.Core.Path.{_≡_, refl, _∙_}
-use lib.ListN.{length}
+-- `take_chunk` is safe: a line joined is within its room, and the chunk goes on within itself.
+use Rattle.input.proofs.JoinLaws.{more-in, line-in, line-on}
 use borrow.Author.Needs.{needs}
 use Rattle.windosprio.proofs.turns.take_chunk.Statement.{statement}
 use Rattle.windosprio.proofs.turns.take_chunk.Tie as tie
@@ -22,29 +19,20 @@ same-length-3 c = search needs
 returns : tie.Need-returns
 returns c = search needs
 
-line-end-requires : tie.Need-line-end-requires
-line-end-requires c κs = search needs
+join-line-requires : tie.Need-join-line-requires
+join-line-requires c κs = search needs
 
-sub-keep : tie.Need-sub-keep
-sub-keep c = search needs
+enum-known-n : tie.Need-enum-known-n
+enum-known-n c = search needs
 
-part-keep-start : tie.Need-part-keep-start
-part-keep-start c = search needs
+enum-known-size : tie.Need-enum-known-size
+enum-known-size c = search needs
 
-part-keep-end : tie.Need-part-keep-end
-part-keep-end c = c .before .line-end .ensures .within (omega arith)
-
-keep-requires : tie.Need-keep-requires
-keep-requires c κs = search needs
+take-kept-requires : tie.Need-take-kept-requires
+take-kept-requires c κs = (line-in (c .before .before .before .before .before .before .before .before .before .before .before .before .before .before .before .before .before .args .carry .now) (c .before .before .before .before .before .before .before .before .before .before .before .before .before .before .before .before .before .args .kept) (c .before .before .before .before .before .before .before .before .before .before .before .before .before .before .before .before .before .args .chunk .now) 0 (c .before .before .before .before .before .before .before .before .join-line .last .0) (c .before .before .before .before .before .before .before .before .join-line .ensures) (c .before .before .before .before .size .given .1), c .before .before .before .before .before .before .before .before .before .before .before .before .before .before .before .before .before .pre .1)
 
 same-length-4 : tie.Need-same-length-4
 same-length-4 c = search needs
-
-returns-2 : tie.Need-returns-2
-returns-2 c = search needs
-
-take-kept-requires : tie.Need-take-kept-requires
-take-kept-requires c κs = search needs
 
 same-length-5 : tie.Need-same-length-5
 same-length-5 c = search needs
@@ -52,17 +40,17 @@ same-length-5 c = search needs
 same-length-6 : tie.Need-same-length-6
 same-length-6 c = search needs
 
+returns-2 : tie.Need-returns-2
+returns-2 c = search needs
+
+take-lines-requires-2 : tie.Need-take-lines-requires-2
+take-lines-requires-2 c κs = let h = line-on (c .before .before .before .before .before .before .before .before .before .before .before .before .before .before .before .before .before .before .before .before .before .before .before .before .before .before .args .carry .now) (c .before .before .before .before .before .before .before .before .before .before .before .before .before .before .before .before .before .before .before .before .before .before .before .before .before .before .args .kept) (c .before .before .before .before .before .before .before .before .before .before .before .before .before .before .before .before .before .before .before .before .before .before .before .before .before .before .args .chunk .now) 0 (c .before .before .before .before .before .before .before .before .before .before .before .before .before .before .before .before .before .join-line .last .0) (c .before .before .before .before .before .before .before .before .before .before .before .before .before .before .before .before .before .join-line .ensures) (c .before .before .before .before .before .before .before .before .before .before .before .before .before .size .given .1) in let k = c .before .before .before .before .before .before .before .before .before .before .before .before .before .before .before .before .before .before .before .before .before .before .before .before .before .before .pre .1 in search needs
+
 same-length-7 : tie.Need-same-length-7
 same-length-7 c = search needs
 
 returns-3 : tie.Need-returns-3
-returns-3 c = search needs
-
-add-take-lines : tie.Need-add-take-lines
-add-take-lines c = search (needs, c .before .before .before .before .before .before .before .before .before .before .before .before .before .before .before .line-end .ensures .within (omega arith))
-
-take-lines-requires-2 : tie.Need-take-lines-requires-2
-take-lines-requires-2 c κs = let h = c .before .before .before .before .before .before .before .before .before .before .before .before .before .before .before .before .before .before .line-end .ensures .within (omega arith) in search needs
+returns-3 c = more-in (c .before .before .before .before .before .before .before .before .before .before .before .before .before .before .args .carry .now) (c .before .before .before .before .before .before .before .before .before .before .before .before .before .before .args .kept) (c .before .before .before .before .before .before .before .before .before .before .before .before .before .before .args .chunk .now) 0 (c .before .before .before .before .before .join-line .last .0) (c .before .before .before .before .before .join-line .ensures) (c .before .n .given .1)
 
 same-length-8 : tie.Need-same-length-8
 same-length-8 c = search needs
@@ -85,20 +73,17 @@ take-chunk-spec =
     same-length-2
     same-length-3
     returns
-    line-end-requires
-    sub-keep
-    part-keep-start
-    part-keep-end
-    keep-requires
-    same-length-4
-    returns-2
+    join-line-requires
+    enum-known-n
+    enum-known-size
     take-kept-requires
+    same-length-4
     same-length-5
     same-length-6
+    returns-2
+    take-lines-requires-2
     same-length-7
     returns-3
-    add-take-lines
-    take-lines-requires-2
     same-length-8
     same-length-9
     same-length-10

@@ -1,0 +1,3 @@
+pub mod SeeingLaws
+pub mod Walk
+pub mod Cases

@@ -1,0 +1,3 @@
+-- What the contracts and theorems cite.
+pub mod Seeing
+pub mod Walk

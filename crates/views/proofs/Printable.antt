@@ -1,0 +1,171 @@
+-- No byte outside 0x20 to 0x7E goes to the terminal but the LF that ends a line, whatever comes as schema, table, message and records.
+-- The idea: all text of a message or a schema goes through `shown`, and the rest is fixed.
+use Prim.Native.Nat.{ℕ, zero, suc, _+_, _-_, _*_, _/_, _%_, _<_, min}
+use native.Mathlib.Omega.{arith}
+use mathlib.Core.Path.{_≡_, refl}
+use mathlib.Core.Bool.{Bool, true, false, cond, _&&_, _||_}
+use mathlib.Core.List.{List, [], _∷_, _++_}
+use mathlib.Core.Option.{Option, none, some}
+use lib.Dec.{eqb, ltb}
+use lib.ListN.{length, take, getD, replicate}
+use Rattle.grammar.specs.Notation.{text, all}
+use Rattle.rules.specs.declared.MessageAnswer.{MessageAnswer}
+use Rattle.rules.specs.declared.MessageAnswer.the-variants as MA
+use Rattle.rules.specs.declared.MessageRefusal.the-variants as M
+use Rattle.rules.specs.Rows.{isStruct, nameOf}
+use Rattle.lines.specs.Text.{decimalText}
+use Rattle.viewer.specs.declared.records.Seen.{Seen}
+use Rattle.viewer.specs.declared.records.Seen.the-variants.{Record, Nothing}
+use Rattle.viewer.specs.Seeing.{seenAt, placeAfter, partOf}
+use Rattle.views.specs.Escapes.{printable, hexDigit, hexByte, shownByte, shownBytes, shown}
+use Rattle.views.specs.Labelling.{keyBefore, before, keyText, ofAlternate, labelText}
+use Rattle.views.specs.Typing.{builtInNames, rowText, rowName, typeName, typeText}
+use Rattle.views.specs.TreeText.{openBefore, indentText, valueShown, valueText, leftText, rightText, recordLine, lineAt, linesOf, linesFrom}
+use Rattle.views.specs.Meanings.{refusedLine, commandLine, messageHead}
+use Rattle.views.proofs.TypeLaws.{every}
+
+-- what a terminal may have
+abbrev pub clean : ℕ → Bool
+clean b = printable b || eqb b 10
+
+both : (a b : Bool) → a ≡ true → b ≡ true → a && b ≡ true
+both true true p q = refl
+both true false p q = q
+both false b p q = p
+
+or-left : (a b : Bool) → a ≡ true → a || b ≡ true
+or-left true b p = refl
+or-left false true p = refl
+or-left false false p = p
+
+left-of : (a b : Bool) → a && b ≡ true → a ≡ true
+left-of true b p = refl
+left-of false b p = p
+
+right-of : (a b : Bool) → a && b ≡ true → b ≡ true
+right-of true b p = p
+right-of false true p = refl
+right-of false false p = p
+
+joined : (xs ys : List ℕ) → all clean xs ≡ true → all clean ys ≡ true → all clean (xs ++ ys) ≡ true
+joined [] ys p q = q
+joined (x ∷ xs) ys p q = both (clean x) (all clean (xs ++ ys)) (left-of (clean x) (all clean xs) p) (joined xs ys (right-of (clean x) (all clean xs) p) q)
+
+-- a byte as it is shown
+abbrev Digit : ℕ → Type 0
+Digit d = clean (hexDigit d) ≡ true
+
+digit : (d : ℕ) → d < 16 → Digit d
+digit d h = every Digit 16 ((((((((((((((((tt, refl), refl), refl), refl), refl), refl), refl), refl), refl), refl), refl), refl), refl), refl), refl), refl) d h
+
+hex-clean : (b : ℕ) → all clean (hexByte b) ≡ true
+hex-clean b = both (clean (hexDigit (b / 16 % 16))) (clean (hexDigit (b % 16)) && true) (digit (b / 16 % 16) (omega arith)) (both (clean (hexDigit (b % 16))) true (digit (b % 16) (omega arith)) refl)
+
+by-printable : (b : ℕ) (t : Bool) → printable b ≡ t → all clean (cond t (b ∷ []) (hexByte b)) ≡ true
+by-printable b true e = both (clean b) true (or-left (printable b) (eqb b 10) e) refl
+by-printable b false e = hex-clean b
+
+byte-clean : (b : ℕ) → all clean (shownByte b) ≡ true
+unfolding shownByte
+byte-clean b = by-printable b (printable b) refl
+
+bytes-clean : (l : List ℕ) → all clean (shownBytes l) ≡ true
+unfolding shownBytes
+bytes-clean [] = refl
+bytes-clean (b ∷ l) = joined (shownByte b) (shownBytes l) (byte-clean b) (bytes-clean l)
+
+dots : (t : Bool) → all clean (cond t (text "...") []) ≡ true
+dots true = refl
+dots false = refl
+
+pub shown-clean : (l : List ℕ) → all clean (shown l) ≡ true
+unfolding shown
+shown-clean l = joined (shownBytes (take 63 l)) (cond (ltb 63 (length l)) (text "...") []) (bytes-clean (take 63 l)) (dots (ltb 63 (length l)))
+
+-- labels, types and texts
+key-clean : (k : Option (List ℕ)) → all clean (keyText k) ≡ true
+key-clean none = refl
+key-clean (some k) = shown-clean k
+
+by-alternate : (t : Bool) (k : Option (List ℕ)) → all clean (elim t [ true ↦ text "as" | false ↦ keyText k ]) ≡ true
+by-alternate true k = refl
+by-alternate false k = key-clean k
+
+label-clean : (T m ws : List ℕ) (n start : ℕ) → all clean (labelText T m ws n start) ≡ true
+unfolding labelText
+label-clean T m ws zero start = refl
+label-clean T m ws (suc n) start = by-alternate (ofAlternate T (seenAt ws n)) (keyBefore (before m start))
+
+row-clean : (t : Bool) (n : List ℕ) → all clean (rowText t n) ≡ true
+row-clean true [] = refl
+row-clean false [] = refl
+row-clean t (b ∷ n) = shown-clean (b ∷ n)
+
+name-in : (ns : List (List ℕ)) (t : ℕ) → all (all clean) ns ≡ true → all clean (getD ns t []) ≡ true
+name-in [] t p = refl
+name-in (n ∷ ns) zero p = left-of (all clean n) (all (all clean) ns) p
+name-in (n ∷ ns) (suc t) p = name-in ns t (right-of (all clean n) (all (all clean) ns) p)
+
+by-row : (S T : List ℕ) (t r : ℕ) (b : Bool) → all clean (elim b [ true ↦ getD builtInNames t [] | false ↦ rowName S T r ]) ≡ true
+unfolding rowName
+by-row S T t r true = name-in builtInNames t refl
+by-row S T t r false = row-clean (isStruct T r) (nameOf S T r)
+
+name-clean : (S T : List ℕ) (t : ℕ) → all clean (typeName S T t) ≡ true
+unfolding typeName
+name-clean S T t = by-row S T t (t - 16) (ltb t 16)
+
+type-clean : (S T : List ℕ) (t f : ℕ) → all clean (typeText S T t f) ≡ true
+unfolding typeText
+type-clean S T t zero = name-clean S T t
+type-clean S T t (suc f) = joined (text "[") (typeName S T t ++ text "]") refl (joined (typeName S T t) (text "]") (name-clean S T t) refl)
+
+value-clean : (v : List ℕ) → all clean (valueShown v) ≡ true
+value-clean [] = refl
+value-clean (b ∷ v) = shown-clean (b ∷ v)
+
+spaces-clean : (n : ℕ) → all clean (replicate n 32) ≡ true
+spaces-clean zero = refl
+spaces-clean (suc n) = spaces-clean n
+
+-- lines
+module _ (S T m ws : List ℕ) where
+  left-clean : (n a : ℕ) → all clean (leftText T m ws n a) ≡ true
+  unfolding leftText indentText
+  left-clean n a = joined (indentText (openBefore ws n a)) (labelText T m ws n a) (spaces-clean (2 * (1 + min (openBefore ws n a) 80))) (label-clean T m ws n a)
+
+  right-clean : (a e t f : ℕ) → all clean (rightText S T m a e t f) ≡ true
+  unfolding rightText valueText
+  right-clean a e t f =
+      let z : List ℕ = valueText m a e ++ (10 ∷ []) in
+      let y : List ℕ = text " = " ++ z in
+      joined (text ": ") (typeText S T t f ++ y) refl (joined (typeText S T t f) y (type-clean S T t f) (joined (text " = ") z refl (joined (valueText m a e) (10 ∷ []) (value-clean (partOf m a e)) refl)))
+
+  line-clean : (n : ℕ) (s : Seen) → all clean (recordLine S T m ws n s) ≡ true
+  line-clean n Nothing = refl
+  line-clean n (Record a e t f) = joined (leftText T m ws n a) (rightText S T m a e t f) (left-clean n a) (right-clean a e t f)
+
+  lines-clean : (k n : ℕ) → all clean (linesOf S T m ws k n) ≡ true
+  unfolding linesOf lineAt
+  lines-clean zero n = refl
+  lines-clean (suc k) n = joined (lineAt S T m ws n) (linesOf S T m ws k (placeAfter ws n)) (line-clean n (seenAt ws n)) (lines-clean k (placeAfter ws n))
+
+  -- every line of a tree
+  pub tree-clean : (n : ℕ) → all clean (linesFrom S T m ws n) ≡ true
+  unfolding linesFrom
+  tree-clean n = lines-clean (length ws / 4 - n) n
+
+-- and the first line of a message's view
+pub head-clean : (S T : List ℕ) (a : MessageAnswer) → all clean (messageHead S T a) ≡ true
+unfolding commandLine refusedLine decimalText
+head-clean S T (MA.Accepted c n) = joined (text "0 ") (shown (nameOf S T c) ++ (10 ∷ [])) refl (joined (shown (nameOf S T c)) (10 ∷ []) (shown-clean (nameOf S T c)) refl)
+head-clean S T (MA.Refused M.UnsoundTable) = refl
+head-clean S T (MA.Refused M.TooLong) = refl
+head-clean S T (MA.Refused M.NotText) = refl
+head-clean S T (MA.Refused M.TooDeep) = refl
+head-clean S T (MA.Refused M.RepeatedKey) = refl
+head-clean S T (MA.Refused M.NotEnvelope) = refl
+head-clean S T (MA.Refused M.UnknownCommand) = refl
+head-clean S T (MA.Refused M.NotOutOfBand) = refl
+head-clean S T (MA.Refused M.NoReading) = refl
+head-clean S T (MA.Refused M.NoRoom) = refl

@@ -1,0 +1,94 @@
+-- What a record is called: the key before its value, as it is written, or what it is of the record before it.
+use Prim.Native.Nat.{ℕ, zero, suc, _-_, _<_, min}
+use mathlib.Core.Bool.{Bool, true, false, cond, not, _&&_}
+use mathlib.Core.List.{List, [], _∷_}
+use mathlib.Core.Option.{Option, none, some}
+use lib.Dec.{eqb, leb}
+use lib.ListN.{length, getD}
+use Rattle.grammar.specs.Limits.{first-row}
+use Rattle.grammar.specs.Notation.{text}
+use Rattle.grammar.specs.Lexis.{blank}
+use Rattle.rules.specs.Rows.{isAlternate}
+use Rattle.viewer.specs.declared.records.Seen.{Seen}
+use Rattle.viewer.specs.declared.records.Seen.the-variants.{Record, Nothing}
+use Rattle.views.specs.declared.labels.Mark.{Mark}
+use Rattle.views.specs.declared.labels.Mark.the-variants.{At, Missing}
+use Rattle.views.specs.declared.labels.Label.{Label}
+use Rattle.views.specs.declared.labels.Label.the-variants.{Key, Element}
+use Rattle.viewer.specs.Seeing.{seenAt, partOf}
+use Rattle.views.specs.Escapes.{shown}
+
+-- the bytes before a place, the nearest first
+unfoldable pub back : List ℕ → ℕ → List ℕ
+back m zero = []
+back m (suc i) = getD m i 0 ∷ back m i
+
+unfoldable pub skipBlanks : List ℕ → List ℕ
+skipBlanks [] = []
+skipBlanks (b ∷ l) = elim (blank b) [ true ↦ skipBlanks l | false ↦ b ∷ l ]
+
+-- an even number of backslashes stands first
+unfoldable pub evenSlashes : List ℕ → Bool
+evenSlashes [] = true
+evenSlashes (b ∷ l) = elim (eqb b 92) [ true ↦ not (evenSlashes l) | false ↦ true ]
+
+-- a quote stands first that no backslash escapes
+unfoldable pub quoteFirst : List ℕ → Bool
+quoteFirst [] = false
+quoteFirst (b ∷ l) = eqb b 34 && evenSlashes l
+
+-- the key's bytes, from its last on: up to the quote that opens it, or all there are
+unfoldable pub keyBack : List ℕ → List ℕ → List ℕ
+keyBack k [] = k
+keyBack k (b ∷ l) = elim (quoteFirst (b ∷ l)) [ true ↦ k | false ↦ keyBack (b ∷ k) l ]
+
+-- behind the byte `mark`, blanks skipped
+abbrev pub behindMark : ℕ → List ℕ → Option (List ℕ)
+behindMark mark [] = none
+behindMark mark (b ∷ l) = cond (eqb b mark) (some l) none
+
+abbrev pub closedKey : Option (List ℕ) → Option (List ℕ)
+closedKey none = none
+closedKey (some l) = some (keyBack [] l)
+
+abbrev pub behindColon : Option (List ℕ) → Option (List ℕ)
+behindColon none = none
+behindColon (some l) = closedKey (behindMark 34 (skipBlanks l))
+
+-- the key that stands before a value, if one does: a string and a colon
+unfoldable pub keyBefore : List ℕ → Option (List ℕ)
+keyBefore l = behindColon (behindMark 58 (skipBlanks l))
+
+-- the bytes before the value that starts there
+abbrev pub before : List ℕ → ℕ → List ℕ
+before m start = back m (min start (length m))
+
+-- what the code found: the place of a mark, and the key's place in the message
+abbrev pub backAt : List ℕ → Mark → Option (List ℕ)
+backAt m (At i) = some (back m i)
+backAt m Missing = none
+
+abbrev pub MarkIn : ℕ → Mark → Type 0
+MarkIn n (At i) = i < n
+MarkIn n Missing = Unit {0}
+
+abbrev pub keyAt : List ℕ → Label → Option (List ℕ)
+keyAt m (Key a e) = some (partOf m a e)
+keyAt m Element = none
+
+abbrev pub keyText : Option (List ℕ) → List ℕ
+keyText none = text "-"
+keyText (some k) = shown k
+
+-- a record of an alternate, no array of them
+abbrev pub alternateRef : List ℕ → ℕ → ℕ → Bool
+alternateRef T t f = eqb f 0 && leb first-row t && isAlternate T (t - first-row)
+
+abbrev pub ofAlternate : List ℕ → Seen → Bool
+ofAlternate T (Record a e t f) = alternateRef T t f
+ofAlternate T Nothing = false
+
+-- the record number n: the arguments, the alternative taken, a member by its key, or an element
+unfoldable pub labelText : List ℕ → List ℕ → List ℕ → ℕ → ℕ → List ℕ
+labelText T m ws zero start = text "arguments"
+labelText T m ws (suc n) start = elim (ofAlternate T (seenAt ws n)) [ true ↦ text "as" | false ↦ keyText (keyBefore (before m start)) ]

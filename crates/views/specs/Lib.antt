@@ -1,0 +1,6 @@
+-- What the contracts cite.
+pub mod Escapes
+pub mod Labelling
+pub mod Typing
+pub mod TreeText
+pub mod Meanings

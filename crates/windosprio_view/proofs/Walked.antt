@@ -1,0 +1,21 @@
+-- Of the running call: whatever comes as schema S, table T, message m and lent words `old`, of the answer and the words `new` that `check_message` gives.
+use Prim.Native.Nat.{ℕ}
+use mathlib.Core.Path.{_≡_, ap, _∙_, subst}
+use mathlib.Core.List.{List}
+use lib.ListN.{length}
+use Rattle.rules.specs.declared.MessageAnswer.{MessageAnswer}
+use Rattle.rules.specs.declared.MessageAnswer.the-variants.{Accepted}
+use Rattle.rules.specs.Answers.{MessageResult}
+use Rattle.message.specs.Stages.{Answered}
+use Rattle.viewer.proofs.Walk.{Walked, walk}
+use Rattle.windosprio_view.specs.Program.{resultView, messageView}
+
+-- a walk of an accepted answer gives its records, in order, and then stays
+pub walk-answered : {S T m old new : List ℕ} {r : MessageAnswer} (c n : ℕ) → Answered S T m old new r → r ≡ Accepted c n → Walked S T m c n new
+walk-answered {S} {T} {m} {old} c n a e =
+    subst (Walked S T m c n) (ap (λ (x : MessageResult). x .words) (a .told)) (walk S T m (length old) c n (ap (λ (x : MessageResult). x .answer) (a .told) ∙ e))
+
+-- what the program shows is the answer in words and the lines of the words that the answer counts
+pub view-answered : {S T m old new : List ℕ} {r : MessageAnswer} → Answered S T m old new r → messageView S T (length old) m ≡ resultView S T m (record { answer = r; words = new })
+unfolding messageView
+view-answered {S} {T} {m} a = ap (resultView S T m) (a .told)

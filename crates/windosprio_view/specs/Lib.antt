@@ -1,0 +1,2 @@
+-- What the contracts and theorems cite.
+pub mod Program
