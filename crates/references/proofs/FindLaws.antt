@@ -1,25 +1,28 @@
--- A name is looked for in the list of definitions, from its front; what a word names then.
--- The idea: rows with the heads of the listed table have its kinds and names, and a definition with another mark has another name.
+-- A name is looked for in the index of definitions, along its bucket's chain; what a word names then.
+-- The idea: rows with the heads of the indexed table have its kinds and names, and definitions of one name are in one bucket, in the order of rows.
 use Prim.Native.Nat.{ℕ, zero, suc, _+_, _-_, _*_, _≤_, _<_, _^_}
 use mathlib.Core.Path.{_≡_, refl, sym, ap, _∙_}
-use mathlib.Core.Bool.{Bool, true, false, not, _&&_, _||_, and-false}
-use mathlib.Core.List.{List, _∷_}
-use native.Mathlib.Numerals.{add-one}
+use mathlib.Core.Bool.{Bool, true, false, not, cond, _||_}
+use mathlib.Core.List.{List, [], _∷_}
 use native.Mathlib.Omega.{arith}
 use lib.Dec.{eqb, ltb}
-use lib.ListN.{length, getD, drop, drop-of-length-le, List·getD-eq-default}
-use lib.Seq.{drop-cons}
-use borrow.Author.Tests.{eq-eqb, ne-eqb, eqb-false, ltb-true, ltb-false}
+use lib.ListN.{length, getD, List·getD-eq-default}
+use borrow.Author.Tests.{ne-eqb, eqb-false, ltb-true, ltb-false}
+use Rattle.grammar.proofs.Lists.{same-true}
+use Rattle.buckets.specs.Buckets.{bucketOf, inBucket}
+use Rattle.buckets.proofs.BucketLaws.{bucket-short, index-walk}
 use Rattle.rules.specs.Types.{built-ins}
 use Rattle.rules.specs.Names.{sameName}
-use Rattle.rules.specs.Rows.{rowCount, kind, nameOf}
+use Rattle.rules.specs.Rows.{kind, nameOf}
 use Rattle.rules.specs.SchemaTable.{placeIn, reference}
 use Rattle.rules.specs.Cells.{firstLink, isNamed}
 use Rattle.rules.proofs.Lists.{clash, and-left, and-right}
-use Rattle.table.specs.Definitions.{definitionRows, Listed}
+use Rattle.table.specs.Index.{itself, rowMark}
+use Rattle.table.specs.Definitions.{definitionRows}
 use Rattle.table.specs.Marks.{markOf}
 use Rattle.table.proofs.Walks.{granted, denied}
-use Rattle.table.proofs.MarkLaws.{other-mark}
+use Rattle.table.proofs.IndexLaws.{Walk, Says, walk-start, walk-hit, walk-on, walk-end, walk-out}
+use Rattle.table.proofs.DistinctLaws.{few-rows}
 use Rattle.references.specs.Lookups.{nameIn, fitting, findRow, refersTo, wordRefers, Heads, Finds, Refers}
 
 -- kinds that may be meant
@@ -58,79 +61,72 @@ module _ {T U : List ℕ} (h : Heads T U) (r : ℕ) where
   unfolding nameOf
   heads-name S = rw (h .same-head r 1 (omega arith), h .same-head r 2 (omega arith))
 
+  heads-named : (S : List ℕ) (s : Bool) (x : List ℕ) → isNamed S U (fitting s) x r ≡ isNamed S T (fitting s) x r
+  heads-named S s x = rw (heads-kind, heads-name S)
+
 -- the tests of one row, in order
-module _ (S U : List ℕ) (s : Bool) (x : List ℕ) (r a b : ℕ) where
-  pub named-other : (a ≡ b → ⊥) → false ≡ (eqb a b && isNamed S U (fitting s) x r)
-  named-other n = rw (ne-eqb a b n)
+module _ (S U : List ℕ) (s : Bool) (x : List ℕ) (r : ℕ) {k : ℕ} {v : Bool} (p : k ≡ kind U r) (q : v ≡ fitting s k) where
+  pub named-unfit : not v ≡ true → false ≡ isNamed S U (fitting s) x r
+  named-unfit n = rw (← p, denied q n)
 
-  module _ {k : ℕ} {v : Bool} (p : k ≡ kind U r) (q : v ≡ fitting s k) where
-    pub named-unfit : not v ≡ true → false ≡ (eqb a b && isNamed S U (fitting s) x r)
-    named-unfit n = rw (← p, denied q n, and-false)
+  pub named-same : not v ≡ false → {y : List ℕ} {t : Bool} → y ≡ nameOf S U r → t ≡ sameName x y → t ≡ isNamed S U (fitting s) x r
+  named-same n f t = rw (← p, granted q n, ← f) t
 
-    pub named-same : (a ≡ b) → not v ≡ false → {y : List ℕ} {t : Bool} → y ≡ nameOf S U r → t ≡ sameName x y → t ≡ (eqb a b && isNamed S U (fitting s) x r)
-    named-same e n f t = rw (eq-eqb a b e, ← p, granted q n, ← f) t
+-- a name's bucket has every definition of that name, in their order
+bucket-first : (mark : ℕ → ℕ) (f : ℕ → Bool) (m : ℕ) → ((r : ℕ) → f r ≡ true → mark r ≡ m) → (rs : List ℕ) → firstLink f (inBucket mark (bucketOf m) rs) ≡ firstLink f rs
+bucket-first mark f m g [] = refl
+bucket-first mark f m g (r ∷ rs) = go (eqb (bucketOf (mark r)) (bucketOf m)) refl (f r) refl (bucket-first mark f m g rs)
+  where
+    go : (b : Bool) → eqb (bucketOf (mark r)) (bucketOf m) ≡ b → (t : Bool) → f r ≡ t → firstLink f (inBucket mark (bucketOf m) rs) ≡ firstLink f rs
+        → firstLink f (cond b (r ∷ inBucket mark (bucketOf m) rs) (inBucket mark (bucketOf m) rs)) ≡ cond (f r) (suc r) (firstLink f rs)
+    go true p t q e = ap (λ (l : ℕ). cond (f r) (suc r) l) e
+    go false p true q e = absurd (eqb-false (bucketOf (mark r)) (bucketOf m) p (ap bucketOf (g r q)))
+    go false p false q e = e ∙ sym (ap (λ (z : Bool). cond z (suc r) (firstLink f rs)) q)
 
--- one definition of the list
-module _ (S T U l : List ℕ) (m : ℕ) (s : Bool) (x : List ℕ) (k : Listed S T l (rowCount T) m) (h : Heads T U) (i : ℕ) (below : i < m) where
-  within : i < length (definitionRows T)
-  within = let c : m ≡ length (definitionRows T) = k .count in omega arith
+-- what is left to look at of the chain, whatever table the rows have the heads of
+pub record Left (S U links : List ℕ) (s : Bool) (x : List ℕ) (head y n : ℕ) : Type 0 where
+  pub told : (T : List ℕ) → Heads T U → Walk (firstLink (isNamed S T (fitting s) x)) links head (length links) y n
 
-  d : ℕ
-  d = getD (definitionRows T) i 0
+pub left-start : {S U links : List ℕ} {s : Bool} {x : List ℕ} {head : ℕ} → Left S U links s x head head (length links)
+left-start {S} {U} {links} {s} {x} = record { told = λ T h. walk-start (firstLink (isNamed S T (fitting s) x)) links }
 
-  named-at : eqb (getD l (2 * i + 1) 0) (markOf x) && isNamed S U (fitting s) x (getD l (2 * i) 0) ≡ isNamed S T (fitting s) x (getD (definitionRows T) i 0)
-  unfolding d
-  named-at =
-      rw (k .marked .row i within, k .marked .mark i within, heads-kind h d, heads-name h d S)
-      (go (eqb (markOf (nameOf S T d)) (markOf x)) refl)
-    where
-      go : (b : Bool) → eqb (markOf (nameOf S T d)) (markOf x) ≡ b
-          → b && (fitting s (kind T d) && sameName x (nameOf S T d)) ≡ (fitting s (kind T d) && sameName x (nameOf S T d))
-      go true e = refl
-      go false e = rw (other-mark x (nameOf S T d) (eqb-false (markOf (nameOf S T d)) (markOf x) e), and-false)
-
-  seek : drop i (definitionRows T) ≡ getD (definitionRows T) i 0 ∷ drop (i + 1) (definitionRows T)
-  seek = rw (add-one, drop-cons (definitionRows T) i 0 within)
-
--- what is left to look at from definition i on
-pub record Left (S U l : List ℕ) (m : ℕ) (s : Bool) (x : List ℕ) (i : ℕ) : Type 0 where
-  pub told : (T : List ℕ) → Listed S T l (rowCount T) m → Heads T U → findRow S T s x ≡ firstLink (isNamed S T (fitting s) x) (drop i (definitionRows T))
-
-pub left-start : (S U l : List ℕ) (m : ℕ) (s : Bool) (x : List ℕ) → Left S U l m s x 0
-unfolding findRow
-left-start S U l m s x = record { told = λ T k h. refl }
-
-module _ {S U l : List ℕ} {m : ℕ} {s : Bool} {x : List ℕ} {i : ℕ} (f : Left S U l m s x i) where
-  pub left-end : m ≤ i → Finds S U l m s x 0
-  left-end e = record {
-    small = omega arith;
+module _ {S U heads links : List ℕ} {s : Bool} {x : List ℕ} {m head : ℕ} (p : m ≡ markOf x) (q : head ≡ getD heads (bucketOf m) 0) where
+  -- what the chain says is what all definitions say
+  found : (v : ℕ) → v ≤ 2 ^ 29 → ((T : List ℕ) → Heads T U → Says (firstLink (isNamed S T (fitting s) x)) links head (length links) v) → Finds S U heads links s x v
+  unfolding findRow
+  found v small says = record {
+    small = small;
     told = λ T k h.
-        let c : m ≡ length (definitionRows T) = k .count in
-        let p : length (definitionRows T) ≤ i = omega arith in
-        sym (f .told T k h ∙ ap (firstLink (isNamed S T (fitting s) x)) (drop-of-length-le (definitionRows T) p));
+        let few : length (inBucket (rowMark S T) (bucketOf m) (definitionRows T)) ≤ length links =
+        omega (arith, bucket-short (rowMark S T) (bucketOf m) (definitionRows T), few-rows T, k .room) in
+        sym (says T h .told (inBucket (rowMark S T) (bucketOf m) (definitionRows T)) (index-walk itself (rowMark S T) (k .rows .chains) m q) few)
+        ∙ bucket-first (rowMark S T) (isNamed S T (fitting s) x) m
+        (λ r e. ap markOf (sym (same-true x (nameOf S T r) (and-right (fitting s (kind T r)) (sameName x (nameOf S T r)) e))) ∙ sym p) (definitionRows T);
   }
 
-  module _ (below : i < m) {mark : ℕ} (marks : mark ≡ markOf x) {r a : ℕ} {b : Bool} (p : r ≡ getD l (2 * i) 0) (q : a ≡ getD l (2 * i + 1) 0)
-      (t : b ≡ (eqb a mark && isNamed S U (fitting s) x r)) where
-    tests : (T : List ℕ) → Listed S T l (rowCount T) m → Heads T U → b ≡ isNamed S T (fitting s) x (getD (definitionRows T) i 0)
-    tests T k h = t ∙ rw (p, q, marks) (named-at S T U l m s x k h i below)
+  module _ {y n : ℕ} (w : Left S U links s x head y n) where
+    pub left-end : y ≡ 0 → Finds S U heads links s x 0
+    left-end e = found 0 (omega arith) (λ T h. walk-end (firstLink (isNamed S T (fitting s) x)) links (w .told T h) e)
 
-    pub left-on : b ≡ false → Left S U l m s x (i + 1)
-    left-on e = record { told = λ T k h. f .told T k h ∙ rw (seek S T U l m s x k h i below, sym (tests T k h) ∙ e) }
+    pub left-out : n ≤ 0 → Finds S U heads links s x 0
+    left-out e = found 0 (omega arith) (λ T h. walk-out (firstLink (isNamed S T (fitting s) x)) links (w .told T h) e)
 
-    pub left-small : length U < 2 ^ 32 → b ≡ true → r < 2 ^ 29
-    left-small n e =
-        let z : isNamed S U (fitting s) x r ≡ true = and-right (eqb a mark) (isNamed S U (fitting s) x r) (sym t ∙ e) in
-        omega (arith, fit-there U s r (and-left (fitting s (kind U r)) (sameName x (nameOf S U r)) z))
+    pub left-hit : y ≤ 2 ^ 29 → 0 < y → {b : Bool} → b ≡ isNamed S U (fitting s) x (y - 1) → b ≡ true → Finds S U heads links s x y
+    left-hit small low t e =
+        let z : suc (y - 1) ≡ y = omega arith in
+        found y small (λ T h. walk-hit (firstLink (isNamed S T (fitting s) x)) links (w .told T h) low y
+        (λ rs. rw (sym (t ∙ heads-named h (y - 1) S s x) ∙ e) z))
 
-    pub left-hit : length U < 2 ^ 32 → b ≡ true → Finds S U l m s x (r + 1)
-    left-hit n e = record {
-      small = omega (arith, left-small n e);
-      told = λ T k h.
-          let c = within S T U l m s x k h i below in
-          let y : r ≡ getD (definitionRows T) i 0 = p ∙ k .marked .row i c in
-          sym (f .told T k h ∙ rw (seek S T U l m s x k h i below, sym (tests T k h) ∙ e) (rw add-one (ap suc (sym y))));
-    }
+pub left-on : {S U links : List ℕ} {s : Bool} {x : List ℕ} {head y n k : ℕ} {b : Bool} → Left S U links s x head y n → 0 < y → b ≡ isNamed S U (fitting s) x (y - 1) → b ≡ false
+    → k ≡ getD links (y - 1) 0 → Left S U links s x head k (n - 1)
+left-on {S} {U} {links} {s} {x} {y = y} w low t e p = record {
+  told = λ T h. walk-on (firstLink (isNamed S T (fitting s) x)) links (w .told T h) low p (λ rs. rw (sym (t ∙ heads-named h (y - 1) S s x) ∙ e));
+}
+
+-- a row that is named is there
+pub left-small : (S U : List ℕ) (s : Bool) (x : List ℕ) {y : ℕ} {b : Bool} → length U < 2 ^ 32 → b ≡ isNamed S U (fitting s) x (y - 1) → b ≡ true → y ≤ 2 ^ 29
+left-small S U s x {y} n t e =
+    omega (arith, fit-there U s (y - 1) (and-left (fitting s (kind U (y - 1))) (sameName x (nameOf S U (y - 1))) (sym t ∙ e)))
 
 -- what a word names
 word-named : (S T : List ℕ) (s : Bool) (w : ℕ) (x : List ℕ) → (w ≡ 0 → ⊥) → x ≡ nameIn S w → wordRefers S T s w ≡ refersTo S T s x
@@ -145,22 +141,22 @@ by-row : (r : ℕ) → (r ≡ 0 → ⊥) → reference 0 r ≡ r + 15
 by-row zero n = absurd (n refl)
 by-row (suc r) n = omega arith
 
-module _ {S U l : List ℕ} {m : ℕ} {s : Bool} {w : ℕ} where
-  pub ref-none : w ≡ 0 → Refers S U l m s w 0
+module _ {S U heads links : List ℕ} {s : Bool} {w : ℕ} where
+  pub ref-none : w ≡ 0 → Refers S U heads links s w 0
   unfolding wordRefers
   ref-none e = record { told = λ T k h. rw e }
 
   module _ (n : w ≡ 0 → ⊥) {x : List ℕ} (p : x ≡ nameIn S w) where
-    pub ref-struct : s ≡ true → {r : ℕ} → Finds S U l m true x r → Refers S U l m s w r
+    pub ref-struct : s ≡ true → {r : ℕ} → Finds S U heads links true x r → Refers S U heads links s w r
     ref-struct e f = record { told = λ T k h. f .told T k h ∙ sym (word-named S T s w x n p ∙ rw e) }
 
     module _ (e : s ≡ false) {b : ℕ} (q : b ≡ placeIn built-ins x) where
-      pub ref-built-in : (b ≡ 0 → ⊥) → Refers S U l m s w b
+      pub ref-built-in : (b ≡ 0 → ⊥) → Refers S U heads links s w b
       ref-built-in z = record { told = λ T k h. sym (word-named S T s w x n p ∙ rw (e, ← q) (by-name b (findRow S T false x) z)) }
 
-      module _ (z : b ≡ 0) {r : ℕ} (f : Finds S U l m false x r) where
-        pub ref-missing : r ≡ 0 → Refers S U l m s w 0
+      module _ (z : b ≡ 0) {r : ℕ} (f : Finds S U heads links false x r) where
+        pub ref-missing : r ≡ 0 → Refers S U heads links s w 0
         ref-missing y = record { told = λ T k h. sym (word-named S T s w x n p ∙ rw (e, ← q, z, ← f .told T k h, y)) }
 
-        pub ref-row : (r ≡ 0 → ⊥) → Refers S U l m s w (r + 15)
+        pub ref-row : (r ≡ 0 → ⊥) → Refers S U heads links s w (r + 15)
         ref-row y = record { told = λ T k h. sym (word-named S T s w x n p ∙ rw (e, ← q, z, ← f .told T k h) (by-row r y)) }

@@ -1,4 +1,4 @@
--- Laws of the resolver, in the order of the argument: lookups in the list; words put; discriminators; what they make of raw rows.
+-- Laws of the resolver, in the order of the argument: lookups in the index; words put; discriminators; what they make of raw rows.
 pub mod FindLaws
 pub mod SlotLaws
 pub mod TagLaws

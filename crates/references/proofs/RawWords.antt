@@ -21,7 +21,7 @@ use Rattle.rules.proofs.Lists.{clash}
 use Rattle.rules.proofs.Cells.{names-weaken}
 use Rattle.rules.proofs.CellRows.{Behind}
 use Rattle.rules.proofs.CellFinds.{find-is}
-use Rattle.table.specs.Definitions.{definitionsBelow}
+use Rattle.table.specs.Definitions.{definitionRows}
 use Rattle.references.specs.Lookups.{nameIn, fitting, findRow, wordRefers, found}
 
 -- discriminators as raw rows have them
@@ -65,7 +65,7 @@ module _ (S : List ℕ) (ds : List Definition) (short : length S ≤ schema-byte
   all-behind = names-weaken (λ n s. s .behind) ds spans
 
   row-found : (structs : Bool) (x : List ℕ) → findRow S (rawFrom 0 ds) structs x ≡ findFrom S (λ b. fitting structs (rowKind b)) x 0 ds
-  unfolding findRow rawFrom definitionsBelow
+  unfolding findRow rawFrom definitionRows
   row-found structs x = sym (find-is packed packed rawTag ds all-behind S (fitting structs) x)
 
   pub struct-word : (n : Name) → Spans S n → wordRefers S (rawFrom 0 ds) true (packed n) ≡ structLink S ds n

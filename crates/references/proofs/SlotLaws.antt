@@ -1,5 +1,5 @@
 -- Words put into rows, one by one: what each function makes of the rows, and that kinds, names and lengths stay.
--- The idea: only words 4 to 6 of a row are ever put, so the rows keep the heads of the listed table.
+-- The idea: only words 4 to 6 of a row are ever put, so the rows keep the heads of the indexed table.
 use Prim.Native.Nat.{ℕ, zero, suc, _+_, _*_, _≤_, _<_}
 use mathlib.Core.Path.{_≡_, refl, sym, ap, ap₂, _∙_, subst}
 use mathlib.Core.Bool.{Bool, true, false, not, cond, _&&_}
@@ -10,8 +10,8 @@ use lib.Dec.{eqb, ltb}
 use lib.ListN.{length, getD, set, length-set}
 use lib.Seq.{getD-set-other}
 use borrow.Author.Tests.{ne-eqb, lt-ltb}
-use Rattle.rules.specs.Rows.{rowCount, kind, inline}
-use Rattle.table.specs.Definitions.{Listed}
+use Rattle.rules.specs.Rows.{kind, inline}
+use Rattle.table.specs.Definitions.{DefinitionIndex}
 use Rattle.references.specs.Lookups.{wordRefers, Heads, Refers}
 use Rattle.references.specs.Steps.{putAt, foundAt, putData, foundData, putCommand, foundCommand, putRow, foundRow, putRows, foundRows, Puts}
 
@@ -63,11 +63,11 @@ pub length-rows : (S T : List ℕ) (r : ℕ) → length (putRows S T r) ≡ leng
 length-rows S T r = kept-rows S T (λ U. length U ≡ length T) (λ U j i v a b p. length-set U (8 * j + i) v ∙ p) refl r
 
 -- word k
-module _ {S U l : List ℕ} {m w v : ℕ} (s : Bool) (k : ℕ) (p : w ≡ getD U k 0) (f : Refers S U l m s w v) where
-  pub put-nothing : w ≡ 0 → Puts S U l m (λ T. putAt S T s k) (λ T. foundAt S T s k) (set U k v) true
+module _ {S U heads links : List ℕ} {w v : ℕ} (s : Bool) (k : ℕ) (p : w ≡ getD U k 0) (f : Refers S U heads links s w v) where
+  pub put-nothing : w ≡ 0 → Puts S U heads links (λ T. putAt S T s k) (λ T. foundAt S T s k) (set U k v) true
   put-nothing e = record { same-length = length-set U k v; told = λ T j h. (rw (← p, f .told T j h), rw (← p, e)) }
 
-  pub put-something : (w ≡ 0 → ⊥) → Puts S U l m (λ T. putAt S T s k) (λ T. foundAt S T s k) (set U k v) (not (eqb v 0))
+  pub put-something : (w ≡ 0 → ⊥) → Puts S U heads links (λ T. putAt S T s k) (λ T. foundAt S T s k) (set U k v) (not (eqb v 0))
   put-something n = record { same-length = length-set U k v; told = λ T j h. (rw (← p, f .told T j h), rw (← p, ← f .told T j h, ne-eqb w 0 n) (go v)) }
     where
       go : (v : ℕ) → not (eqb v 0) ≡ ltb 0 v
@@ -78,23 +78,23 @@ module _ {S U l : List ℕ} {m w v : ℕ} (s : Bool) (k : ℕ) (p : w ≡ getD U
 next-inline : (U : List ℕ) (r : ℕ) (b t : Bool) → b ≡ inline U (r + 1) → b ≡ t → inline U (suc r) ≡ t
 next-inline U r b t p e = ap (inline U) (sym (add-one r)) ∙ sym p ∙ e
 
-module _ {S U l : List ℕ} {m : ℕ} (r : ℕ) {b : Bool} (p : b ≡ inline U (r + 1)) where
-  pub data-inline : b ≡ true → Puts S U l m (λ T. putData S T r) (λ T. foundData S T r) U true
+module _ {S U heads links : List ℕ} (r : ℕ) {b : Bool} (p : b ≡ inline U (r + 1)) where
+  pub data-inline : b ≡ true → Puts S U heads links (λ T. putData S T r) (λ T. foundData S T r) U true
   unfolding putData foundData
   data-inline e = let i = next-inline U r b true p e in record { same-length = refl; told = λ T j h. (rw i, rw i) }
 
-  pub data-named : b ≡ false → {new : List ℕ} {t : Bool} → Puts S U l m (λ T. putAt S T true (8 * r + 3)) (λ T. foundAt S T true (8 * r + 3)) new t
-      → Puts S U l m (λ T. putData S T r) (λ T. foundData S T r) new t
+  pub data-named : b ≡ false → {new : List ℕ} {t : Bool} → Puts S U heads links (λ T. putAt S T true (8 * r + 3)) (λ T. foundAt S T true (8 * r + 3)) new t
+      → Puts S U heads links (λ T. putData S T r) (λ T. foundData S T r) new t
   unfolding putData foundData
   data-named e f =
       let i = next-inline U r b false p e in
       record { same-length = f .same-length; told = λ T j h. let z = f .told T j h in (rw i (z .0), rw i (z .1)) }
 
 -- one after the other
-pub command-both : {S U l : List ℕ} {m : ℕ} (r : ℕ) {mid new : List ℕ} {a b t : Bool}
-    → Puts S U l m (λ T. putData S T r) (λ T. foundData S T r) mid a
-    → Puts S mid l m (λ T. putAt S T false (8 * r + 5)) (λ T. foundAt S T false (8 * r + 5)) new b → t ≡ (a && b)
-    → Puts S U l m (λ T. putCommand S T r) (λ T. foundCommand S T r) new t
+pub command-both : {S U heads links : List ℕ} (r : ℕ) {mid new : List ℕ} {a b t : Bool}
+    → Puts S U heads links (λ T. putData S T r) (λ T. foundData S T r) mid a
+    → Puts S mid heads links (λ T. putAt S T false (8 * r + 5)) (λ T. foundAt S T false (8 * r + 5)) new b → t ≡ (a && b)
+    → Puts S U heads links (λ T. putCommand S T r) (λ T. foundCommand S T r) new t
 unfolding putCommand foundCommand
 command-both {S} {U} r {mid} f g e = record {
   same-length = g .same-length ∙ f .same-length;
@@ -105,9 +105,9 @@ command-both {S} {U} r {mid} f g e = record {
 }
 
 -- row r by its kind
-pub row-by : {S U l : List ℕ} {m : ℕ} {put : List ℕ → List ℕ → List ℕ} {tells : List ℕ → List ℕ → Bool} {new : List ℕ} {b : Bool} (r : ℕ)
-    → ((T : List ℕ) → (putRow S T r U ≡ put T U) × (foundRow S T r U ≡ tells T U)) → Puts S U l m put tells new b
-    → Puts S U l m (λ T. putRow S T r) (λ T. foundRow S T r) new b
+pub row-by : {S U heads links : List ℕ} {put : List ℕ → List ℕ → List ℕ} {tells : List ℕ → List ℕ → Bool} {new : List ℕ} {b : Bool} (r : ℕ)
+    → ((T : List ℕ) → (putRow S T r U ≡ put T U) × (foundRow S T r U ≡ tells T U)) → Puts S U heads links put tells new b
+    → Puts S U heads links (λ T. putRow S T r) (λ T. foundRow S T r) new b
 row-by r e f = record { same-length = f .same-length; told = λ T j h. (f .told T j h .0 ∙ sym (e T .0), f .told T j h .1 ∙ sym (e T .1)) }
 
 module _ (S U : List ℕ) (r : ℕ) {k : ℕ} (p : k ≡ kind U r) (T : List ℕ) where
@@ -143,7 +143,7 @@ module _ (S U : List ℕ) (r : ℕ) {k : ℕ} (p : k ≡ kind U r) (T : List ℕ
     rw (← p, ne-eqb k 3 a, ne-eqb k 4 b, ne-eqb k 5 c, ne-eqb k 6 d, ne-eqb k 8 e, ne-eqb k 9 f),
   )
 
-pub row-kept : {S U l : List ℕ} {m : ℕ} → Puts S U l m (λ _ U. U) (λ _ _. true) U true
+pub row-kept : {S U heads links : List ℕ} → Puts S U heads links (λ _ U. U) (λ _ _. true) U true
 row-kept = record { same-length = refl; told = λ T j h. (refl, refl) }
 
 -- all rows
@@ -152,8 +152,8 @@ module _ (S T : List ℕ) where
   unfolding putRows foundRows
   rows-start = (refl, refl)
 
-  pub rows-next : (r : ℕ) {l U : List ℕ} {m : ℕ} {a t b : Bool} {new : List ℕ} → Listed S T l (rowCount T) m → U ≡ putRows S T r → a ≡ foundRows S T r
-      → Puts S U l m (λ T. putRow S T r) (λ T. foundRow S T r) new t → b ≡ (a && t) → (new ≡ putRows S T (r + 1)) × (b ≡ foundRows S T (r + 1))
+  pub rows-next : (r : ℕ) {heads links U : List ℕ} {a t b : Bool} {new : List ℕ} → DefinitionIndex S T heads links → U ≡ putRows S T r → a ≡ foundRows S T r
+      → Puts S U heads links (λ T. putRow S T r) (λ T. foundRow S T r) new t → b ≡ (a && t) → (new ≡ putRows S T (r + 1)) × (b ≡ foundRows S T (r + 1))
   unfolding putRows foundRows
   rows-next r k x y f e =
       let z = f .told T k (subst (Heads T) (sym x) (heads-rows S T r)) in

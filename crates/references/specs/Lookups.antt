@@ -7,10 +7,9 @@ use lib.Dec.{eqb, ltb}
 use lib.ListN.{getD, take, drop}
 use Rattle.grammar.specs.Limits.{schema-bytes, row-words}
 use Rattle.rules.specs.Types.{built-ins}
-use Rattle.rules.specs.Rows.{rowCount}
 use Rattle.rules.specs.SchemaTable.{placeIn, reference}
 use Rattle.rules.specs.Cells.{firstLink, isNamed}
-use Rattle.table.specs.Definitions.{definitionRows, Listed}
+use Rattle.table.specs.Definitions.{definitionRows, DefinitionIndex}
 
 -- the bytes of the name that a word names (rules RawTable `packed`)
 abbrev pub nameIn : List ℕ → ℕ → List ℕ
@@ -42,10 +41,10 @@ found w v = eqb w 0 || ltb 0 v
 pub record Heads (T U : List ℕ) : Type 0 where
   pub same-head : (r i : ℕ) → i < 3 → getD U (row-words * r + i) 0 ≡ getD T (row-words * r + i) 0
 
--- Answers over rows U that have the heads of T, whose m definitions the words l list: a link, a reference.
-pub record Finds (S U l : List ℕ) (m : ℕ) (structs : Bool) (x : List ℕ) (r : ℕ) : Type 0 where
+-- Answers over rows U that have the heads of T, whose definitions the index has: a link, a reference.
+pub record Finds (S U heads links : List ℕ) (structs : Bool) (x : List ℕ) (r : ℕ) : Type 0 where
   pub small : r ≤ 2 ^ 29
-  pub told : (T : List ℕ) → Listed S T l (rowCount T) m → Heads T U → r ≡ findRow S T structs x
+  pub told : (T : List ℕ) → DefinitionIndex S T heads links → Heads T U → r ≡ findRow S T structs x
 
-pub record Refers (S U l : List ℕ) (m : ℕ) (structs : Bool) (w r : ℕ) : Type 0 where
-  pub told : (T : List ℕ) → Listed S T l (rowCount T) m → Heads T U → r ≡ wordRefers S T structs w
+pub record Refers (S U heads links : List ℕ) (structs : Bool) (w r : ℕ) : Type 0 where
+  pub told : (T : List ℕ) → DefinitionIndex S T heads links → Heads T U → r ≡ wordRefers S T structs w

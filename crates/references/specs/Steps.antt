@@ -5,8 +5,8 @@ use mathlib.Core.Bool.{Bool, true, false, cond, _&&_}
 use mathlib.Core.List.{List}
 use lib.Dec.{eqb}
 use lib.ListN.{getD, set, length}
-use Rattle.rules.specs.Rows.{rowCount, kind, inline}
-use Rattle.table.specs.Definitions.{Listed}
+use Rattle.rules.specs.Rows.{kind, inline}
+use Rattle.table.specs.Definitions.{DefinitionIndex}
 use Rattle.references.specs.Lookups.{wordRefers, found, Heads}
 
 module _ (S T : List ℕ) where
@@ -59,7 +59,7 @@ module _ (S T : List ℕ) where
   foundRows zero = true
   foundRows (suc r) = foundRows r && foundRow r (putRows r)
 
--- An answer over rows U that have the heads of T, whose m definitions the words l list: the rows become `new`, and b tells whether names were found.
-pub record Puts (S U l : List ℕ) (m : ℕ) (put : List ℕ → List ℕ → List ℕ) (tells : List ℕ → List ℕ → Bool) (new : List ℕ) (b : Bool) : Type 0 where
+-- An answer over rows U that have the heads of T, whose definitions the index has: the rows become `new`, and b tells whether names were found.
+pub record Puts (S U heads links : List ℕ) (put : List ℕ → List ℕ → List ℕ) (tells : List ℕ → List ℕ → Bool) (new : List ℕ) (b : Bool) : Type 0 where
   pub same-length : length new ≡ length U
-  pub told : (T : List ℕ) → Listed S T l (rowCount T) m → Heads T U → (new ≡ put T U) × (b ≡ tells T U)
+  pub told : (T : List ℕ) → DefinitionIndex S T heads links → Heads T U → (new ≡ put T U) × (b ≡ tells T U)

@@ -1,4 +1,7 @@
-// What a name refers to, by the list of definitions.
+// What a name refers to, by the index of definitions.
+use buckets::BUCKETS;
+use buckets::first;
+use buckets::next;
 use table::definitions::built_in;
 use table::marks::mark_of;
 use table::names::name_of;
@@ -7,9 +10,7 @@ use table::names::same_bytes;
 use table::rows::wide;
 use table::rows::word;
 ghost use mathlib.Core.Path.{_≡_};
-ghost use Prim.Native.Nat.{_*_, _≤_, _<_, _^_};
-ghost use mathlib.Core.Bool.{_&&_};
-ghost use lib.Dec.{eqb};
+ghost use Prim.Native.Nat.{_<_, _^_};
 ghost use lib.ListN.{length};
 ghost use Rattle.rules.specs.Cells.{isNamed};
 ghost use Rattle.references.specs.Lookups.{fitting, nameIn, Finds, Refers};
@@ -27,41 +28,40 @@ fn fits(kind: u32, structs: bool) -> bool
     }
 }
 
-// Whether row r may be meant and has the name; rows with another mark have another name.
-fn is_named(
-    s: &[u8],
-    rows: &[u32],
-    r: usize,
-    mark: u32,
-    name: &[u8],
-    sought: u32,
-    structs: bool,
-) -> bool
-    ensures { λ b. ⌜ b ≡ (eqb mark sought && isNamed (now (s .entry)) (now (rows .entry)) (fitting structs) (now (name .entry)) r) ⌝ }
+// Whether row r may be meant and has the name.
+fn is_named(s: &[u8], rows: &[u32], r: usize, name: &[u8], structs: bool) -> bool
+    ensures { λ b. ⌜ b ≡ isNamed (now (s .entry)) (now (rows .entry)) (fitting structs) (now (name .entry)) r ⌝ }
 {
-    if mark != sought {
-        return false;
-    }
     if !fits(word(rows, r, 0), structs) {
         return false;
     }
     same_bytes(name, name_of(s, rows, r))
 }
 
-// The link of the first of the m definitions in the list that may be meant and has the name; 0 if there is none.
-fn find(s: &[u8], rows: &[u32], list: &[u32], m: usize, name: &[u8], structs: bool) -> u32
-    requires { ⌜ (length (now rows) < 2 ^ 32) × (2 * m ≤ length (now list)) ⌝ }
-    ensures { λ r. ⌜ Finds (now (s .entry)) (now (rows .entry)) (now (list .entry)) m structs (now (name .entry)) r ⌝ }
+// The link of the first definition in the index that may be meant and has the name; 0 if there is none.
+fn find(
+    s: &[u8],
+    rows: &[u32],
+    heads: &[u32; BUCKETS],
+    links: &[u32],
+    name: &[u8],
+    structs: bool,
+) -> u32
+    requires { ⌜ length (now rows) < 2 ^ 32 ⌝ }
+    ensures { λ r. ⌜ Finds (now (s .entry)) (now (rows .entry)) (now (heads .entry)) (now (links .entry)) structs (now (name .entry)) r ⌝ }
 {
-    let mark = mark_of(name);
-    let mut i = 0;
-    while i < m {
-        let at = 2 * i;
-        let r = list[at];
-        if is_named(s, rows, wide(r), list[at + 1], name, mark, structs) {
-            return r + 1;
+    let mut link = first(heads, mark_of(name));
+    let mut left = links.len();
+    while 0 < left {
+        if link == 0 {
+            return 0;
         }
-        i += 1;
+        let r = link - 1;
+        if is_named(s, rows, r, name, structs) {
+            return link as u32;
+        }
+        link = next(links, r);
+        left -= 1;
     }
     0
 }
@@ -74,22 +74,29 @@ pub fn named_by(s: &[u8], w: u32) -> &[u8]
 }
 
 // What a word names: a struct's link, or a type reference; 0 for 0 and where there is none.
-pub fn referred(s: &[u8], rows: &[u32], list: &[u32], m: usize, structs: bool, w: u32) -> u32
-    requires { ⌜ (length (now rows) < 2 ^ 32) × (2 * m ≤ length (now list)) ⌝ }
-    ensures { λ r. ⌜ Refers (now (s .entry)) (now (rows .entry)) (now (list .entry)) m structs w r ⌝ }
+pub fn referred(
+    s: &[u8],
+    rows: &[u32],
+    heads: &[u32; BUCKETS],
+    links: &[u32],
+    structs: bool,
+    w: u32,
+) -> u32
+    requires { ⌜ length (now rows) < 2 ^ 32 ⌝ }
+    ensures { λ r. ⌜ Refers (now (s .entry)) (now (rows .entry)) (now (heads .entry)) (now (links .entry)) structs w r ⌝ }
 {
     if w == 0 {
         return 0;
     }
     let name = named_by(s, w);
     if structs {
-        return find(s, rows, list, m, name, true);
+        return find(s, rows, heads, links, name, true);
     }
     let b = built_in(name);
     if b != 0 {
         return b;
     }
-    let link = find(s, rows, list, m, name, false);
+    let link = find(s, rows, heads, links, name, false);
     if link == 0 {
         return 0;
     }

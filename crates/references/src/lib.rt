@@ -5,18 +5,20 @@ pub mod tags;
 
 use crate::slots::resolve_rows;
 use crate::tags::tag_rows;
-use table::definitions::list_definitions;
+use buckets::BUCKETS;
+use table::definitions::index_definitions;
 ghost use Prim.Native.Nat.{_*_, _≤_, _<_, _^_};
 ghost use lib.ListN.{length};
 ghost use Rattle.references.specs.Resolves.{Resolves};
 
-// Resolves raw rows, with room for two words for each row lent; tells whether every name found its row.
-pub fn resolve(s: &[u8], rows: &mut [u32], list: &mut [u32]) -> bool
-    requires { ⌜ (length (now rows) < 2 ^ 32) × (length (now rows) ≤ 4 * length (now list)) ⌝ }
+// Resolves raw rows; tells whether every name found its row. The links are scratch, a word for each row.
+pub fn resolve(s: &[u8], rows: &mut [u32], links: &mut [u32]) -> bool
+    requires { ⌜ (length (now rows) < 2 ^ 32) × (length (now rows) ≤ 8 * length (now links)) × (length (now links) < 2 ^ 32) ⌝ }
     ensures { λ r. ⌜ Resolves (now (s .entry)) (now (rows .entry)) (now (rows .exit)) r ⌝ }
 {
-    let m = list_definitions(s, rows, list);
-    let all = resolve_rows(s, rows, list, m);
+    let mut heads = [0u32; BUCKETS];
+    index_definitions(s, rows, &mut heads, links);
+    let all = resolve_rows(s, rows, &heads, links);
     tag_rows(s, rows);
     all
 }

@@ -1,14 +1,15 @@
 // The words of rows that name become links and type references, in place.
 use crate::find::referred;
+use buckets::BUCKETS;
 use rules::ROW_WORDS;
 use table::rows::is_inline;
 use table::rows::word;
 ghost use mathlib.Core.Path.{_≡_};
-ghost use Prim.Native.Nat.{_+_, _*_, _≤_, _<_, _^_};
+ghost use Prim.Native.Nat.{_+_, _*_, _<_, _^_};
 ghost use mathlib.Core.Bool.{_&&_};
 ghost use lib.ListN.{length};
 ghost use Rattle.rules.specs.Rows.{rowCount};
-ghost use Rattle.table.specs.Definitions.{Listed};
+ghost use Rattle.table.specs.Definitions.{DefinitionIndex};
 ghost use Rattle.references.specs.Steps.{putAt, foundAt, putData, foundData, putCommand, foundCommand, putRow, foundRow, putRows, foundRows, Puts};
 
 fn both(a: bool, b: bool) -> bool
@@ -21,12 +22,19 @@ fn both(a: bool, b: bool) -> bool
 }
 
 // Word k becomes what it names; whether it names nothing or something.
-fn put(s: &[u8], rows: &mut [u32], list: &[u32], m: usize, structs: bool, k: usize) -> bool
-    requires { ⌜ (length (now rows) < 2 ^ 32) × (2 * m ≤ length (now list)) × (k < length (now rows)) ⌝ }
-    ensures { λ b. ⌜ Puts (now (s .entry)) (now (rows .entry)) (now (list .entry)) m (λ T. putAt (now (s .entry)) T structs k) (λ T. foundAt (now (s .entry)) T structs k) (now (rows .exit)) b ⌝ }
+fn put(
+    s: &[u8],
+    rows: &mut [u32],
+    heads: &[u32; BUCKETS],
+    links: &[u32],
+    structs: bool,
+    k: usize,
+) -> bool
+    requires { ⌜ (length (now rows) < 2 ^ 32) × (k < length (now rows)) ⌝ }
+    ensures { λ b. ⌜ Puts (now (s .entry)) (now (rows .entry)) (now (heads .entry)) (now (links .entry)) (λ T. putAt (now (s .entry)) T structs k) (λ T. foundAt (now (s .entry)) T structs k) (now (rows .exit)) b ⌝ }
 {
     let w = rows[k];
-    let v = referred(s, rows, list, m, structs, w);
+    let v = referred(s, rows, heads, links, structs, w);
     rows[k] = v;
     if w == 0 {
         return true;
@@ -35,53 +43,53 @@ fn put(s: &[u8], rows: &mut [u32], list: &[u32], m: usize, structs: bool, k: usi
 }
 
 // The base of union r or the data of command r, unless it is inline.
-fn put_data(s: &[u8], rows: &mut [u32], list: &[u32], m: usize, r: usize) -> bool
-    requires { ⌜ (length (now rows) < 2 ^ 32) × (2 * m ≤ length (now list)) × (8 * r + 7 < length (now rows)) ⌝ }
-    ensures { λ b. ⌜ Puts (now (s .entry)) (now (rows .entry)) (now (list .entry)) m (λ T. putData (now (s .entry)) T r) (λ T. foundData (now (s .entry)) T r) (now (rows .exit)) b ⌝ }
+fn put_data(s: &[u8], rows: &mut [u32], heads: &[u32; BUCKETS], links: &[u32], r: usize) -> bool
+    requires { ⌜ (length (now rows) < 2 ^ 32) × (8 * r + 7 < length (now rows)) ⌝ }
+    ensures { λ b. ⌜ Puts (now (s .entry)) (now (rows .entry)) (now (heads .entry)) (now (links .entry)) (λ T. putData (now (s .entry)) T r) (λ T. foundData (now (s .entry)) T r) (now (rows .exit)) b ⌝ }
 {
     if is_inline(rows, r + 1) {
         return true;
     }
-    put(s, rows, list, m, true, 8 * r + 3)
+    put(s, rows, heads, links, true, 8 * r + 3)
 }
 
 // The data and the return of command r.
-fn put_command(s: &[u8], rows: &mut [u32], list: &[u32], m: usize, r: usize) -> bool
-    requires { ⌜ (length (now rows) < 2 ^ 32) × (2 * m ≤ length (now list)) × (8 * r + 7 < length (now rows)) ⌝ }
-    ensures { λ b. ⌜ Puts (now (s .entry)) (now (rows .entry)) (now (list .entry)) m (λ T. putCommand (now (s .entry)) T r) (λ T. foundCommand (now (s .entry)) T r) (now (rows .exit)) b ⌝ }
+fn put_command(s: &[u8], rows: &mut [u32], heads: &[u32; BUCKETS], links: &[u32], r: usize) -> bool
+    requires { ⌜ (length (now rows) < 2 ^ 32) × (8 * r + 7 < length (now rows)) ⌝ }
+    ensures { λ b. ⌜ Puts (now (s .entry)) (now (rows .entry)) (now (heads .entry)) (now (links .entry)) (λ T. putCommand (now (s .entry)) T r) (λ T. foundCommand (now (s .entry)) T r) (now (rows .exit)) b ⌝ }
 {
-    let a = put_data(s, rows, list, m, r);
-    let b = put(s, rows, list, m, false, 8 * r + 5);
+    let a = put_data(s, rows, heads, links, r);
+    let b = put(s, rows, heads, links, false, 8 * r + 5);
     both(a, b)
 }
 
 // The names that row r refers to, but for a discriminator; whether each found its row.
-fn resolve_row(s: &[u8], rows: &mut [u32], list: &[u32], m: usize, r: usize) -> bool
-    requires { ⌜ (length (now rows) < 2 ^ 32) × (2 * m ≤ length (now list)) × (8 * r + 7 < length (now rows)) ⌝ }
-    ensures { λ b. ⌜ Puts (now (s .entry)) (now (rows .entry)) (now (list .entry)) m (λ T. putRow (now (s .entry)) T r) (λ T. foundRow (now (s .entry)) T r) (now (rows .exit)) b ⌝ }
+fn resolve_row(s: &[u8], rows: &mut [u32], heads: &[u32; BUCKETS], links: &[u32], r: usize) -> bool
+    requires { ⌜ (length (now rows) < 2 ^ 32) × (8 * r + 7 < length (now rows)) ⌝ }
+    ensures { λ b. ⌜ Puts (now (s .entry)) (now (rows .entry)) (now (heads .entry)) (now (links .entry)) (λ T. putRow (now (s .entry)) T r) (λ T. foundRow (now (s .entry)) T r) (now (rows .exit)) b ⌝ }
 {
     let k = word(rows, r, 0);
     match k {
-        3 => put(s, rows, list, m, true, 8 * r + 4),
-        4 => put(s, rows, list, m, false, 8 * r + 3),
-        5 => put_data(s, rows, list, m, r),
-        6 => put(s, rows, list, m, true, 8 * r + 3),
-        8 => put(s, rows, list, m, false, 8 * r + 3),
-        9 => put_command(s, rows, list, m, r),
+        3 => put(s, rows, heads, links, true, 8 * r + 4),
+        4 => put(s, rows, heads, links, false, 8 * r + 3),
+        5 => put_data(s, rows, heads, links, r),
+        6 => put(s, rows, heads, links, true, 8 * r + 3),
+        8 => put(s, rows, heads, links, false, 8 * r + 3),
+        9 => put_command(s, rows, heads, links, r),
         _ => true,
     }
 }
 
 // Resolves every row but for discriminators; whether every name found its row.
-pub fn resolve_rows(s: &[u8], rows: &mut [u32], list: &[u32], m: usize) -> bool
-    requires { ⌜ (length (now rows) < 2 ^ 32) × Listed (now s) (now rows) (now list) (rowCount (now rows)) m ⌝ }
+pub fn resolve_rows(s: &[u8], rows: &mut [u32], heads: &[u32; BUCKETS], links: &[u32]) -> bool
+    requires { ⌜ (length (now rows) < 2 ^ 32) × DefinitionIndex (now s) (now rows) (now heads) (now links) ⌝ }
     ensures { λ b. ⌜ (now (rows .exit) ≡ putRows (now (s .entry)) (now (rows .entry)) (rowCount (now (rows .entry)))) × (b ≡ foundRows (now (s .entry)) (now (rows .entry)) (rowCount (now (rows .entry)))) ⌝ }
 {
     let n = rows.len() / ROW_WORDS;
     let mut all = true;
     let mut r = 0;
     while r < n {
-        all = both(all, resolve_row(s, rows, list, m, r));
+        all = both(all, resolve_row(s, rows, heads, links, r));
         r += 1;
     }
     all

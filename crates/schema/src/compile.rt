@@ -25,19 +25,16 @@ const RAW_WORDS: usize = 4 * SCHEMA_BYTES;
 // There is at most one row for every two bytes.
 const MOST_ROWS: usize = SCHEMA_BYTES / 2;
 
-// Two words for each row.
-const LIST_WORDS: usize = SCHEMA_BYTES;
-
 // Names that refer become links and references; then the rules, over the table.
 fn with_rows(schema: &[u8], table: &mut [u32], rows: &mut [u32]) -> SchemaAnswer
     requires { ⌜ RawRows (now schema) (now table) × Zero (now rows) ⌝ }
     ensures { λ r. ⌜ Answered (now (schema .entry)) 4 (now (rows .entry)) (now (rows .exit)) r ⌝ }
 {
-    let mut list = [0u32; LIST_WORDS];
-    let found = resolve(schema, table, &mut list);
+    let mut links = [0u32; MOST_ROWS];
+    let found = resolve(schema, table, &mut links);
     let mut marks = [0u32; MOST_ROWS];
     let n = table.len() / ROW_WORDS;
-    judge(schema, table, &mut marks[..n], &mut list, found, rows)
+    judge(schema, table, &mut marks[..n], &mut links, found, rows)
 }
 
 // Numbers 3 and 4, over the nodes.

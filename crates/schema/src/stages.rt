@@ -52,23 +52,23 @@ fn judge_definitions(schema: &[u8], table: &[u32], marks: &[u32], rows: &mut [u3
     hand_over(table, rows, schema)
 }
 
-// Numbers 5 to 7; `found` says whether every name that refers found its row. The marks lend a word for each row, the list two.
+// Numbers 5 to 7; `found` says whether every name that refers found its row. The marks and the links lend a word for each row.
 pub fn judge(
     schema: &[u8],
     table: &[u32],
     marks: &mut [u32],
-    list: &mut [u32],
+    links: &mut [u32],
     found: bool,
     rows: &mut [u32],
 ) -> SchemaAnswer
-    requires { ⌜ (length (now table) < 2 ^ 32) × (length (now table) ≤ 4 * length (now list)) × Zero (now rows) × IsTable (now schema) (now table) × Refers (now schema) found ⌝ }
+    requires { ⌜ (length (now table) < 2 ^ 32) × (length (now table) ≤ 8 * length (now links)) × (length (now links) < 2 ^ 32) × Zero (now rows) × IsTable (now schema) (now table) × Refers (now schema) found ⌝ }
     ensures { λ r. ⌜ Answered (now (schema .entry)) 4 (now (rows .entry)) (now (rows .exit)) r ⌝ }
 {
     if !good_names(schema, table) {
         return SchemaAnswer::Refused(SchemaRefusal::BadName);
     }
     put_marks(schema, table, marks);
-    if !distinct_names(schema, table, marks, list) {
+    if !distinct_names(schema, table, marks, links) {
         return SchemaAnswer::Refused(SchemaRefusal::RepeatedName);
     }
     if !found {

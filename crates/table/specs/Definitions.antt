@@ -1,16 +1,17 @@
--- Serves contracts: rule 5 of one row, places counted from a number on, and the list of definitions that rule 6 goes by.
-use Prim.Native.Nat.{ℕ, suc, _+_, _-_, _*_, _%_, _≤_, _<_}
+-- Serves contracts: rule 5 of one row, places counted from a number on, and definitions in an index.
+use Prim.Native.Nat.{ℕ, suc, _≤_}
 use mathlib.Core.Path.{_≡_}
-use mathlib.Core.Bool.{Bool, not, cond, _&&_, _||_}
+use mathlib.Core.Bool.{Bool, true, not, cond, _&&_, _||_}
 use mathlib.Core.List.{List, [], _∷_}
 use lib.Dec.{eqb}
-use lib.ListN.{length, getD, drop}
+use lib.ListN.{length}
 use Rattle.grammar.specs.Notation.{all, apart}
+use Rattle.buckets.specs.Buckets.{Free}
 use Rattle.rules.specs.Types.{built-ins}
 use Rattle.rules.specs.Names.{goodName, sameName, clash}
 use Rattle.rules.specs.Rows.{upFrom, rowCount, kind, inline, children, nameOf}
 use Rattle.rules.specs.Rules.{those, everyRow, isDefinition, namesOf, noClash, definitionNames}
-use Rattle.table.specs.Marks.{markOf}
+use Rattle.table.specs.Index.{itself, RowIndex, freshIn}
 
 -- row r is an inline struct or has a good name
 abbrev pub nameFits : List ℕ → List ℕ → ℕ → Bool
@@ -21,30 +22,31 @@ unfoldable pub placeFrom : ℕ → List (List ℕ) → List ℕ → ℕ
 placeFrom n [] x = 0
 placeFrom n (y ∷ ys) x = cond (sameName x y) n (placeFrom (suc n) ys x)
 
--- the definitions below row n, and all of a table's
-unfoldable pub definitionsBelow : List ℕ → ℕ → List ℕ
-definitionsBelow T n = those (isDefinition T) (upFrom 0 n)
+-- the definitions of a table
+unfoldable pub definitionRows : List ℕ → List ℕ
+definitionRows T = those (isDefinition T) (upFrom 0 (rowCount T))
 
-abbrev pub definitionRows : List ℕ → List ℕ
-definitionRows T = definitionsBelow T (rowCount T)
+-- row r before the rows rs, if it is a definition
+abbrev pub withRow : List ℕ → ℕ → List ℕ → List ℕ
+withRow T r rs = cond (isDefinition T r) (r ∷ rs) rs
 
--- the words l hold, for each of the rows ds in order, its number and the mark of its name
-pub record Marked (S T l ds : List ℕ) : Type 0 where
-  pub room : 2 * length ds ≤ length l
-  pub row : (i : ℕ) → i < length ds → getD l (2 * i) 0 ≡ getD ds i 0
-  pub mark : (i : ℕ) → i < length ds → getD l (2 * i + 1) 0 ≡ markOf (nameOf S T (getD ds i 0))
+-- the index has the definitions of T, in their order
+pub record DefinitionIndex (S T heads links : List ℕ) : Type 0 where
+  pub room : rowCount T ≤ length links
+  pub rows : RowIndex S T heads links (definitionRows T)
 
--- they hold the m definitions below row n
-pub record Listed (S T l : List ℕ) (n m : ℕ) : Type 0 where
-  pub count : m ≡ length (definitionsBelow T n)
-  pub marked : Marked S T l (definitionsBelow T n)
+-- row r has come into an index if it is a definition
+pub record RowEntered (S T heads links : List ℕ) (r : ℕ) (heads′ links′ : List ℕ) : Type 0 where
+  pub told : (rs : List ℕ) → RowIndex S T heads links rs → Free itself r rs → RowIndex S T heads′ links′ (withRow T r rs)
 
--- the name of definition i, counted from 0; and that no definition after it clashes with it
-abbrev pub definitionName : List ℕ → List ℕ → ℕ → List ℕ
-definitionName S T i = nameOf S T (getD (definitionRows T) i 0)
+-- row r is no definition, or has a name that is no built-in's and clashes with none of the rows rs
+abbrev pub clearIn : List ℕ → List ℕ → ℕ → List ℕ → Bool
+clearIn S T r rs = not (isDefinition T r) || (all (λ y. not (clash (nameOf S T r) y)) built-ins && freshIn S T (nameOf S T r) rs)
 
-unfoldable pub definitionApart : List ℕ → List ℕ → ℕ → Bool
-definitionApart S T i = all (λ y. not (clash (definitionName S T i) y)) (namesOf S T (drop (i + 1) (definitionRows T)))
+-- b tells so of the rows in an index; if so, row r has come into it if it is a definition
+pub record DefinitionEntered (S T heads links : List ℕ) (r : ℕ) (heads′ links′ : List ℕ) (b : Bool) : Type 0 where
+  pub told : (rs : List ℕ) → RowIndex S T heads links rs → Free itself r rs → length rs ≤ length links
+      → (b ≡ clearIn S T r rs) × (b ≡ true → RowIndex S T heads′ links′ (withRow T r rs))
 
 -- rule 6 in two parts: definitions and built-ins share one set of names, and so do the children of each row
 abbrev pub definitionsClear : List ℕ → List ℕ → Bool

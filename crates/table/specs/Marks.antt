@@ -15,7 +15,7 @@ back x k = getD x (length x - k) 0
 
 -- a number that equal names share: of the length and the first byte, and of the last three bytes
 unfoldable pub markOf : List ℕ → ℕ
-markOf x = (length x + back x (length x)) % 256 + 256 * (back x 1 + 256 * (back x 2 + 256 * back x 3))
+markOf x = (length x + back x (length x)) % 256 + 37 * (back x 1 + 37 * (back x 2 + 37 * back x 3))
 
 -- the words hold the marks of the first rows
 pub record Marks (S T marks : List ℕ) : Type 0 where

@@ -1,31 +1,31 @@
 // Names of definitions and of what is in them: rules 5 and 6.
-use crate::marks::all_apart;
+use crate::index::add_new;
+use crate::index::all_apart;
 use crate::marks::mark_of;
 use crate::names::good_name;
 use crate::names::name_of;
 use crate::names::same_bytes;
-use crate::names::same_name;
 use crate::rows::child_count;
 use crate::rows::first_child;
 use crate::rows::is_inline;
-use crate::rows::wide;
 use crate::rows::word;
+use buckets::BUCKETS;
+use buckets::add;
 use rules::ROW_WORDS;
 use strings::classes::class_table;
 ghost use mathlib.Core.Path.{_≡_};
-ghost use Prim.Native.Nat.{_*_, _+_, _≤_, _<_, _^_};
+ghost use Prim.Native.Nat.{_*_, _≤_, _<_, _^_};
 ghost use mathlib.Core.Bool.{_||_};
 ghost use mathlib.Core.List.{[], _∷_};
 ghost use lib.Dec.{eqb};
-ghost use lib.ListN.{length};
+ghost use lib.ListN.{length, replicate};
+ghost use Rattle.buckets.specs.Buckets.{buckets};
 ghost use Rattle.rules.specs.Types.{built-ins};
-ghost use Rattle.rules.specs.Names.{clash};
-ghost use Rattle.rules.specs.Rows.{rowCount, nameOf};
 ghost use Rattle.rules.specs.Rules.{isDefinition, goodNames, distinctNames};
 ghost use Rattle.rules.specs.SchemaTable.{placeIn};
 ghost use Rattle.strings.specs.Classes.{classOf, tabulate};
-ghost use Rattle.table.specs.Marks.{markOf, Marks};
-ghost use Rattle.table.specs.Definitions.{nameFits, placeFrom, Listed, definitionName, definitionApart, definitionsClear, childrenApart};
+ghost use Rattle.table.specs.Marks.{Marks};
+ghost use Rattle.table.specs.Definitions.{nameFits, placeFrom, DefinitionIndex, RowEntered, DefinitionEntered, definitionsClear, childrenApart};
 
 // The number of a name among five that are numbered from n on; 0 if it is none of them.
 fn place_of(name: &[u8], n: u32, a: &[u8], b: &[u8], c: &[u8], d: &[u8], e: &[u8]) -> u32
@@ -124,98 +124,80 @@ pub fn is_definition(rows: &[u32], r: usize) -> bool
     }
 }
 
-// Adds row r to the m definitions of the list if it is one too, with its name's mark; gives their number.
-fn list_row(schema: &[u8], rows: &[u32], list: &mut [u32], m: usize, r: usize) -> usize
-    requires { ⌜ (r < 2 ^ 32) × (2 * m + 2 ≤ length (now list)) × Listed (now schema) (now rows) (now list) r m ⌝ }
-    ensures { λ n. ⌜ Listed (now (schema .entry)) (now (rows .entry)) (now (list .exit)) (r + 1) n ⌝ }
-{
-    if !is_definition(rows, r) {
-        return m;
-    }
-    list[2 * m] = r as u32;
-    list[2 * m + 1] = mark_of(name_of(schema, rows, r));
-    m + 1
-}
-
-// Writes the rows of the definitions, each followed by its name's mark; gives their number.
-pub fn list_definitions(schema: &[u8], rows: &[u32], list: &mut [u32]) -> usize
-    requires { ⌜ (length (now rows) < 2 ^ 32) × (length (now rows) ≤ 4 * length (now list)) ⌝ }
-    ensures { λ m. ⌜ Listed (now (schema .entry)) (now (rows .entry)) (now (list .exit)) (rowCount (now (rows .entry))) m ⌝ }
-{
-    let n = rows.len() / ROW_WORDS;
-    let mut r = 0;
-    let mut m = 0;
-    while r < n {
-        m = list_row(schema, rows, list, m, r);
-        r += 1;
-    }
-    m
-}
-
-// Whether the definition j of the list has the name of a row with that mark.
-fn has_name(
+// Whether row r is no definition, or has a name that no built-in and no row in the index has; a definition then comes into it.
+fn is_clear(
     schema: &[u8],
     rows: &[u32],
-    list: &[u32],
-    m: usize,
-    j: usize,
-    row: usize,
-    mark: u32,
+    marks: &[u32],
+    heads: &mut [u32; BUCKETS],
+    links: &mut [u32],
+    r: usize,
 ) -> bool
-    requires { ⌜ Listed (now schema) (now rows) (now list) (rowCount (now rows)) m × (j < m) × (mark ≡ markOf (nameOf (now schema) (now rows) row)) ⌝ }
-    ensures { λ b. ⌜ b ≡ clash (nameOf (now (schema .entry)) (now (rows .entry)) row) (definitionName (now (schema .entry)) (now (rows .entry)) j) ⌝ }
+    requires { ⌜ Marks (now schema) (now rows) (now marks) × (r < length (now links)) × (length (now links) < 2 ^ 32) ⌝ }
+    ensures { λ b. ⌜ DefinitionEntered (now (schema .entry)) (now (rows .entry)) (now (heads .entry)) (now (links .entry)) r (now (heads .exit)) (now (links .exit)) b ⌝ }
 {
-    if list[2 * j + 1] != mark {
+    if !is_definition(rows, r) {
+        return true;
+    }
+    if built_in(name_of(schema, rows, r)) != 0 {
         return false;
     }
-    same_name(schema, rows, row, wide(list[2 * j]))
+    add_new(schema, rows, marks, heads, links, r)
 }
 
-// Whether the definition i of the list has a name that none after it has.
-fn is_apart(schema: &[u8], rows: &[u32], list: &[u32], m: usize, i: usize) -> bool
-    requires { ⌜ Listed (now schema) (now rows) (now list) (rowCount (now rows)) m × (i < m) ⌝ }
-    ensures { λ b. ⌜ b ≡ definitionApart (now (schema .entry)) (now (rows .entry)) i ⌝ }
-{
-    let row = wide(list[2 * i]);
-    let mark = list[2 * i + 1];
-    let mut j = i + 1;
-    while j < m {
-        if has_name(schema, rows, list, m, j, row, mark) {
-            return false;
-        }
-        j += 1;
-    }
-    true
-}
-
-// Whether no two definitions of the list have the same name, and none a built-in's.
-fn definitions_apart(schema: &[u8], rows: &[u32], list: &[u32], m: usize) -> bool
-    requires { ⌜ Listed (now schema) (now rows) (now list) (rowCount (now rows)) m ⌝ }
+// Whether no two definitions have the same name, and none a built-in's: each is looked up among those after it.
+fn definitions_apart(
+    schema: &[u8],
+    rows: &[u32],
+    marks: &[u32],
+    heads: &mut [u32; BUCKETS],
+    links: &mut [u32],
+) -> bool
+    requires { ⌜ Marks (now schema) (now rows) (now marks) × (length (now rows) ≤ 8 * length (now links)) × (length (now links) < 2 ^ 32) × (now heads ≡ replicate buckets 0) ⌝ }
     ensures { λ b. ⌜ b ≡ definitionsClear (now (schema .entry)) (now (rows .entry)) ⌝ }
 {
-    let mut i = 0;
-    while i < m {
-        if built_in(name_of(schema, rows, wide(list[2 * i]))) != 0 {
+    let mut r = rows.len() / ROW_WORDS;
+    while 0 < r {
+        r -= 1;
+        if !is_clear(schema, rows, marks, heads, links, r) {
             return false;
         }
-        if !is_apart(schema, rows, list, m, i) {
-            return false;
-        }
-        i += 1;
     }
     true
 }
 
-// Whether in each list of values, members, branches or alternatives no two names are the same.
-fn children_apart(schema: &[u8], rows: &[u32], marks: &[u32]) -> bool
-    requires { ⌜ (length (now rows) < 2 ^ 32) × Marks (now schema) (now rows) (now marks) ⌝ }
+// Adds row r to an index if it is a definition.
+fn index_row(schema: &[u8], rows: &[u32], heads: &mut [u32; BUCKETS], links: &mut [u32], r: usize)
+    requires { ⌜ (r < length (now links)) × (length (now links) < 2 ^ 32) ⌝ }
+    ensures { λ _. ⌜ RowEntered (now (schema .entry)) (now (rows .entry)) (now (heads .entry)) (now (links .entry)) r (now (heads .exit)) (now (links .exit)) ⌝ }
+{
+    if is_definition(rows, r) {
+        add(heads, links, mark_of(name_of(schema, rows, r)), r);
+    }
+}
+
+// Adds every definition to an empty index, the last first.
+pub fn index_definitions(schema: &[u8], rows: &[u32], heads: &mut [u32; BUCKETS], links: &mut [u32])
+    requires { ⌜ (length (now rows) ≤ 8 * length (now links)) × (length (now links) < 2 ^ 32) × (now heads ≡ replicate buckets 0) ⌝ }
+    ensures { λ _. ⌜ DefinitionIndex (now (schema .entry)) (now (rows .entry)) (now (heads .exit)) (now (links .exit)) ⌝ }
+{
+    let mut r = rows.len() / ROW_WORDS;
+    while 0 < r {
+        r -= 1;
+        index_row(schema, rows, heads, links, r);
+    }
+}
+
+// Whether in each list of values, members, branches or alternatives no two names are the same. The links are scratch.
+fn children_apart(schema: &[u8], rows: &[u32], marks: &[u32], links: &mut [u32]) -> bool
+    requires { ⌜ (length (now rows) < 2 ^ 32) × Marks (now schema) (now rows) (now marks) × (length (now links) < 2 ^ 32) ⌝ }
     ensures { λ b. ⌜ b ≡ childrenApart (now (schema .entry)) (now (rows .entry)) ⌝ }
 {
     let n = rows.len() / ROW_WORDS;
     let mut r = 0;
     while r < n {
         let a = first_child(rows, r);
-        if !all_apart(schema, rows, marks, a, a + child_count(rows, r)) {
+        if !all_apart(schema, rows, marks, links, a, a + child_count(rows, r)) {
             return false;
         }
         r += 1;
@@ -223,14 +205,14 @@ fn children_apart(schema: &[u8], rows: &[u32], marks: &[u32]) -> bool
     true
 }
 
-// Rule 6, with room for two words for each row lent.
-pub fn distinct_names(schema: &[u8], rows: &[u32], marks: &[u32], list: &mut [u32]) -> bool
-    requires { ⌜ (length (now rows) < 2 ^ 32) × Marks (now schema) (now rows) (now marks) × (length (now rows) ≤ 4 * length (now list)) ⌝ }
+// Rule 6. The links are scratch, a word for each row.
+pub fn distinct_names(schema: &[u8], rows: &[u32], marks: &[u32], links: &mut [u32]) -> bool
+    requires { ⌜ (length (now rows) < 2 ^ 32) × Marks (now schema) (now rows) (now marks) × (length (now rows) ≤ 8 * length (now links)) × (length (now links) < 2 ^ 32) ⌝ }
     ensures { λ r. ⌜ r ≡ distinctNames (now (schema .entry)) (now (rows .entry)) ⌝ }
 {
-    let m = list_definitions(schema, rows, list);
-    if !definitions_apart(schema, rows, list, m) {
+    let mut heads = [0u32; BUCKETS];
+    if !definitions_apart(schema, rows, marks, &mut heads, links) {
         return false;
     }
-    children_apart(schema, rows, marks)
+    children_apart(schema, rows, marks, links)
 }

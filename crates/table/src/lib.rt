@@ -2,6 +2,7 @@
 pub mod alternates;
 pub mod chains;
 pub mod definitions;
+pub mod index;
 pub mod layout;
 pub mod marks;
 pub mod names;

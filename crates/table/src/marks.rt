@@ -37,7 +37,7 @@ pub fn mark_of(name: &[u8]) -> u32
     let a = byte_back(name, 1) as u32;
     let b = byte_back(name, 2) as u32;
     let c = byte_back(name, 3) as u32;
-    front + 256 * (a + 256 * (b + 256 * c))
+    front + 37 * (a + 37 * (b + 37 * c))
 }
 
 // Writes the marks of the first rows, as many as there is room for.
@@ -52,7 +52,14 @@ pub fn put_marks(schema: &[u8], rows: &[u32], marks: &mut [u32])
 }
 
 // Whether row r has a name whose mark is given.
-fn is_named(schema: &[u8], rows: &[u32], marks: &[u32], r: usize, name: &[u8], mark: u32) -> bool
+pub fn is_named(
+    schema: &[u8],
+    rows: &[u32],
+    marks: &[u32],
+    r: usize,
+    name: &[u8],
+    mark: u32,
+) -> bool
     requires { ⌜ Marks (now schema) (now rows) (now marks) × (mark ≡ markOf (now name)) ⌝ }
     ensures { λ b. ⌜ b ≡ sameName (now (name .entry)) (nameOf (now (schema .entry)) (now (rows .entry)) r) ⌝ }
 {
@@ -81,8 +88,8 @@ pub fn is_fresh(schema: &[u8], rows: &[u32], marks: &[u32], a: usize, b: usize, 
     true
 }
 
-// Whether no two names of the rows from a up to e clash.
-pub fn all_apart(schema: &[u8], rows: &[u32], marks: &[u32], a: usize, e: usize) -> bool
+// Whether no two names of the rows from a up to e clash: each is compared with those after it.
+pub fn pairs_apart(schema: &[u8], rows: &[u32], marks: &[u32], a: usize, e: usize) -> bool
     requires { ⌜ Marks (now schema) (now rows) (now marks) ⌝ }
     ensures { λ r. ⌜ r ≡ apart clash (namesOf (now (schema .entry)) (now (rows .entry)) (upFrom a (e - a))) ⌝ }
 {

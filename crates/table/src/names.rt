@@ -59,12 +59,6 @@ pub fn name_of<'a>(schema: &'a [u8], rows: &[u32], r: usize) -> &'a [u8]
     part_of(schema, a, n)
 }
 
-pub fn same_name(schema: &[u8], rows: &[u32], a: usize, b: usize) -> bool
-    ensures { λ r. ⌜ r ≡ same (nameOf (now (schema .entry)) (now (rows .entry)) a) (nameOf (now (schema .entry)) (now (rows .entry)) b) ⌝ }
-{
-    same_bytes(name_of(schema, rows, a), name_of(schema, rows, b))
-}
-
 fn is_letter(b: u8) -> bool
     ensures { λ r. ⌜ r ≡ letter b ⌝ }
 {

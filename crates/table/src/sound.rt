@@ -23,9 +23,6 @@ ghost use Rattle.table.specs.RuleParts.{namesWithin, rowsFit, shaped, de
 
 const TABLE_WORDS: usize = TABLE_ROWS * ROW_WORDS;
 
-// Two words for each definition: its row and its mark.
-const LIST_WORDS: usize = 2 * TABLE_ROWS;
-
 // Whether every name lies within the schema.
 fn names_within(schema: &[u8], rows: &[u32]) -> bool
     requires { ⌜ length (now rows) < 2 ^ 32 ⌝ }
@@ -92,16 +89,16 @@ fn definitions_fit(schema: &[u8], rows: &[u32], marks: &[u32]) -> bool
     good_returns(rows)
 }
 
-// Rules 5 to 11, of which 7 is that references fit; with room for the marks of rows lent, and for two words for each row.
-fn keeps_rules(schema: &[u8], rows: &[u32], marks: &mut [u32], list: &mut [u32]) -> bool
-    requires { ⌜ (length (now rows) < 2 ^ 32) × (length (now rows) ≤ 4 * length (now list)) ⌝ }
+// Rules 5 to 11, of which 7 is that references fit; with room for a mark and a link of each row lent.
+fn keeps_rules(schema: &[u8], rows: &[u32], marks: &mut [u32], links: &mut [u32]) -> bool
+    requires { ⌜ (length (now rows) < 2 ^ 32) × (length (now rows) ≤ 8 * length (now links)) × (length (now links) < 2 ^ 32) ⌝ }
     ensures { λ b. ⌜ b ≡ keepsRules (now (schema .entry)) (now (rows .entry)) ⌝ }
 {
     if !good_names(schema, rows) {
         return false;
     }
     put_marks(schema, rows, marks);
-    if !distinct_names(schema, rows, marks, list) {
+    if !distinct_names(schema, rows, marks, links) {
         return false;
     }
     definitions_fit(schema, rows, marks)
@@ -125,6 +122,6 @@ pub fn is_sound(schema: &[u8], rows: &[u32]) -> bool
     }
     let n = rows.len() / ROW_WORDS;
     let mut marks = [0u32; TABLE_ROWS];
-    let mut list = [0u32; LIST_WORDS];
-    keeps_rules(schema, rows, &mut marks[..n], &mut list)
+    let mut links = [0u32; TABLE_ROWS];
+    keeps_rules(schema, rows, &mut marks[..n], &mut links)
 }

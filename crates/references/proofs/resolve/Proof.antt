@@ -1,12 +1,13 @@
--- `references::resolve` lists the definitions, puts what every word names, and then the discriminators.
+-- `references::resolve` indexes the definitions, puts what every word names, and then the discriminators.
 use native.Mathlib.Omega.{arith}
-use borrow.Author.Needs.{needs}
+use mathlib.Core.Path.{refl}
 use Rattle.references.proofs.Resolution.{resolves}
+use borrow.Author.Needs.{needs}
 use Rattle.references.proofs.resolve.Statement.{statement}
 use Rattle.references.proofs.resolve.Tie as tie
 
-list-definitions-requires : tie.Need-list-definitions-requires
-list-definitions-requires c κs = search needs
+index-definitions-requires : tie.Need-index-definitions-requires
+index-definitions-requires c κs = let p = c .before .before .before .before .before .before .pre in (p .1, p .2, refl)
 
 resolve-rows-requires : tie.Need-resolve-rows-requires
 resolve-rows-requires c κs = search needs
@@ -21,15 +22,13 @@ same-length-2 : tie.Need-same-length-2
 same-length-2 c = search needs
 
 returns : tie.Need-returns
-returns c =
-    resolves (omega arith) (c .before .before .before .before .before .before .resolve-rows .ensures .0)
-    (c .before .before .before .before .before .before .resolve-rows .ensures .1) (c .before .before .tag-rows .ensures)
+returns c = resolves (omega arith) (c .before .before .before .before .before .before .resolve-rows .ensures .0) (c .before .before .before .before .before .before .resolve-rows .ensures .1) (c .before .before .tag-rows .ensures)
 
 pub resolve-spec : {M : Type 1} → statement M
 resolve-spec =
     tie.close
     (tie.spec
-    list-definitions-requires
+    index-definitions-requires
     resolve-rows-requires
     tag-rows-requires
     same-length

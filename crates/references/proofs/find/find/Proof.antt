@@ -1,73 +1,57 @@
 -- `references::find::find` finds the first definition that fits and has the name.
--- The loop keeps what is left to look at.
-use Prim.Native.Nat.{_-_, _≤_}
-use mathlib.Core.Path.{refl}
+-- The loop keeps what is left to look at; the measure is the count that falls.
 use native.Mathlib.Omega.{arith}
+use Rattle.references.proofs.FindLaws.{Left, left-start, left-small, left-hit, left-on, left-end, left-out}
 use borrow.Author.Needs.{needs}
-use Rattle.references.proofs.FindLaws.{Left, left-start, left-small, left-hit, left-on, left-end}
 use Rattle.references.proofs.find.find.Statement.{statement}
 use Rattle.references.proofs.find.find.Tie as tie
 
 abbrev Inv-loop : tie.InvT-loop
-Inv-loop s rows list m name structs mark i₀ i = (i ≤ m) × Left s rows list m structs name i
+Inv-loop s rows heads links name structs link₀ left₀ link left = Left s rows links structs name link₀ link left
 
 abbrev μ-loop : tie.MeasureT-loop
-μ-loop s rows list m name structs mark i₀ i = m - i
+μ-loop s rows heads links name structs link₀ left₀ link left = left
 
 mark-of-requires : tie.Need-mark-of-requires Inv-loop μ-loop
 mark-of-requires c κs = search needs
 
+first-requires : tie.Need-first-requires Inv-loop μ-loop
+first-requires c κs = search needs
+
 loop-holds : tie.Need-loop-holds Inv-loop μ-loop
-loop-holds c = (omega arith, left-start _ _ _ _ _ _)
+loop-holds c = left-start
 
-mul-at : tie.Need-mul-at Inv-loop μ-loop
-mul-at c = search needs
+returns : tie.Need-returns Inv-loop μ-loop
+returns c = left-end (c .before .before .before .before .mark-of .ensures) (c .before .before .before .first .ensures) (c .before .before .loop .inv) (c .if1 .taken)
 
-mul-r : tie.Need-mul-r Inv-loop μ-loop
-mul-r c = search needs
-
-shared-slice-read-r : tie.Need-shared-slice-read-r Inv-loop μ-loop
-shared-slice-read-r c = search needs
-
-wide-requires : tie.Need-wide-requires Inv-loop μ-loop
-wide-requires c κs = search needs
-
-add-is-named : tie.Need-add-is-named Inv-loop μ-loop
-add-is-named c = search needs
-
-mul-is-named : tie.Need-mul-is-named Inv-loop μ-loop
-mul-is-named c = search needs
-
-shared-slice-read-is-named : tie.Need-shared-slice-read-is-named Inv-loop μ-loop
-shared-slice-read-is-named c = search needs
+sub-r : tie.Need-sub-r Inv-loop μ-loop
+sub-r c = search needs
 
 is-named-requires : tie.Need-is-named-requires Inv-loop μ-loop
 is-named-requires c κs = search needs
 
-add-result : tie.Need-add-result Inv-loop μ-loop
-add-result c =
-    let h = left-small (c .before .before .before .before .before .before .loop .inv .1) (omega arith)
-    (c .before .before .before .before .before .before .before .mark-of .ensures) (c .before .before .before .wide .ensures) refl (c .before .is-named .ensures)
-    (omega arith) (c .if1 .taken) in
-    omega (arith, h, c .before .before .before .wide .ensures)
+cast-result : tie.Need-cast-result Inv-loop μ-loop
+cast-result c = let a = c .before .before .before .before .before .before .before .before .before .before .before .args in omega (arith, left-small (a .s .now) (a .rows .now) (a .structs) (a .name .now) (c .before .before .before .before .before .before .before .before .before .before .before .pre) (c .before .is-named .ensures) (c .if2 .taken))
 
-returns : tie.Need-returns Inv-loop μ-loop
-returns c =
-    rw (← c .before .before .before .wide .ensures)
-    (left-hit (c .before .before .before .before .before .before .loop .inv .1) (omega arith) (c .before .before .before .before .before .before .before .mark-of .ensures) (c .before .before .before .wide .ensures) refl (c .before .is-named .ensures) (omega arith) (c .if1 .taken))
+returns-2 : tie.Need-returns-2 Inv-loop μ-loop
+returns-2 c =
+    let a = c .before .before .before .before .before .before .before .before .before .before .before .args in
+    left-hit (c .before .before .before .before .before .before .mark-of .ensures) (c .before .before .before .before .before .first .ensures) (c .before .before .before .before .loop .inv) (left-small (a .s .now) (a .rows .now) (a .structs) (a .name .now) (c .before .before .before .before .before .before .before .before .before .before .before .pre) (c .before .is-named .ensures) (c .if2 .taken)) (search needs) (c .before .is-named .ensures) (c .if2 .taken)
 
-add-i : tie.Need-add-i Inv-loop μ-loop
-add-i c = search needs
+next-requires : tie.Need-next-requires Inv-loop μ-loop
+next-requires c κs = search needs
+
+sub-left : tie.Need-sub-left Inv-loop μ-loop
+sub-left c = search needs
 
 loop-less : tie.Need-loop-less Inv-loop μ-loop
 loop-less c = search needs
 
 loop-again : tie.Need-loop-again Inv-loop μ-loop
-loop-again c =
-    (omega arith, left-on (c .before .before .before .before .before .before .loop .inv .1) (omega arith) (c .before .before .before .before .before .before .before .mark-of .ensures) (c .before .before .before .wide .ensures) refl (c .before .is-named .ensures) (c .if1 .left))
+loop-again c = left-on (c .before .before .before .before .before .loop .inv) (search needs) (c .before .before .is-named .ensures) (c .before .if2 .left) (c .next .ensures)
 
-returns-2 : tie.Need-returns-2 Inv-loop μ-loop
-returns-2 c = left-end (c .before .loop .inv .1) (omega arith)
+returns-3 : tie.Need-returns-3 Inv-loop μ-loop
+returns-3 c = left-out (c .before .before .before .mark-of .ensures) (c .before .before .first .ensures) (c .before .loop .inv) (search needs)
 
 pub find-spec : {M : Type 1} → statement M
 find-spec =
@@ -76,18 +60,15 @@ find-spec =
     Inv-loop
     μ-loop
     mark-of-requires
+    first-requires
     loop-holds
-    mul-at
-    mul-r
-    shared-slice-read-r
-    wide-requires
-    add-is-named
-    mul-is-named
-    shared-slice-read-is-named
-    is-named-requires
-    add-result
     returns
-    add-i
+    sub-r
+    is-named-requires
+    cast-result
+    returns-2
+    next-requires
+    sub-left
     loop-less
     loop-again
-    returns-2)
+    returns-3)

@@ -12,10 +12,10 @@ use Rattle.references.proofs.slots.resolve_rows.Statement.{statement}
 use Rattle.references.proofs.slots.resolve_rows.Tie as tie
 
 abbrev Inv-loop : tie.InvT-loop
-Inv-loop s rows₀ list m n all₀ r₀ rows all r = (r ≤ n) × (rows ≡ putRows s rows₀ r) × (all ≡ foundRows s rows₀ r)
+Inv-loop s rows₀ heads links n all₀ r₀ rows all r = (r ≤ n) × (rows ≡ putRows s rows₀ r) × (all ≡ foundRows s rows₀ r)
 
 abbrev μ-loop : tie.MeasureT-loop
-μ-loop s rows₀ list m n all₀ r₀ rows all r = n - r
+μ-loop s rows₀ heads links n all₀ r₀ rows all r = n - r
 
 loop-holds : tie.Need-loop-holds Inv-loop μ-loop
 loop-holds c = let a = c .before .before .before .args in let z = rows-start (a .s .now) (a .rows .now) in (omega arith, z .0, z .1)
@@ -25,8 +25,7 @@ resolve-row-requires c κs =
     let a = c .before .before .before .before .before .before .args in
     let b = c .before .before .loop in
     let n = ap length (b .inv .1) ∙ length-rows (a .s .now) (a .rows .now) (b .r) in
-    let l = c .before .before .before .before .before .before .pre .1 in
-    (omega arith, omega (arith, l .count, l .marked .room), omega arith)
+    (omega arith, omega arith)
 
 both-requires : tie.Need-both-requires Inv-loop μ-loop
 both-requires c κs = search needs

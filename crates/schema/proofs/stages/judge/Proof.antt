@@ -13,7 +13,7 @@ good-names-requires : tie.Need-good-names-requires
 good-names-requires c κs = search needs
 
 returns : tie.Need-returns
-returns c = let p = c .before .before .before .before .before .before .before .pre in let S = c .before .before .before .before .before .before .before .args .schema .now in broken (p .3) 4 BadName _ (goodNames S) refl refl (p .2) (denied (c .before .good-names .ensures) (c .if1 .taken))
+returns c = let p = c .before .before .before .before .before .before .before .pre in let S = c .before .before .before .before .before .before .before .args .schema .now in broken (p .4) 4 BadName _ (goodNames S) refl refl (p .3) (denied (c .before .good-names .ensures) (c .if1 .taken))
 
 put-marks-requires : tie.Need-put-marks-requires
 put-marks-requires c κs = search needs
@@ -28,7 +28,7 @@ same-length-2 : tie.Need-same-length-2
 same-length-2 c = search needs
 
 returns-2 : tie.Need-returns-2
-returns-2 c = let p = c .before .before .before .before .before .before .before .before .before .before .before .before .before .before .before .before .before .pre in let S = c .before .before .before .before .before .before .before .before .before .before .before .before .before .before .before .before .before .args .schema .now in kept (p .3) 4 5 BadName (goodNames S) refl refl (granted (c .before .before .before .before .before .before .before .before .before .before .before .good-names .ensures) (c .before .before .before .before .before .before .before .before .before .before .if1 .left)) (broken (p .3) 5 RepeatedName _ (distinctNames S) refl refl (p .2) (denied (c .before .before .before .distinct-names .ensures) (c .if2 .taken)))
+returns-2 c = let p = c .before .before .before .before .before .before .before .before .before .before .before .before .before .before .before .before .before .pre in let S = c .before .before .before .before .before .before .before .before .before .before .before .before .before .before .before .before .before .args .schema .now in kept (p .4) 4 5 BadName (goodNames S) refl refl (granted (c .before .before .before .before .before .before .before .before .before .before .before .good-names .ensures) (c .before .before .before .before .before .before .before .before .before .before .if1 .left)) (broken (p .4) 5 RepeatedName _ (distinctNames S) refl refl (p .3) (denied (c .before .before .before .distinct-names .ensures) (c .if2 .taken)))
 
 same-length-3 : tie.Need-same-length-3
 same-length-3 c = search needs
@@ -37,7 +37,7 @@ same-length-4 : tie.Need-same-length-4
 same-length-4 c = search needs
 
 returns-3 : tie.Need-returns-3
-returns-3 c = let p = c .before .before .before .before .before .before .before .before .before .before .before .before .before .before .before .before .before .before .pre in let S = c .before .before .before .before .before .before .before .before .before .before .before .before .before .before .before .before .before .before .args .schema .now in kept (p .3) 4 5 BadName (goodNames S) refl refl (granted (c .before .before .before .before .before .before .before .before .before .before .before .before .good-names .ensures) (c .before .before .before .before .before .before .before .before .before .before .before .if1 .left)) (kept (p .3) 5 6 RepeatedName (distinctNames S) refl refl (granted (c .before .before .before .before .distinct-names .ensures) (c .before .if2 .left)) (unknown (p .3) (p .4) (p .2) (not-true _ (c .if3 .taken))))
+returns-3 c = let p = c .before .before .before .before .before .before .before .before .before .before .before .before .before .before .before .before .before .before .pre in let S = c .before .before .before .before .before .before .before .before .before .before .before .before .before .before .before .before .before .before .args .schema .now in kept (p .4) 4 5 BadName (goodNames S) refl refl (granted (c .before .before .before .before .before .before .before .before .before .before .before .before .good-names .ensures) (c .before .before .before .before .before .before .before .before .before .before .before .if1 .left)) (kept (p .4) 5 6 RepeatedName (distinctNames S) refl refl (granted (c .before .before .before .before .distinct-names .ensures) (c .before .if2 .left)) (unknown (p .4) (p .5) (p .3) (not-true _ (c .if3 .taken))))
 
 judge-definitions-requires : tie.Need-judge-definitions-requires
 judge-definitions-requires c κs = search needs
@@ -52,7 +52,7 @@ same-length-7 : tie.Need-same-length-7
 same-length-7 c = search needs
 
 returns-4 : tie.Need-returns-4
-returns-4 c = let p = c .before .before .before .before .before .before .before .before .before .before .before .before .before .before .before .before .before .before .before .before .before .before .before .pre in let S = c .before .before .before .before .before .before .before .before .before .before .before .before .before .before .before .before .before .before .before .before .before .before .before .args .schema .now in kept (p .3) 4 5 BadName (goodNames S) refl refl (granted (c .before .before .before .before .before .before .before .before .before .before .before .before .before .before .before .before .before .good-names .ensures) (c .before .before .before .before .before .before .before .before .before .before .before .before .before .before .before .before .if1 .left)) (kept (p .3) 5 6 RepeatedName (distinctNames S) refl refl (granted (c .before .before .before .before .before .before .before .before .before .distinct-names .ensures) (c .before .before .before .before .before .before .if2 .left)) (all-known (p .3) (p .4) (not-false _ (c .before .before .before .before .before .if3 .left)) (c .before .before .judge-definitions .ensures)))
+returns-4 c = let p = c .before .before .before .before .before .before .before .before .before .before .before .before .before .before .before .before .before .before .before .before .before .before .before .pre in let S = c .before .before .before .before .before .before .before .before .before .before .before .before .before .before .before .before .before .before .before .before .before .before .before .args .schema .now in kept (p .4) 4 5 BadName (goodNames S) refl refl (granted (c .before .before .before .before .before .before .before .before .before .before .before .before .before .before .before .before .before .good-names .ensures) (c .before .before .before .before .before .before .before .before .before .before .before .before .before .before .before .before .if1 .left)) (kept (p .4) 5 6 RepeatedName (distinctNames S) refl refl (granted (c .before .before .before .before .before .before .before .before .before .distinct-names .ensures) (c .before .before .before .before .before .before .if2 .left)) (all-known (p .4) (p .5) (not-false _ (c .before .before .before .before .before .if3 .left)) (c .before .before .judge-definitions .ensures)))
 
 pub judge-spec : {M : Type 1} → statement M
 judge-spec =

@@ -1,9 +1,9 @@
 -- `table::definitions::children_apart` says whether in each list of children no two names are the same.
 -- The loop tests every row; sums fit since counts are 32-bit words.
 use Prim.Native.Nat.{_+_, _-_}
-use mathlib.Core.Path.{_≡_, ap}
+use mathlib.Core.Path.{_≡_, refl, ap}
 use native.Mathlib.Omega.{arith}
-use borrow.Author.Needs.{needs}
+use lib.ListN.{length}
 use Rattle.grammar.specs.Notation.{apart}
 use Rattle.rules.specs.Names.{clash}
 use Rattle.rules.specs.Rows.{children}
@@ -11,18 +11,20 @@ use Rattle.rules.specs.Rules.{namesOf}
 use Rattle.table.specs.Definitions.{childrenApart}
 use Rattle.table.proofs.Walks.{granted, denied, upTo, upTo-hit, upTo-on, upTo-end, upTo-rows}
 use Rattle.table.proofs.RowFacts.{inlineRows-small, childCount-small}
-use Rattle.table.proofs.ListFacts.{apart-children}
+use Rattle.table.proofs.DistinctLaws.{apart-children}
+use borrow.Author.Needs.{needs}
 use Rattle.table.proofs.definitions.children_apart.Statement.{statement}
 use Rattle.table.proofs.definitions.children_apart.Tie as tie
 
 abbrev Inv-loop : tie.InvT-loop
-Inv-loop schema rows marks n r₀ r = childrenApart schema rows ≡ upTo (λ x. apart clash (namesOf schema rows (children rows x))) r n
+Inv-loop schema rows marks links₀ n r₀ links r =
+    (length links ≡ length links₀) × (childrenApart schema rows ≡ upTo (λ x. apart clash (namesOf schema rows (children rows x))) r n)
 
 abbrev μ-loop : tie.MeasureT-loop
-μ-loop schema rows marks n r₀ r = n - r
+μ-loop schema rows marks links₀ n r₀ links r = n - r
 
 loop-holds : tie.Need-loop-holds Inv-loop μ-loop
-loop-holds c = let a = c .before .before .before .args in upTo-rows _ (a .rows .now)
+loop-holds c = let a = c .before .before .before .before .args in (refl, upTo-rows _ (a .rows .now))
 
 first-child-requires : tie.Need-first-child-requires Inv-loop μ-loop
 first-child-requires c κs = search needs
@@ -32,21 +34,24 @@ child-count-requires c κs = search needs
 
 add-all-apart : tie.Need-add-all-apart Inv-loop μ-loop
 add-all-apart c =
-    let b = c .before .before .before .loop in
-    let a = c .before .before .before .before .before .before .before .args in
-    let s = c .before .before .before .before .before .shared-slice-known2 .given in
+    let b = c .before .before .before .before .loop in
+    let a = c .before .before .before .before .before .before .before .before .before .args in
+    let s = c .before .before .before .before .before .before .before .shared-slice-known2 .given in
     omega (arith, inlineRows-small (a .rows .now) s (b .r), childCount-small (a .rows .now) s (b .r))
 
 all-apart-requires : tie.Need-all-apart-requires Inv-loop μ-loop
-all-apart-requires c κs = search needs
+all-apart-requires c κs = let p = c .before .before .before .before .before .before .before .before .before .pre in (p .1, omega (arith, c .before .before .before .before .loop .inv .0, p .2))
+
+same-length : tie.Need-same-length Inv-loop μ-loop
+same-length c = search needs
 
 returns : tie.Need-returns Inv-loop μ-loop
 returns c =
-    let b = c .before .before .before .before .before .loop in
-    let a = c .before .before .before .before .before .before .before .before .before .args in
-    let e = apart-children (a .schema .now) (a .rows .now) (b .r) _ _ _ (c .before .before .before .first-child .ensures)
-    (ap (λ n. c .before .before .before .first-child .result + n) (c .before .before .child-count .ensures)) (c .before .all-apart .ensures) in
-    upTo-hit _ _ _ (c .before .before .before .before .before .loop .inv) (c .before .before .before .before .loop-test .taken) (denied e (c .if1 .taken))
+    let b = c .before .before .before .before .before .before .before .before .loop in
+    let a = c .before .before .before .before .before .before .before .before .before .before .before .before .before .args in
+    let e = apart-children (a .schema .now) (a .rows .now) (b .r) _ _ _ (c .before .before .before .before .before .before .first-child .ensures)
+    (ap (λ n. c .before .before .before .before .before .before .first-child .result + n) (c .before .before .before .before .child-count .ensures)) (c .before .before .before .all-apart .ensures) in
+    upTo-hit _ _ _ (b .inv .1) (c .before .before .before .before .before .before .before .loop-test .taken) (denied e (c .if1 .taken))
 
 add-r : tie.Need-add-r Inv-loop μ-loop
 add-r c = search needs
@@ -56,14 +61,17 @@ loop-less c = search needs
 
 loop-again : tie.Need-loop-again Inv-loop μ-loop
 loop-again c =
-    let b = c .before .before .before .before .before .loop in
-    let a = c .before .before .before .before .before .before .before .before .before .args in
-    let e = apart-children (a .schema .now) (a .rows .now) (b .r) _ _ _ (c .before .before .before .first-child .ensures)
-    (ap (λ n. c .before .before .before .first-child .result + n) (c .before .before .child-count .ensures)) (c .before .all-apart .ensures) in
-    upTo-on _ _ _ (c .before .before .before .before .before .loop .inv) (c .before .before .before .before .loop-test .taken) (granted e (c .if1 .left))
+    let b = c .before .before .before .before .before .before .before .before .loop in
+    let a = c .before .before .before .before .before .before .before .before .before .before .before .before .before .args in
+    let e = apart-children (a .schema .now) (a .rows .now) (b .r) _ _ _ (c .before .before .before .before .before .before .first-child .ensures)
+    (ap (λ n. c .before .before .before .before .before .before .first-child .result + n) (c .before .before .before .before .child-count .ensures)) (c .before .before .before .all-apart .ensures) in
+    (search needs, upTo-on _ _ _ (b .inv .1) (c .before .before .before .before .before .before .before .loop-test .taken) (granted e (c .if1 .left)))
+
+same-length-2 : tie.Need-same-length-2 Inv-loop μ-loop
+same-length-2 c = search needs
 
 returns-2 : tie.Need-returns-2 Inv-loop μ-loop
-returns-2 c = upTo-end _ _ _ (c .before .loop .inv) (c .loop-test .left)
+returns-2 c = upTo-end _ _ _ (c .before .loop .inv .1) (c .loop-test .left)
 
 pub children-apart-spec : {M : Type 1} → statement M
 children-apart-spec =
@@ -76,8 +84,10 @@ children-apart-spec =
     child-count-requires
     add-all-apart
     all-apart-requires
+    same-length
     returns
     add-r
     loop-less
     loop-again
+    same-length-2
     returns-2)

@@ -1,4 +1,4 @@
--- `table::marks::all_apart` says whether no two names of the rows from a up to e clash.
+-- `table::marks::pairs_apart` says whether no two names of the rows from a up to e clash.
 -- The loop tests of every row from a on that its name is fresh among those after it.
 use Prim.Native.Nat.{_-_}
 use mathlib.Core.Path.{_≡_}
@@ -9,8 +9,8 @@ use Rattle.rules.specs.Rows.{upFrom}
 use Rattle.rules.specs.Rules.{namesOf}
 use Rattle.table.proofs.Walks.{granted, denied, upTo, upTo-hit, upTo-on, upTo-end}
 use Rattle.table.proofs.NameFacts.{freshAfter, apart-upTo}
-use Rattle.table.proofs.marks.all_apart.Statement.{statement}
-use Rattle.table.proofs.marks.all_apart.Tie as tie
+use Rattle.table.proofs.marks.pairs_apart.Statement.{statement}
+use Rattle.table.proofs.marks.pairs_apart.Tie as tie
 
 abbrev Inv-loop : tie.InvT-loop
 Inv-loop schema rows marks a e i₀ i = apart clash (namesOf schema rows (upFrom a (e - a))) ≡ upTo (freshAfter schema rows e) i e
@@ -42,8 +42,8 @@ loop-again c = upTo-on _ _ _ (c .before .before .before .loop .inv) (c .before .
 returns-2 : tie.Need-returns-2 Inv-loop μ-loop
 returns-2 c = upTo-end _ _ _ (c .before .loop .inv) (c .loop-test .left)
 
-pub all-apart-spec : {M : Type 1} → statement M
-all-apart-spec =
+pub pairs-apart-spec : {M : Type 1} → statement M
+pairs-apart-spec =
     tie.close
     (tie.spec
     Inv-loop

@@ -1,0 +1,197 @@
+-- Laws of rule 6: definitions come into an index from the last to the first, and the children of each row are runs.
+-- The idea: the index has the definitions after a row, so a name that is looked up in it is compared with theirs.
+use Prim.{tt}
+use Prim.Native.Nat.{ℕ, zero, suc, _+_, _-_, _≤_, _<_}
+use mathlib.Core.Path.{_≡_, refl, sym, ap, _∙_, subst}
+use mathlib.Core.Bool.{Bool, true, false, not, cond, _&&_, _||_, and-false}
+use mathlib.Core.List.{List, [], _∷_}
+use native.Mathlib.Nat.{sub-zero}
+use native.Mathlib.Omega.{arith}
+use lib.ListN.{length, replicate}
+use Rattle.grammar.specs.Notation.{apart}
+use Rattle.grammar.proofs.Booleans.{clash as contradiction}
+use Rattle.buckets.specs.Buckets.{buckets, Added, Free}
+use Rattle.rules.specs.Types.{built-ins}
+use Rattle.rules.specs.Names.{clash}
+use Rattle.rules.specs.Rows.{upFrom, rowCount, inlineRows, childCount, children, nameOf}
+use Rattle.rules.specs.Rules.{those, isDefinition, namesOf, noClash, distinctNames}
+use Rattle.rules.specs.SchemaTable.{placeIn}
+use Rattle.table.specs.Marks.{markOf}
+use Rattle.table.specs.Index.{itself, RowIndex, freshIn, Entered}
+use Rattle.table.specs.Definitions.{definitionRows, withRow, DefinitionIndex, RowEntered, clearIn, DefinitionEntered, definitionsClear, childrenApart}
+use Rattle.table.proofs.Walks.{upFrom-on, upFrom-end, upTo, upTo-of, upTo-back, upTo-none, upTo-miss}
+use Rattle.table.proofs.RowFacts.{children-from}
+use Rattle.table.proofs.NameFacts.{fresh}
+use Rattle.table.proofs.DefinitionFacts.{taken-of-place, fresh-of-place}
+use Rattle.table.proofs.IndexLaws.{index-none, index-more}
+
+-- rows that pass a test
+few : (f : ℕ → Bool) (n a : ℕ) → length (those f (upFrom a n)) ≤ n
+few f zero a = omega arith
+few f (suc n) a = go (f a) (those f (upFrom (suc a) n)) (few f n (suc a))
+  where
+    go : (b : Bool) (l : List ℕ) → length l ≤ n → length (cond b (a ∷ l) l) ≤ suc n
+    go true l h = omega arith
+    go false l h = omega arith
+
+free-those : (f : ℕ → Bool) (j n a : ℕ) → j < a → Free itself j (those f (upFrom a n))
+free-those f j zero a h = tt
+free-those f j (suc n) a h = go (f a) (those f (upFrom (suc a) n)) (free-those f j n (suc a) (omega arith))
+  where
+    go : (b : Bool) (l : List ℕ) → Free itself j l → Free itself j (cond b (a ∷ l) l)
+    go true l k = ((λ e. omega arith), k)
+    go false l k = k
+
+-- the definitions from row r on
+unfoldable pub definitionsFrom : List ℕ → ℕ → List ℕ
+definitionsFrom T r = those (isDefinition T) (upFrom r (rowCount T - r))
+
+module _ (T : List ℕ) where
+  from-on : (r : ℕ) → r < rowCount T → definitionsFrom T r ≡ withRow T r (definitionsFrom T (r + 1))
+  unfolding definitionsFrom
+  from-on r h = ap (those (isDefinition T)) (upFrom-on r (rowCount T) h)
+
+  from-end : (r : ℕ) → rowCount T ≤ r → definitionsFrom T r ≡ []
+  unfolding definitionsFrom
+  from-end r h = ap (those (isDefinition T)) (upFrom-end r (rowCount T) h)
+
+  from-first : definitionsFrom T 0 ≡ definitionRows T
+  unfolding definitionsFrom definitionRows
+  from-first = ap (λ n. those (isDefinition T) (upFrom 0 n)) (sub-zero (rowCount T))
+
+  pub few-rows : length (definitionRows T) ≤ rowCount T
+  unfolding definitionRows
+  few-rows = few (isDefinition T) (rowCount T) 0
+
+  few-from : (r : ℕ) → length (definitionsFrom T r) ≤ rowCount T - r
+  unfolding definitionsFrom
+  few-from r = few (isDefinition T) (rowCount T - r) r
+
+  free-before : (j r : ℕ) → j < r → Free itself j (definitionsFrom T r)
+  unfolding definitionsFrom
+  free-before j r h = free-those (isDefinition T) j (rowCount T - r) r h
+
+-- the definitions from row r on are in the index
+module _ (S T : List ℕ) where
+  pub record IndexFrom (heads links : List ℕ) (r : ℕ) : Type 0 where
+    pub high : r ≤ rowCount T
+    pub rows : RowIndex S T heads links (definitionsFrom T r)
+
+  pub index-start : {heads : List ℕ} (links : List ℕ) → heads ≡ replicate buckets 0 → IndexFrom heads links (rowCount T)
+  index-start {heads} links z = record {
+    high = omega arith;
+    rows = subst (RowIndex S T heads links) (sym (from-end T (rowCount T) (omega arith))) (index-none S T links z);
+  }
+
+  pub index-end : {heads links : List ℕ} {r : ℕ} → IndexFrom heads links r → r ≤ 0 → rowCount T ≤ length links → DefinitionIndex S T heads links
+  index-end {heads} {links} {r} v h room =
+      let z : r ≡ 0 = omega arith in
+      record { room = room; rows = subst (RowIndex S T heads links) (ap (definitionsFrom T) z ∙ from-first T) (v .rows) }
+
+  module _ {heads links heads′ links′ : List ℕ} {r : ℕ} (v : IndexFrom heads links r) (low : 0 < r) where
+    index-before : RowIndex S T heads′ links′ (withRow T (r - 1) (definitionsFrom T r)) → IndexFrom heads′ links′ (r - 1)
+    index-before k =
+        let s : r - 1 + 1 ≡ r = omega arith in
+        let e = from-on T (r - 1) (omega (arith, v .high)) ∙ ap (λ j. withRow T (r - 1) (definitionsFrom T j)) s in
+        record { high = omega (arith, v .high); rows = subst (RowIndex S T heads′ links′) (sym e) k }
+
+    pub index-on : RowEntered S T heads links (r - 1) heads′ links′ → IndexFrom heads′ links′ (r - 1)
+    index-on q = index-before (q .told (definitionsFrom T r) (v .rows) (free-before T (r - 1) r (omega arith)))
+
+-- one row comes into the index, or is none of its kind
+module _ {S T heads links : List ℕ} (r : ℕ) {d : Bool} (p : d ≡ isDefinition T r) where
+  pub row-entered : d ≡ true → {heads′ links′ x : List ℕ} {m : ℕ} → x ≡ nameOf S T r → m ≡ markOf x → r < length links → Added heads links m r heads′ links′
+      → RowEntered S T heads links r heads′ links′
+  row-entered t n q h a = record { told = λ rs k f. rw (sym p ∙ t) (index-more r k f h (q ∙ ap markOf n) a) }
+
+  pub row-left : d ≡ false → RowEntered S T heads links r heads links
+  row-left t = record { told = λ rs k f. rw (sym p ∙ t) k }
+
+  pub not-entered : d ≡ false → DefinitionEntered S T heads links r heads links true
+  not-entered t = record { told = λ rs k f h. (rw (sym p ∙ t), λ e. rw (sym p ∙ t) k) }
+
+  module _ (t : d ≡ true) {x : List ℕ} {i : ℕ} (n : x ≡ nameOf S T r) (q : i ≡ placeIn built-ins x) where
+    pub named-built-in : (i ≡ 0 → ⊥) → DefinitionEntered S T heads links r heads links false
+    named-built-in z = record {
+      told = λ rs k f h. (rw (sym p ∙ t, taken-of-place (nameOf S T r) built-ins (λ e. z (q ∙ ap (placeIn built-ins) n ∙ e))), λ e. contradiction e refl);
+    }
+
+    pub named-new : i ≡ 0 → {heads′ links′ : List ℕ} {b : Bool} → Entered S T heads links r heads′ links′ b → DefinitionEntered S T heads links r heads′ links′ b
+    named-new z g = record {
+      told = λ rs k f h.
+          let u = g .told rs k f h in
+          (rw (sym p ∙ t, fresh-of-place (nameOf S T r) built-ins (sym (q ∙ ap (placeIn built-ins) n) ∙ z)) (u .0), λ e. rw (sym p ∙ t) (u .1 e));
+    }
+
+-- rule 6 of the definitions, row by row
+regroup : (a b c d : Bool) → ((a && b) && (c && d)) ≡ ((c && a) && (b && d))
+regroup true b true d = refl
+regroup true b false d = and-false b
+regroup false b true d = refl
+regroup false b false d = refl
+
+abbrev clear : List (List ℕ) → Bool
+clear xs = apart clash xs && noClash xs built-ins
+
+module _ (S T : List ℕ) where
+  abbrev definitionClear : ℕ → Bool
+  definitionClear r = clearIn S T r (definitionsFrom T (r + 1))
+
+  clear-on : (r : ℕ) → r < rowCount T → clear (namesOf S T (definitionsFrom T r)) ≡ (definitionClear r && clear (namesOf S T (definitionsFrom T (r + 1))))
+  clear-on r h = ap (λ rs. clear (namesOf S T rs)) (from-on T r h) ∙ go (isDefinition T r) (definitionsFrom T (r + 1))
+    where
+      go : (d : Bool) (rs : List ℕ)
+          → clear (namesOf S T (cond d (r ∷ rs) rs)) ≡ ((not d || (fresh (nameOf S T r) built-ins && freshIn S T (nameOf S T r) rs)) && clear (namesOf S T rs))
+      go true rs = regroup (freshIn S T (nameOf S T r) rs) (apart clash (namesOf S T rs)) (fresh (nameOf S T r) built-ins) (noClash (namesOf S T rs) built-ins)
+      go false rs = refl
+
+  clear-upTo : definitionsClear S T ≡ upTo definitionClear 0 (rowCount T)
+  unfolding definitionRows
+  clear-upTo =
+      ap (λ rs. clear (namesOf S T rs)) (sym (from-first T))
+      ∙ upTo-of definitionClear (rowCount T) (λ r. clear (namesOf S T (definitionsFrom T r))) clear-on (λ r h. ap (λ rs. clear (namesOf S T rs)) (from-end T r h)) 0
+
+  -- the definitions from row r on are in the index, and clear
+  pub record ClearFrom (heads links : List ℕ) (r : ℕ) : Type 0 where
+    pub index : IndexFrom S T heads links r
+    pub so-far : upTo definitionClear r (rowCount T) ≡ true
+
+  pub clear-start : {heads : List ℕ} (links : List ℕ) → heads ≡ replicate buckets 0 → ClearFrom heads links (rowCount T)
+  clear-start links z = record { index = index-start S T links z; so-far = upTo-none definitionClear (rowCount T) (rowCount T) (omega arith) }
+
+  pub clear-end : {heads links : List ℕ} {r : ℕ} → ClearFrom heads links r → r ≤ 0 → true ≡ definitionsClear S T
+  clear-end {r = r} v h = let z : 0 ≡ r = omega arith in sym (clear-upTo ∙ ap (λ k. upTo definitionClear k (rowCount T)) z ∙ v .so-far)
+
+  module _ {heads links heads′ links′ : List ℕ} {r : ℕ} {b : Bool} (v : ClearFrom heads links r) (low : 0 < r) (room : rowCount T ≤ length links)
+      (q : DefinitionEntered S T heads links (r - 1) heads′ links′ b) where
+    s : r - 1 + 1 ≡ r
+    s = omega arith
+
+    here : (b ≡ clearIn S T (r - 1) (definitionsFrom T r)) × (b ≡ true → RowIndex S T heads′ links′ (withRow T (r - 1) (definitionsFrom T r)))
+    here = q .told (definitionsFrom T r) (v .index .rows) (free-before T (r - 1) r (omega arith)) (omega (arith, few-from T r))
+
+    is-clear : b ≡ definitionClear (r - 1)
+    is-clear = here .0 ∙ ap (λ k. clearIn S T (r - 1) (definitionsFrom T k)) (sym s)
+
+    pub clear-hit : b ≡ false → false ≡ definitionsClear S T
+    clear-hit t = sym (clear-upTo ∙ upTo-miss definitionClear (rowCount T) (r - 1) 0 (omega arith) (omega (arith, v .index .high)) (sym is-clear ∙ t))
+
+    pub clear-next : b ≡ true → ClearFrom heads′ links′ (r - 1)
+    clear-next t = record {
+      index = index-before S T (v .index) low (here .1 t);
+      so-far = upTo-back definitionClear (rowCount T) (r - 1) (omega (arith, v .index .high)) (sym is-clear ∙ t)
+          (ap (λ k. upTo definitionClear k (rowCount T)) s ∙ v .so-far);
+    }
+
+  -- rule 6 of children, and in two parts
+  pub apart-children : (r a e : ℕ) (b : Bool) → a ≡ suc r + inlineRows T r → e ≡ a + childCount T r
+      → b ≡ apart clash (namesOf S T (upFrom a (e - a))) → b ≡ apart clash (namesOf S T (children T r))
+  apart-children r a e b p q t = rw (children-from T r a e p q) t
+
+  pub distinct-not : definitionsClear S T ≡ false → false ≡ distinctNames S T
+  unfolding distinctNames
+  distinct-not e = rw e
+
+  pub distinct-rest : definitionsClear S T ≡ true → childrenApart S T ≡ distinctNames S T
+  unfolding distinctNames
+  distinct-rest e = rw e
