@@ -1,5 +1,5 @@
-//! Schemas and messages at the limits of 01, from the schema to the records: the counts, and messages read with tables
-//! of such schemas. `compare` has further ones on either side of each limit, with their numbers.
+//! Schemas and messages on either side of the limits of 01, from the schema to the records: the counts, and messages
+//! read with tables of such schemas. `compare` has further ones.
 
 use crate::calls::{check_message, check_schema};
 
@@ -16,12 +16,17 @@ pub fn check_all() -> Vec<Vector> {
         ("chain of 16 structs", schema(&chain, (0, 16 * 2 + 1))),
         ("members of a chain of 16 structs", message(&chain, &members(16), (0, 16 * 2, 17))),
         ("a member short of a chain of 16 structs", message(&chain, &members(15), (29, 0, 0))),
+        ("chain of 17 structs", schema(&self::chain(17), (8, 0))),
         ("1,024 rows", schema(&rows, (0, 1_024))),
+        ("1,025 rows", schema(&self::rows(1_025), (12, 0))),
         ("command in the last of 1,024 rows", message(&rows, r#"{"execute":"c1023"}"#, (0, 1_023, 1))),
         ("definition at the end of 32,768 bytes", schema(&end, (0, 1))),
         ("definition at the end of 32,769 bytes", schema(&at_end(32_769), (1, 0))),
         ("command at the end of 32,768 bytes", message(&end, r#"{"execute":"c"}"#, (0, 0, 1))),
+        ("8 levels: text, but no definition", schema(&brackets(8), (4, 0))),
+        ("9 levels: no text", schema(&brackets(9), (2, 0))),
         ("32 levels of structs", message(levels, &nested(32), (0, 2, 31))),
+        ("33 levels of structs", message(levels, &nested(33), (24, 0, 0))),
         ("16,384 bytes with a long string", message(text, &long(16_384), (0, 0, 2))),
         ("16,385 bytes with a long string", message(text, &long(16_385), (22, 0, 0))),
     ]
@@ -49,6 +54,11 @@ fn rows(count: usize) -> String {
 /// One command after blanks, of so many bytes in all.
 fn at_end(length: usize) -> String {
     format!("{:>length$}", "{'command':'c'}")
+}
+
+/// Lists inside each other in an object, which is the first level.
+fn brackets(levels: usize) -> String {
+    format!("{{'a':{}{}}}", "[".repeat(levels - 1), "]".repeat(levels - 1))
 }
 
 /// Objects inside each other, the envelope and the arguments included.
