@@ -16,6 +16,14 @@ use Rattle.lines.specs.Text.{Puts, lineText}
 use Rattle.windosprio.specs.declared.turns.Turn.{Turn}
 use Rattle.windosprio.specs.declared.turns.Turn.the-variants.{Kept, Stop}
 
+-- 01, What the gateway reads: the words that the program lends for 4,096 records
+abbrev pub record-room : ℕ
+record-room = 4096 * record-words
+
+-- the longest line: three numbers of at most 20 digits, those words of at most 10, a byte after each
+abbrev pub longest-line : ℕ
+longest-line = 63 + 11 * record-room
+
 -- the line of a schema: its number and the count of rows
 unfoldable pub schemaLine : SchemaAnswer → List ℕ
 schemaLine a = lineText (Schemas.answerNumber a) (Schemas.answerRows a ∷ [])
@@ -48,12 +56,12 @@ module _ (S T : List ℕ) (room : ℕ) where
     pub after : from ≤ next
     pub within : next ≤ length s
     pub fits : at ≤ length new
-    pub stops : (next + beforeLF (drop next s) ≡ length s) ⊎ (length old < at + 180287)
+    pub stops : (next + beforeLF (drop next s) ≡ length s) ⊎ (length old < at + longest-line)
 
 -- no more than 4,096 records are lent, and the longest line has room
 pub record Room (records out : List ℕ) : Type 0 where
-  pub few : length records ≤ 16384
-  pub wide : 180287 ≤ length out
+  pub few : length records ≤ record-room
+  pub wide : longest-line ≤ length out
 
 abbrev pub KeptIn : ℕ → Turn → Type 0
 KeptIn room (Kept n) = n ≤ room

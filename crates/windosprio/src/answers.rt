@@ -14,10 +14,13 @@ use rules::SchemaAnswer;
 ghost use Prim.Native.Nat.{_+_, _≤_};
 ghost use lib.ListN.{length};
 ghost use Rattle.lines.specs.Text.{Puts};
-ghost use Rattle.windosprio.specs.Program.{schemaLine, messageLine, Answers};
+ghost use Rattle.windosprio.specs.Program.{record-room, longest-line, schemaLine, messageLine, Answers};
 
-// The longest line: 16,384 words of 10 digits after three numbers.
-const LINE: usize = 180287;
+// 4,096 records.
+pub const RECORD_ROOM: usize = 4096 * RECORD_WORDS;
+
+// The longest line: three numbers of at most 20 digits, then words of at most 10, a byte after each.
+pub const LINE: usize = 63 + 11 * RECORD_ROOM;
 
 // The place after the last line answered, and the place after its answer.
 pub struct Progress {
@@ -41,7 +44,7 @@ pub fn answer(
     out: &mut [u8],
     at: usize,
 ) -> usize
-    requires { ⌜ (length (now records) ≤ 16384) × (at + 180287 ≤ length (now out)) ⌝ }
+    requires { ⌜ (length (now records) ≤ record-room) × (at + longest-line ≤ length (now out)) ⌝ }
     ensures { λ r. ⌜ Puts (messageLine (now (schema .entry)) (now (table .entry)) (length (now (records .entry))) (now (message .entry))) at (now (out .entry)) (now (out .exit)) r ⌝ }
 {
     let a = check_message(table, schema, message, records);
@@ -66,7 +69,7 @@ pub fn answer_lines(
     records: &mut [u32],
     out: &mut [u8],
 ) -> Progress
-    requires { ⌜ (length (now records) ≤ 16384) × (from ≤ length (now s)) ⌝ }
+    requires { ⌜ (length (now records) ≤ record-room) × (from ≤ length (now s)) ⌝ }
     ensures { λ r. ⌜ Answers (now (schema .entry)) (now (table .entry)) (length (now (records .entry))) (now (s .entry)) from (now (out .entry)) (now (out .exit)) (r .next) (r .at) ⌝ }
 {
     let mut i = from;

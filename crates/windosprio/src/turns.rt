@@ -1,4 +1,6 @@
 // Standard input, chunk by chunk. What is answered is written before the next read.
+use crate::answers::LINE;
+use crate::answers::RECORD_ROOM;
 use crate::answers::answer;
 use crate::answers::answer_lines;
 use input::joins::Joined;
@@ -7,20 +9,16 @@ use libc::STDIN_FILENO;
 use libc::STDOUT_FILENO;
 use lines::ends::keep;
 use rules::MESSAGE_BYTES;
-use rules::RECORD_WORDS;
-ghost use Prim.Native.Nat.{_≤_};
+ghost use Prim.Native.Nat.{_*_, _≤_};
 ghost use mathlib.Core.Path.{_≡_};
 ghost use lib.ListN.{length};
-ghost use Rattle.windosprio.specs.Program.{Room, KeptIn};
+ghost use Rattle.windosprio.specs.Program.{record-room, longest-line, Room, KeptIn};
 
 // A byte more than the limit, so that a longer message is seen to be longer.
 const CARRY: usize = MESSAGE_BYTES + 1;
 
-// 4,096 records.
-const RECORD_ROOM: usize = 4096 * RECORD_WORDS;
-
-// More than the longest answer line.
-const OUT: usize = 262144;
+// Room for answers: twice the longest line.
+const OUT: usize = 2 * LINE;
 
 // How many bytes are kept of a line that goes on; or standard output can't be written.
 enum Turn {
@@ -149,13 +147,13 @@ fn take_all(
 
 // The room for records, and that for answers.
 fn record_room() -> [u32; RECORD_ROOM]
-    ensures { λ r. ⌜ 16384 ≡ length r ⌝ }
+    ensures { λ r. ⌜ record-room ≡ length r ⌝ }
 {
     [0; RECORD_ROOM]
 }
 
 fn out_room() -> [u8; OUT]
-    ensures { λ r. ⌜ 262144 ≡ length r ⌝ }
+    ensures { λ r. ⌜ 2 * longest-line ≡ length r ⌝ }
 {
     [0; OUT]
 }

@@ -5,14 +5,14 @@ use mathlib.Core.Path.{_≡_, refl, sym, _∙_}
 use mathlib.Core.Logic.{inl, inr}
 use lib.ListN.{length}
 use borrow.Author.Needs.{needs}
-use Rattle.windosprio.specs.Program.{Done}
+use Rattle.windosprio.specs.Program.{record-room, Done}
 use Rattle.windosprio.proofs.ProgramLaws.{done-begin, done-on}
 use Rattle.windosprio.proofs.answers.answer_lines.Statement.{statement}
 use Rattle.windosprio.proofs.answers.answer_lines.Tie as tie
 
 abbrev Inv-loop : tie.InvT-loop
 Inv-loop table schema s from records₀ out₀ i₀ at₀ records out i at =
-    (from ≤ i) × (i ≤ length s) × (at ≤ length out) × (length records ≡ length records₀) × (length out ≡ length out₀) × (length records ≤ 16384)
+    (from ≤ i) × (i ≤ length s) × (at ≤ length out) × (length records ≡ length records₀) × (length out ≡ length out₀) × (length records ≤ record-room)
     × Done schema table (length records₀) s from out₀ out i at
 
 abbrev μ-loop : tie.MeasureT-loop

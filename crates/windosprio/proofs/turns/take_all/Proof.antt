@@ -5,11 +5,12 @@ use mathlib.Core.Path.{_≡_, refl, _∙_}
 use lib.ListN.{length}
 use Rattle.windosprio.proofs.ProgramLaws.{kept-in}
 use borrow.Author.Needs.{needs}
+use Rattle.windosprio.specs.Program.{record-room, longest-line}
 use Rattle.windosprio.proofs.turns.take_all.Statement.{statement}
 use Rattle.windosprio.proofs.turns.take_all.Tie as tie
 
 abbrev Inv-loop : tie.InvT-loop
-Inv-loop table schema chunk₀ carry₀ records₀ out₀ kept₀ turns₀ chunk carry records out kept turns = (kept ≤ length carry) × (length chunk ≡ length chunk₀) × (length carry ≡ length carry₀) × (length records ≡ length records₀) × (length out ≡ length out₀) × (length records ≤ 16384) × (180287 ≤ length out)
+Inv-loop table schema chunk₀ carry₀ records₀ out₀ kept₀ turns₀ chunk carry records out kept turns = (kept ≤ length carry) × (length chunk ≡ length chunk₀) × (length carry ≡ length carry₀) × (length records ≡ length records₀) × (length out ≡ length out₀) × (length records ≤ record-room) × (longest-line ≤ length out)
 
 abbrev μ-loop : tie.MeasureT-loop
 μ-loop table schema chunk₀ carry₀ records₀ out₀ kept₀ turns₀ chunk carry records out kept turns = turns

@@ -4,11 +4,12 @@ use native.Mathlib.Omega.{arith}
 use mathlib.Core.Path.{_≡_, refl, _∙_}
 use lib.ListN.{length}
 use borrow.Author.Needs.{needs}
+use Rattle.windosprio.specs.Program.{record-room, longest-line}
 use Rattle.windosprio.proofs.turns.take_lines.Statement.{statement}
 use Rattle.windosprio.proofs.turns.take_lines.Tie as tie
 
 abbrev Inv-loop : tie.InvT-loop
-Inv-loop table schema chunk from carry₀ records₀ out₀ i₀ carry records out i = (i ≤ length chunk) × (length carry ≡ length carry₀) × (length records ≡ length records₀) × (length out ≡ length out₀) × (length records ≤ 16384) × (180287 ≤ length out)
+Inv-loop table schema chunk from carry₀ records₀ out₀ i₀ carry records out i = (i ≤ length chunk) × (length carry ≡ length carry₀) × (length records ≡ length records₀) × (length out ≡ length out₀) × (length records ≤ record-room) × (longest-line ≤ length out)
 
 abbrev μ-loop : tie.MeasureT-loop
 μ-loop table schema chunk from carry₀ records₀ out₀ i₀ carry records out i = length chunk - i
