@@ -1,12 +1,12 @@
 // The first line of a view: an answer in words.
 use crate::shown::put_bytes;
 use crate::shown::put_shown;
-use crate::types::name_at;
 use lines::numbers::put_number;
 use rules::MessageAnswer;
 use rules::MessageRefusal;
 use rules::SchemaAnswer;
 use rules::SchemaRefusal;
+use table::names::name_of;
 ghost use Prim.Native.Nat.{_+_, _≤_};
 ghost use lib.ListN.{length};
 ghost use Rattle.rules.specs.SchemaAnswers as Schemas;
@@ -25,15 +25,19 @@ fn put_schema_refusal(x: SchemaRefusal, out: &mut [u8], at: usize) -> usize
         SchemaRefusal::NotDefinitions => put_bytes(
             out,
             at,
-            b"4 a definition has a key or a value that its kind does not allow\n",
+            b"4 not a definition: a kind, a key or a value is missing or not known\n",
         ),
         SchemaRefusal::BadName => put_bytes(out, at, b"5 a name that is defined is no good name\n"),
-        SchemaRefusal::RepeatedName => put_bytes(out, at, b"6 a name is defined twice\n"),
+        SchemaRefusal::RepeatedName => put_bytes(
+            out,
+            at,
+            b"6 a name is defined twice, or is that of a built-in type\n",
+        ),
         SchemaRefusal::UnknownName => put_bytes(out, at, b"7 a name refers to nothing that fits\n"),
         SchemaRefusal::BadChain => put_bytes(
             out,
             at,
-            b"8 a chain of bases is too long or repeats a member\n",
+            b"8 a chain of bases has a cycle, over 16 structs or a member twice\n",
         ),
         SchemaRefusal::BadUnion => put_bytes(
             out,
@@ -133,7 +137,7 @@ fn put_command(schema: &[u8], table: &[u32], row: usize, out: &mut [u8], at: usi
     ensures { λ r. ⌜ Puts (commandLine (now (schema .entry)) (now (table .entry)) row) at (now (out .entry)) (now (out .exit)) r ⌝ }
 {
     let p = put_bytes(out, at, b"0 ");
-    let q = put_shown(out, p, name_at(schema, table, row));
+    let q = put_shown(out, p, name_of(schema, table, row));
     put_bytes(out, q, b"\n")
 }
 

@@ -2,15 +2,14 @@
 use crate::shown::put_bytes;
 use crate::shown::put_shown;
 use rules::FIRST_ROW;
+use table::names::name_of;
 use table::rows::wide;
 use table::rows::word;
-use viewer::records::part_of;
 ghost use mathlib.Core.Path.{_≡_};
 ghost use Prim.Native.Nat.{_+_, _-_, _≤_, _<_};
 ghost use mathlib.Core.List.{[]};
 ghost use lib.ListN.{length, take, drop, getD};
 ghost use Rattle.lines.specs.Text.{Puts};
-ghost use Rattle.rules.specs.Rows.{nameOf};
 ghost use Rattle.views.specs.Typing.{builtInNames, rowName, typeName, typeText};
 
 fn put_part(out: &mut [u8], at: usize, text: &[u8], from: usize, to: usize) -> usize
@@ -34,21 +33,12 @@ fn put_built_in(t: usize, out: &mut [u8], at: usize) -> usize
     put_part(out, at, names, from, to)
 }
 
-// The name of row r in the schema's bytes.
-pub fn name_at<'a>(schema: &'a [u8], table: &[u32], r: usize) -> &'a [u8]
-    ensures { λ n. ⌜ now n ≡ nameOf (now (schema .entry)) (now (table .entry)) r ⌝ }
-{
-    let start = wide(word(table, r, 1));
-    let size = wide(word(table, r, 2));
-    part_of(schema, start, start + size)
-}
-
 fn put_row(schema: &[u8], table: &[u32], r: usize, out: &mut [u8], at: usize) -> usize
     requires { ⌜ at + 255 ≤ length (now out) ⌝ }
     ensures { λ p. ⌜ Puts (rowName (now (schema .entry)) (now (table .entry)) r) at (now (out .entry)) (now (out .exit)) p ⌝ }
     ensures { λ p. ⌜ p ≤ at + 255 ⌝ }
 {
-    let name = name_at(schema, table, r);
+    let name = name_of(schema, table, r);
     if name.len() != 0 {
         return put_shown(out, at, name);
     }

@@ -4,6 +4,7 @@ use gateway::numbers::message_records;
 use gateway::numbers::message_row;
 use gateway::numbers::schema_number;
 use gateway::numbers::schema_rows;
+use input::lent::RECORD_ROOM;
 use input::lent::words_of;
 use lines::ends::line_end;
 use lines::numbers::put_line;
@@ -15,9 +16,6 @@ ghost use Prim.Native.Nat.{_+_, _≤_};
 ghost use lib.ListN.{length};
 ghost use Rattle.lines.specs.Text.{Puts};
 ghost use Rattle.windosprio.specs.Program.{record-room, longest-line, schemaLine, messageLine, Answers};
-
-// 4,096 records.
-pub const RECORD_ROOM: usize = 4096 * RECORD_WORDS;
 
 // The longest line: three numbers of at most 20 digits, then words of at most 10, a byte after each.
 pub const LINE: usize = 63 + 11 * RECORD_ROOM;

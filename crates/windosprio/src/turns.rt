@@ -1,21 +1,18 @@
 // Standard input, chunk by chunk. What is answered is written before the next read.
 use crate::answers::LINE;
-use crate::answers::RECORD_ROOM;
 use crate::answers::answer;
 use crate::answers::answer_lines;
 use input::joins::Joined;
 use input::joins::join_line;
+use input::lent::LINE_ROOM;
+use input::lent::RECORD_ROOM;
 use libc::STDIN_FILENO;
 use libc::STDOUT_FILENO;
 use lines::ends::keep;
-use rules::MESSAGE_BYTES;
 ghost use Prim.Native.Nat.{_*_, _≤_};
 ghost use mathlib.Core.Path.{_≡_};
 ghost use lib.ListN.{length};
 ghost use Rattle.windosprio.specs.Program.{record-room, longest-line, Room, KeptIn};
-
-// A byte more than the limit, so that a longer message is seen to be longer.
-const CARRY: usize = MESSAGE_BYTES + 1;
 
 // Room for answers: twice the longest line.
 const OUT: usize = 2 * LINE;
@@ -160,7 +157,7 @@ fn out_room() -> [u8; OUT]
 
 pub fn serve(table: &[u32], schema: &[u8]) {
     let mut chunk = io::large_buffer();
-    let mut carry = [0u8; CARRY];
+    let mut carry = [0u8; LINE_ROOM];
     let mut records = record_room();
     let mut out = out_room();
     take_all(

@@ -4,19 +4,14 @@ mod turns;
 use crate::turns::serve;
 use input::files::Read;
 use input::files::read_all;
+use input::lent::SCHEMA_ROOM;
+use input::lent::TABLE_ROOM;
 use input::lent::words_of;
 use libc::STDOUT_FILENO;
 use rules::ROW_WORDS;
-use rules::SCHEMA_BYTES;
 use rules::SchemaAnswer;
-use rules::TABLE_ROWS;
 use schema::compile::compile_schema;
 use views::heads::put_schema_head;
-
-// A byte more than the limit, so that a longer schema is seen to be longer.
-const SCHEMA_ROOM: usize = SCHEMA_BYTES + 1;
-
-const TABLE_WORDS: usize = TABLE_ROWS * ROW_WORDS;
 
 // Shows the messages where the schema was accepted and its line could be written.
 fn with_answer(answer: SchemaAnswer, schema: &[u8], rows: &[u32]) {
@@ -35,7 +30,7 @@ fn with_answer(answer: SchemaAnswer, schema: &[u8], rows: &[u32]) {
 }
 
 fn with_schema(schema: &[u8]) {
-    let mut rows = [0u32; TABLE_WORDS];
+    let mut rows = [0u32; TABLE_ROOM];
     let answer = compile_schema(schema, &mut rows);
     with_answer(answer, schema, &rows);
 }

@@ -2,11 +2,12 @@
 use gateway::numbers::message_records;
 use input::joins::Joined;
 use input::joins::join_line;
+use input::lent::LINE_ROOM;
+use input::lent::RECORD_ROOM;
 use input::lent::words_of;
 use libc::STDIN_FILENO;
 use libc::STDOUT_FILENO;
 use message::check::check_message;
-use rules::MESSAGE_BYTES;
 use rules::RECORD_WORDS;
 use views::heads::put_message_head;
 use views::tree::put_tree;
@@ -14,12 +15,6 @@ ghost use Prim.Native.Nat.{_≤_};
 ghost use mathlib.Core.Path.{_≡_};
 ghost use lib.ListN.{length};
 ghost use Rattle.windosprio_view.specs.Program.{KeptIn};
-
-// A byte more than the limit, so that a longer message is seen to be longer.
-const CARRY: usize = MESSAGE_BYTES + 1;
-
-// 4,096 records.
-const RECORD_ROOM: usize = 4096 * RECORD_WORDS;
 
 // Room for many lines of a tree.
 const OUT: usize = 65536;
@@ -169,7 +164,7 @@ fn out_room() -> [u8; OUT]
 
 pub fn serve(table: &[u32], schema: &[u8]) {
     let mut chunk = io::large_buffer();
-    let mut carry = [0u8; CARRY];
+    let mut carry = [0u8; LINE_ROOM];
     let mut records = [0u32; RECORD_ROOM];
     let mut out = out_room();
     take_all(

@@ -10,8 +10,8 @@ slice-aggregate-put-bytes c = search needs
 put-bytes-requires : tie.Need-put-bytes-requires
 put-bytes-requires c κs = search needs
 
-name-at-requires : tie.Need-name-at-requires
-name-at-requires c κs = search needs
+name-of-requires : tie.Need-name-of-requires
+name-of-requires c κs = search needs
 
 put-shown-requires : tie.Need-put-shown-requires
 put-shown-requires c κs = search needs
@@ -26,7 +26,7 @@ same-length : tie.Need-same-length
 same-length c = search needs
 
 returns : tie.Need-returns
-returns c = puts-command (c .before .before .before .before .before .before .before .before .before .before .before .before .before .before .before .before .before .before .args .schema .now) (c .before .before .before .before .before .before .before .before .before .before .before .before .before .before .before .before .before .before .args .table .now) (c .before .before .before .before .before .before .before .before .before .before .before .before .before .before .before .before .before .before .args .row) (c .before .before .before .before .before .before .before .before .name-at .ensures) (c .before .before .before .before .before .before .before .before .before .before .before .before .put-bytes .ensures) (c .before .before .before .before .before .before .before .put-shown .ensures .0) (c .before .before .put-bytes2 .ensures)
+returns c = puts-command (c .before .before .before .before .before .before .before .before .before .before .before .before .before .before .before .before .before .before .args .schema .now) (c .before .before .before .before .before .before .before .before .before .before .before .before .before .before .before .before .before .before .args .table .now) (c .before .before .before .before .before .before .before .before .before .before .before .before .before .before .before .before .before .before .args .row) (c .before .before .before .before .before .before .before .before .name-of .ensures) (c .before .before .before .before .before .before .before .before .before .before .before .before .put-bytes .ensures) (c .before .before .before .before .before .before .before .put-shown .ensures .0) (c .before .before .put-bytes2 .ensures)
 
 pub put-command-spec : {M : Type 1} → statement M
 put-command-spec =
@@ -34,7 +34,7 @@ put-command-spec =
     (tie.spec
     slice-aggregate-put-bytes
     put-bytes-requires
-    name-at-requires
+    name-of-requires
     put-shown-requires
     slice-aggregate-put-bytes-2
     put-bytes-requires-2
