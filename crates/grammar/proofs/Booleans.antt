@@ -1,6 +1,7 @@
--- What a test says: cases by a test's outcome, and what `within` says of numbers.
+-- What a test says: cases by a test's outcome, what `within` says of numbers, and that the least of two is no greater.
 -- Every lemma goes by the outcome of the tests in it.
-use Prim.Native.Nat.{ℕ, _≤_, _<_}
+use Prim.Native.Nat.{ℕ, _≤_, _<_, min}
+use native.Mathlib.Nat.{min-eq-left, min-eq-right, le-of-lt}
 use native.Mathlib.Omega.{arith}
 use mathlib.Core.Path.{_≡_, refl}
 use mathlib.Core.Bool.{Bool, true, false, cond, _&&_, _||_}
@@ -31,6 +32,13 @@ either false y f g e = g e
 pub both : (x y : Bool) → (x && y) ≡ true → (x ≡ true) × (y ≡ true)
 both true y e = (refl, e)
 both false y e = clash e refl
+
+pub min-right : (a b : ℕ) → min a b ≤ b
+min-right a b = go (leb a b) refl
+  where
+    go : (t : Bool) → leb a b ≡ t → min a b ≤ b
+    go true h = omega (arith, min-eq-left (leb-true a b h), leb-true a b h)
+    go false h = omega (arith, min-eq-right (le-of-lt (leb-false a b h)))
 
 pub within-true : (a e b : ℕ) → within a e b ≡ true → (a ≤ b) × (b ≤ e)
 within-true a e b t = let h = both (leb a b) (leb b e) t in (leb-true a b (h .0), leb-true b e (h .1))

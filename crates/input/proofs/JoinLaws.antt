@@ -9,6 +9,7 @@ use lib.Dec.{leb}
 use lib.ListN.{length, take, drop, length-drop}
 use lib.Seq.{take-all}
 use borrow.Author.Tests.{leb-true, leb-false}
+use Rattle.grammar.proofs.Booleans.{min-right}
 use Rattle.lines.specs.Text.{put}
 use Rattle.lines.specs.Lines.{beforeLF, LineEnd}
 use Rattle.lines.proofs.TextLaws.{put-length}
@@ -53,10 +54,6 @@ kept-bytes (suc kept) more (x ∷ room) h =
     ap (λ (n : ℕ). take (min n (suc (length room))) (x ∷ put kept more room)) e ∙ ap (λ (n : ℕ). take n (x ∷ put kept more room)) (min-suc (kept + length more) (length room))
     ∙ ap (λ (l : List ℕ). x ∷ l) (kept-bytes kept more room (omega arith))
 
-least-right : (a b : ℕ) (t : Bool) → leb a b ≡ t → min a b ≤ b
-least-right a b true h = omega (arith, min-eq-left (leb-true a b h), leb-true a b h)
-least-right a b false h = omega (arith, min-eq-right (le-of-lt (leb-false a b h)))
-
 pub holds : (room : List ℕ) (kept : ℕ) (chunk : List ℕ) (from : ℕ) {e size : ℕ} {new : List ℕ} → kept ≤ length room → LineEnd chunk from e → new ≡ put kept (take (e - from) (drop from chunk)) room
     → size ≡ min (kept + length (take (e - from) (drop from chunk))) (length room) → Holds room kept chunk from new size
 unfolding lineSoFar
@@ -65,7 +62,7 @@ holds room kept chunk from {e} {size} {new} h l p q =
     let more = take (e - from) (drop from chunk) in
     record {
       bytes = ap (λ (n : ℕ). take n new) q ∙ ap (λ (w : List ℕ). take (min (kept + length more) (length room)) w) p ∙ kept-bytes kept more room h ∙ ap (λ (n : ℕ). take (length room) (take kept room ++ take n (drop from chunk))) f;
-      within = omega (arith, q, least-right (kept + length more) (length room) (leb (kept + length more) (length room)) refl, ap length p, put-length kept more room);
+      within = omega (arith, q, min-right (kept + length more) (length room), ap length p, put-length kept more room);
     }
 
 -- ---- what a caller knows of a line joined
@@ -80,7 +77,7 @@ module _ (room : List ℕ) (kept : ℕ) (chunk : List ℕ) (from : ℕ) (new : L
   line-on e = let h = subst (Joins room kept chunk from new) e j in (omega (arith, h .1), h .2)
 
 -- ---- over two reads
-cut-again : (n : ℕ) (a b : List ℕ) → take n (take n a ++ b) ≡ take n (a ++ b)
+pub cut-again : (n : ℕ) (a b : List ℕ) → take n (take n a ++ b) ≡ take n (a ++ b)
 cut-again zero a b = refl
 cut-again (suc n) [] b = refl
 cut-again (suc n) (x ∷ a) b = ap (λ (l : List ℕ). x ∷ l) (cut-again n a b)

@@ -10,6 +10,7 @@ use lib.Dec.{leb}
 use borrow.Author.Tests.{leb-true, leb-false}
 use lib.ListN.{length, take, drop, getD, length-drop}
 use lib.Seq.{drop-cons, take-all}
+use Rattle.grammar.proofs.Booleans.{min-right}
 use Rattle.viewer.specs.declared.records.Seen.{Seen}
 use Rattle.viewer.specs.declared.records.Seen.the-variants.{Record, Nothing}
 use Rattle.viewer.specs.Seeing.{firstSeen, seenAt, placeFrom, placeAfter, partOf}
@@ -68,13 +69,9 @@ start-cut m start to from false h l e =
     let q : to - start ≡ 0 = omega arith in
     ap (λ (n : ℕ). take n (drop from m)) p ∙ ap (λ (n : ℕ). take n (drop start m)) (sym q)
 
-min-right : (a b : ℕ) (t : Bool) → leb a b ≡ t → min a b ≤ b
-min-right a b true h = omega (arith, min-eq-left (leb-true a b h), leb-true a b h)
-min-right a b false h = omega (arith, min-eq-right (le-of-lt (leb-false a b h)))
-
 -- the part with both places cut to the message
 pub part-within : (m : List ℕ) (start end : ℕ) {to from : ℕ} → to ≡ min end (length m) → from ≡ min start to → take (to - from) (drop from m) ≡ partOf m start end
 unfolding partOf
 part-within m start end {to} {from} e f =
-    let l : to ≤ length m = omega (arith, e, min-right end (length m) (leb end (length m)) refl) in
+    let l : to ≤ length m = omega (arith, e, min-right end (length m)) in
     start-cut m start to from (leb start to) refl l f ∙ end-cut m start end to (leb end (length m)) refl e

@@ -8,9 +8,11 @@ use Rattle.grammar.specs.Lexis.{blank}
 use Rattle.rules.specs.Rows.{nameOf}
 use Rattle.viewer.specs.Seeing.{seenAt, placeAfter, partOf}
 use Rattle.views.specs.Escapes.{shown, shownBytes, shownByte}
-use Rattle.views.specs.Labelling.{back, skipBlanks, evenSlashes, quoteFirst, keyBack, keyBefore, before, labelText}
+use Rattle.views.specs.Backwards.{back, before}
+use Rattle.views.specs.Nesting.{stillOpen, opened}
+use Rattle.views.specs.Labelling.{skipBlanks, evenSlashes, quoteFirst, keyBack, keyBefore, labelText}
 use Rattle.views.specs.Typing.{rowName, typeName, typeText}
-use Rattle.views.specs.TreeText.{openBefore, indentText, valueText, leftText, rightText, lineAt, linesOf, linesFrom}
+use Rattle.views.specs.TreeText.{indentText, valueText, leftText, rightText, lineAt, openThen, linesOf, linesFrom}
 
 -- P1: the schema's bytes that the rows name, its table, the message and its records
 schema : List ℕ
@@ -22,8 +24,8 @@ rows = 9 ∷ 12 ∷ 8 ∷ 2 ∷ 0 ∷ 0 ∷ 0 ∷ 0 ∷ 3 ∷ 0 ∷ 0 ∷ 1 ∷ 
 message : List ℕ
 message = text "{\"execute\":\"stop-lot\",\"arguments\":{\"lot\":\"007\"}}"
 
-p1 : linesFrom schema rows message (34 ∷ 47 ∷ 17 ∷ 0 ∷ 41 ∷ 46 ∷ 1 ∷ 0 ∷ []) 0 ≡ text "  arguments: (inline) = {\"lot\":\"007\"}" ++ (10 ∷ (text "    lot: str = \"007\"" ++ (10 ∷ [])))
-unfolding schema rows message nameOf blank seenAt placeAfter partOf shown shownBytes shownByte back skipBlanks evenSlashes quoteFirst keyBack keyBefore labelText rowName typeName typeText openBefore indentText valueText leftText rightText lineAt linesOf linesFrom
+p1 : linesFrom schema rows message (34 ∷ 47 ∷ 17 ∷ 0 ∷ 41 ∷ 46 ∷ 1 ∷ 0 ∷ []) 2 0 [] ≡ text "  arguments: (inline) = {\"lot\":\"007\"}" ++ (10 ∷ (text "    lot: str = \"007\"" ++ (10 ∷ [])))
+unfolding schema rows message nameOf blank seenAt placeAfter partOf shown shownBytes shownByte back skipBlanks evenSlashes quoteFirst keyBack keyBefore labelText rowName typeName typeText stillOpen opened indentText valueText leftText rightText lineAt openThen linesOf linesFrom
 p1 = refl
 
 -- bytes outside 0x20 to 0x7E, and a text of 64 bytes
@@ -47,6 +49,6 @@ unfolding schema rows nameOf shown shownBytes shownByte rowName typeName typeTex
 types = (refl, refl, refl, refl)
 
 -- records that do not nest, of no message: each line still ends, indented by those that end after its start
-tangled : linesFrom [] [] [] (5 ∷ 9 ∷ 0 ∷ 0 ∷ 7 ∷ 3 ∷ 0 ∷ 0 ∷ 1 ∷ 2 ∷ []) 0 ≡ text "  arguments: (none) = (absent)" ++ (10 ∷ (text "    -: (none) = (absent)" ++ (10 ∷ [])))
-unfolding nameOf blank seenAt placeAfter partOf shown shownBytes shownByte back skipBlanks evenSlashes quoteFirst keyBack keyBefore labelText rowName typeName typeText openBefore indentText valueText leftText rightText lineAt linesOf linesFrom
+tangled : linesFrom [] [] [] (5 ∷ 9 ∷ 0 ∷ 0 ∷ 7 ∷ 3 ∷ 0 ∷ 0 ∷ 1 ∷ 2 ∷ []) 2 0 [] ≡ text "  arguments: (none) = (absent)" ++ (10 ∷ (text "    -: (none) = (absent)" ++ (10 ∷ [])))
+unfolding nameOf blank seenAt placeAfter partOf shown shownBytes shownByte back skipBlanks evenSlashes quoteFirst keyBack keyBefore labelText rowName typeName typeText stillOpen opened indentText valueText leftText rightText lineAt openThen linesOf linesFrom
 tangled = refl

@@ -1,6 +1,5 @@
 -- A key looked for backwards, byte by byte; and which records are alternatives.
 use Prim.Native.Nat.{ℕ, zero, suc, _+_, _-_, _*_, _≤_, _<_, min}
-use native.Mathlib.Nat.{not-suc-le-zero}
 use native.Mathlib.Omega.{arith}
 use mathlib.Core.Path.{_≡_, refl, sym, ap, _∙_, subst}
 use mathlib.Core.Bool.{Bool, true, false, cond, not, _&&_}
@@ -21,18 +20,9 @@ use Rattle.views.specs.declared.labels.Label.{Label}
 use Rattle.views.specs.declared.labels.Label.the-variants.{Key, Element}
 use Rattle.viewer.specs.Seeing.{seenAt, partOf}
 use Rattle.views.specs.Escapes.{shown}
-use Rattle.views.specs.Labelling.{back, skipBlanks, evenSlashes, quoteFirst, keyBack, behindMark, closedKey, behindColon, keyBefore, before, backAt, MarkIn, keyAt, keyText, alternateRef, ofAlternate, labelText}
-
--- the byte before a place, and those before it
-pub back-at : (m : List ℕ) (i : ℕ) → 0 < i → back m i ≡ getD m (i - 1) 0 ∷ back m (i - 1)
-unfolding back
-back-at m zero h = absurd (not-suc-le-zero h)
-back-at m (suc i) h = let e : i ≡ suc i - 1 = omega arith in ap (λ (k : ℕ). getD m k 0 ∷ back m k) e
-
-back-start : (m : List ℕ) (i : ℕ) → i ≤ 0 → back m i ≡ []
-unfolding back
-back-start m zero h = refl
-back-start m (suc i) h = absurd (not-suc-le-zero h)
+use Rattle.views.specs.Backwards.{back, before}
+use Rattle.views.specs.Labelling.{skipBlanks, evenSlashes, quoteFirst, keyBack, behindMark, closedKey, behindColon, keyBefore, backAt, MarkIn, keyAt, keyText, alternateRef, ofAlternate, labelText}
+use Rattle.views.proofs.BackLaws.{back-at, back-start}
 
 not-zero : (i : ℕ) → (i ≡ 0 → ⊥) → 0 < i
 not-zero zero h = absurd (h refl)

@@ -1,7 +1,9 @@
--- In the order of the argument: text, labels, types, the tree, and the first lines.
+-- In the order of the argument: text, labels, types, open records, the tree, and the first lines.
 pub mod ShownLaws
+pub mod BackLaws
 pub mod LabelLaws
 pub mod TypeLaws
+pub mod NestLaws
 pub mod TreeLaws
 pub mod HeadLaws
 pub mod Printable

@@ -9,6 +9,7 @@ use mathlib.Core.Option.{Option, none, some}
 use lib.Dec.{eqb, ltb}
 use lib.ListN.{length, take, getD, replicate}
 use Rattle.grammar.specs.Notation.{text, all}
+use Rattle.grammar.proofs.Booleans.{both}
 use Rattle.rules.specs.declared.MessageAnswer.{MessageAnswer}
 use Rattle.rules.specs.declared.MessageAnswer.the-variants as MA
 use Rattle.rules.specs.declared.MessageRefusal.the-variants as M
@@ -18,9 +19,11 @@ use Rattle.viewer.specs.declared.records.Seen.{Seen}
 use Rattle.viewer.specs.declared.records.Seen.the-variants.{Record, Nothing}
 use Rattle.viewer.specs.Seeing.{seenAt, placeAfter, partOf}
 use Rattle.views.specs.Escapes.{printable, hexDigit, hexByte, shownByte, shownBytes, shown}
-use Rattle.views.specs.Labelling.{keyBefore, before, keyText, ofAlternate, labelText}
+use Rattle.views.specs.Backwards.{before}
+use Rattle.views.specs.Nesting.{stillOpen}
+use Rattle.views.specs.Labelling.{keyBefore, keyText, ofAlternate, labelText}
 use Rattle.views.specs.Typing.{builtInNames, rowText, rowName, typeName, typeText}
-use Rattle.views.specs.TreeText.{openBefore, indentText, valueShown, valueText, leftText, rightText, recordLine, lineAt, linesOf, linesFrom}
+use Rattle.views.specs.TreeText.{indentText, valueShown, valueText, leftText, rightText, recordLine, lineAt, openThen, linesOf, linesFrom}
 use Rattle.views.specs.Meanings.{refusedLine, commandLine, messageHead}
 use Rattle.views.proofs.TypeLaws.{every}
 
@@ -28,28 +31,19 @@ use Rattle.views.proofs.TypeLaws.{every}
 abbrev pub clean : ℕ → Bool
 clean b = printable b || eqb b 10
 
-both : (a b : Bool) → a ≡ true → b ≡ true → a && b ≡ true
-both true true p q = refl
-both true false p q = q
-both false b p q = p
+holds-both : (a b : Bool) → a ≡ true → b ≡ true → a && b ≡ true
+holds-both true true p q = refl
+holds-both true false p q = q
+holds-both false b p q = p
 
 or-left : (a b : Bool) → a ≡ true → a || b ≡ true
 or-left true b p = refl
 or-left false true p = refl
 or-left false false p = p
 
-left-of : (a b : Bool) → a && b ≡ true → a ≡ true
-left-of true b p = refl
-left-of false b p = p
-
-right-of : (a b : Bool) → a && b ≡ true → b ≡ true
-right-of true b p = p
-right-of false true p = refl
-right-of false false p = p
-
 joined : (xs ys : List ℕ) → all clean xs ≡ true → all clean ys ≡ true → all clean (xs ++ ys) ≡ true
 joined [] ys p q = q
-joined (x ∷ xs) ys p q = both (clean x) (all clean (xs ++ ys)) (left-of (clean x) (all clean xs) p) (joined xs ys (right-of (clean x) (all clean xs) p) q)
+joined (x ∷ xs) ys p q = holds-both (clean x) (all clean (xs ++ ys)) (both (clean x) (all clean xs) p .0) (joined xs ys (both (clean x) (all clean xs) p .1) q)
 
 -- a byte as it is shown
 abbrev Digit : ℕ → Type 0
@@ -59,10 +53,10 @@ digit : (d : ℕ) → d < 16 → Digit d
 digit d h = every Digit 16 ((((((((((((((((tt, refl), refl), refl), refl), refl), refl), refl), refl), refl), refl), refl), refl), refl), refl), refl), refl) d h
 
 hex-clean : (b : ℕ) → all clean (hexByte b) ≡ true
-hex-clean b = both (clean (hexDigit (b / 16 % 16))) (clean (hexDigit (b % 16)) && true) (digit (b / 16 % 16) (omega arith)) (both (clean (hexDigit (b % 16))) true (digit (b % 16) (omega arith)) refl)
+hex-clean b = holds-both (clean (hexDigit (b / 16 % 16))) (clean (hexDigit (b % 16)) && true) (digit (b / 16 % 16) (omega arith)) (holds-both (clean (hexDigit (b % 16))) true (digit (b % 16) (omega arith)) refl)
 
 by-printable : (b : ℕ) (t : Bool) → printable b ≡ t → all clean (cond t (b ∷ []) (hexByte b)) ≡ true
-by-printable b true e = both (clean b) true (or-left (printable b) (eqb b 10) e) refl
+by-printable b true e = holds-both (clean b) true (or-left (printable b) (eqb b 10) e) refl
 by-printable b false e = hex-clean b
 
 byte-clean : (b : ℕ) → all clean (shownByte b) ≡ true
@@ -103,8 +97,8 @@ row-clean t (b ∷ n) = shown-clean (b ∷ n)
 
 name-in : (ns : List (List ℕ)) (t : ℕ) → all (all clean) ns ≡ true → all clean (getD ns t []) ≡ true
 name-in [] t p = refl
-name-in (n ∷ ns) zero p = left-of (all clean n) (all (all clean) ns) p
-name-in (n ∷ ns) (suc t) p = name-in ns t (right-of (all clean n) (all (all clean) ns) p)
+name-in (n ∷ ns) zero p = both (all clean n) (all (all clean) ns) p .0
+name-in (n ∷ ns) (suc t) p = name-in ns t (both (all clean n) (all (all clean) ns) p .1)
 
 by-row : (S T : List ℕ) (t r : ℕ) (b : Bool) → all clean (elim b [ true ↦ getD builtInNames t [] | false ↦ rowName S T r ]) ≡ true
 unfolding rowName
@@ -129,10 +123,10 @@ spaces-clean zero = refl
 spaces-clean (suc n) = spaces-clean n
 
 -- lines
-module _ (S T m ws : List ℕ) where
-  left-clean : (n a : ℕ) → all clean (leftText T m ws n a) ≡ true
+module _ (S T m ws : List ℕ) (room : ℕ) where
+  left-clean : (n a k : ℕ) → all clean (leftText T m ws n a k) ≡ true
   unfolding leftText indentText
-  left-clean n a = joined (indentText (openBefore ws n a)) (labelText T m ws n a) (spaces-clean (2 * (1 + min (openBefore ws n a) 80))) (label-clean T m ws n a)
+  left-clean n a k = joined (indentText k) (labelText T m ws n a) (spaces-clean (2 * (1 + min k 80))) (label-clean T m ws n a)
 
   right-clean : (a e t f : ℕ) → all clean (rightText S T m a e t f) ≡ true
   unfolding rightText valueText
@@ -141,19 +135,19 @@ module _ (S T m ws : List ℕ) where
       let y : List ℕ = text " = " ++ z in
       joined (text ": ") (typeText S T t f ++ y) refl (joined (typeText S T t f) y (type-clean S T t f) (joined (text " = ") z refl (joined (valueText m a e) (10 ∷ []) (value-clean (partOf m a e)) refl)))
 
-  line-clean : (n : ℕ) (s : Seen) → all clean (recordLine S T m ws n s) ≡ true
-  line-clean n Nothing = refl
-  line-clean n (Record a e t f) = joined (leftText T m ws n a) (rightText S T m a e t f) (left-clean n a) (right-clean a e t f)
+  line-clean : (n : ℕ) (es : List ℕ) (s : Seen) → all clean (recordLine S T m ws room n es s) ≡ true
+  line-clean n es Nothing = refl
+  line-clean n es (Record a e t f) = joined (leftText T m ws n a (length (stillOpen a es))) (rightText S T m a e t f) (left-clean n a (length (stillOpen a es))) (right-clean a e t f)
 
-  lines-clean : (k n : ℕ) → all clean (linesOf S T m ws k n) ≡ true
+  lines-clean : (k n : ℕ) (es : List ℕ) → all clean (linesOf S T m ws room k n es) ≡ true
   unfolding linesOf lineAt
-  lines-clean zero n = refl
-  lines-clean (suc k) n = joined (lineAt S T m ws n) (linesOf S T m ws k (placeAfter ws n)) (line-clean n (seenAt ws n)) (lines-clean k (placeAfter ws n))
+  lines-clean zero n es = refl
+  lines-clean (suc k) n es = joined (lineAt S T m ws room n es) (linesOf S T m ws room k (placeAfter ws n) (openThen S T m ws room n es)) (line-clean n es (seenAt ws n)) (lines-clean k (placeAfter ws n) (openThen S T m ws room n es))
 
   -- every line of a tree
-  pub tree-clean : (n : ℕ) → all clean (linesFrom S T m ws n) ≡ true
+  pub tree-clean : (n : ℕ) (es : List ℕ) → all clean (linesFrom S T m ws room n es) ≡ true
   unfolding linesFrom
-  tree-clean n = lines-clean (length ws / 4 - n) n
+  tree-clean n es = lines-clean (length ws / 4 - n) n es
 
 -- and the first line of a message's view
 pub head-clean : (S T : List ℕ) (a : MessageAnswer) → all clean (messageHead S T a) ≡ true

@@ -1,6 +1,5 @@
--- Lines of a tree: open records, spaces, and one line after another.
+-- Lines of a tree: spaces, and one line after another.
 use Prim.Native.Nat.{ℕ, zero, suc, _+_, _-_, _*_, _/_, _≤_, _<_, min}
-use native.Mathlib.Nat.{min-eq-left, min-eq-right, le-of-lt}
 use native.Mathlib.Numerals.{add-one}
 use native.Mathlib.Omega.{arith}
 use mathlib.Core.Path.{_≡_, refl, sym, ap, _∙_, subst}
@@ -12,32 +11,19 @@ use borrow.Author.Tests.{lt-ltb, le-ltb, leb-true, leb-false}
 use Rattle.lines.specs.Text.{Puts}
 use Rattle.lines.proofs.TextLaws.{puts-as, puts-on, puts-one, puts-none, put-none}
 use Rattle.grammar.specs.Notation.{text}
+use Rattle.grammar.proofs.Booleans.{min-right}
 use Rattle.viewer.specs.declared.records.Seen.{Seen}
 use Rattle.viewer.specs.declared.records.Seen.the-variants.{Record, Nothing}
 use Rattle.viewer.specs.declared.reader.Step.{Step}
 use Rattle.viewer.specs.Seeing.{seenAt, placeFrom, placeAfter, stepAt, partOf}
 use Rattle.views.specs.Escapes.{shown}
+use Rattle.views.specs.Backwards.{back, before}
+use Rattle.views.specs.Nesting.{stillOpen, opened, openAfter}
 use Rattle.views.specs.Labelling.{labelText}
 use Rattle.views.specs.Typing.{typeText}
-use Rattle.views.specs.TreeText.{endSeen, openAt, openBefore, indentText, valueShown, valueText, leftText, rightText, recordLine, lineAt, linesOf, linesFrom, One, Shown}
+use Rattle.views.specs.TreeText.{indentText, valueShown, valueText, leftText, rightText, recordLine, lineAt, openThen, linesOf, linesFrom, One, Shown}
 use Rattle.viewer.proofs.SeeingLaws.{after-whole, after-end}
-
-pub is-open-so : (ws : List ℕ) (n start : ℕ) {e : ℕ} → e ≡ endSeen (seenAt ws n) → start < e → 1 ≡ openAt ws n start
-is-open-so ws n start e h = ap (λ (t : Bool). cond t 1 0) (sym (lt-ltb start (endSeen (seenAt ws n)) (omega (arith, e, h))))
-
-pub is-shut-so : (ws : List ℕ) (n start : ℕ) {e : ℕ} → e ≡ endSeen (seenAt ws n) → e ≤ start → 0 ≡ openAt ws n start
-is-shut-so ws n start e h = ap (λ (t : Bool). cond t 1 0) (sym (le-ltb start (endSeen (seenAt ws n)) (omega (arith, e, h))))
-
-pub open-none : (ws : List ℕ) (start : ℕ) → 0 ≡ openBefore ws 0 start
-unfolding openBefore
-open-none ws start = refl
-
-pub open-on : (ws : List ℕ) (i start : ℕ) {k o : ℕ} → k ≡ openBefore ws i start → o ≡ openAt ws i start → k + o ≡ openBefore ws (i + 1) start
-unfolding openBefore
-open-on ws i start {k} {o} e f = ap (λ (x : ℕ). x + o) e ∙ ap (λ (x : ℕ). openBefore ws i start + x) f ∙ ap (λ (n : ℕ). openBefore ws n start) (sym (add-one i))
-
-pub open-all : (ws : List ℕ) (start : ℕ) {i n k : ℕ} → i ≡ n → k ≡ openBefore ws i start → k ≡ openBefore ws n start
-open-all ws start e f = f ∙ ap (λ (x : ℕ). openBefore ws x start) e
+use Rattle.views.proofs.BackLaws.{back-length}
 
 -- spaces
 abbrev space : ℕ
@@ -58,15 +44,11 @@ spaces-on i at {old} {mid} a h =
 pub spaces-all : (i n : ℕ) {at r : ℕ} {old new : List ℕ} → i ≡ n → Puts (replicate i space) at old new r → Puts (replicate n space) at old new r
 spaces-all i n e a = puts-as (ap (λ (k : ℕ). replicate k space) e) a
 
-least-deep : (k : ℕ) (t : Bool) → leb k 80 ≡ t → min k 80 ≤ 80
-least-deep k true h = omega (arith, min-eq-left (leb-true k 80 h), leb-true k 80 h)
-least-deep k false h = omega (arith, min-eq-right (le-of-lt (leb-false k 80 h)))
-
 pub puts-indent : (k : ℕ) {d at r : ℕ} {old new : List ℕ} → d ≡ min k 80 → Puts (replicate (2 * (1 + d)) space) at old new r → Puts (indentText k) at old new r × (r ≤ at + 162)
 unfolding indentText
 puts-indent k {d} e x = (
   puts-as (ap (λ (i : ℕ). replicate (2 * (1 + i)) space) e) x,
-  omega (arith, e, least-deep k (leb k 80) refl, x .after, length-replicate (2 * (1 + d)) space),
+  omega (arith, e, min-right k 80, x .after, length-replicate (2 * (1 + d)) space),
 )
 
 -- the text of a value
@@ -88,32 +70,46 @@ module _ (m : List ℕ) (start end : ℕ) {v old new : List ℕ} {at r : ℕ} (e
   value-there h x = puts-as (some-text v h ∙ ap valueShown e) x
 
 -- one record's line
-pub puts-left : (T m ws : List ℕ) (n start : ℕ) {k at p r : ℕ} {old mid new : List ℕ} → k ≡ openBefore ws n start → Puts (indentText k) at old mid p → Puts (labelText T m ws n start) p mid new r → Puts (leftText T m ws n start) at old new r
+pub puts-left : (T m ws : List ℕ) (n start k : ℕ) {at p r : ℕ} {old mid new : List ℕ} → Puts (indentText k) at old mid p → Puts (labelText T m ws n start) p mid new r → Puts (leftText T m ws n start k) at old new r
 unfolding leftText
-puts-left T m ws n start e x y = puts-on (puts-as (ap indentText e) x) y
+puts-left T m ws n start k x y = puts-on x y
 
 pub puts-right : (S T m : List ℕ) (a e t f : ℕ) {at i j k l r : ℕ} {o₀ o₁ o₂ o₃ o₄ o₅ : List ℕ} → Puts (text ": ") at o₀ o₁ i → Puts (typeText S T t f) i o₁ o₂ j → Puts (text " = ") j o₂ o₃ k → Puts (valueText m a e) k o₃ o₄ l → Puts (10 ∷ []) l o₄ o₅ r
     → Puts (rightText S T m a e t f) at o₀ o₅ r
 unfolding rightText
 puts-right S T m a e t f x y z u v = puts-on x (puts-on y (puts-on z (puts-on u v)))
 
-module _ (S T m ws : List ℕ) where
-  module _ (n : ℕ) {s : Step} (q : s ≡ stepAt ws n) where
+pub one-room : (S T m ws : List ℕ) {room room′ n at next r : ℕ} {es es′ old new : List ℕ} → room′ ≡ room → One S T m ws room′ n es at old new next es′ r → One S T m ws room n es at old new next es′ r
+one-room S T m ws {n = n} {at} {next} {r} {es} {es′} {old} {new} e o = subst (λ k. One S T m ws k n es at old new next es′ r) e o
+
+module _ (S T m ws : List ℕ) (room : ℕ) where
+  module _ (n : ℕ) (es : List ℕ) {s : Step} (q : s ≡ stepAt ws n) where
     moved-on : {next : ℕ} → next ≡ s .next → next ≡ placeAfter ws n
     moved-on w = w ∙ ap (λ (x : Step). x .next) q
 
-    line-is : (z : Seen) → z ≡ s .seen → recordLine S T m ws n z ≡ lineAt S T m ws n
+    seen-is : {z : Seen} → z ≡ s .seen → z ≡ seenAt ws n
+    seen-is e = e ∙ ap (λ (x : Step). x .seen) q
+
+    line-is : {z y : Seen} → z ≡ s .seen → z ≡ y → recordLine S T m ws room n es y ≡ lineAt S T m ws room n es
     unfolding lineAt
-    line-is z e = ap (recordLine S T m ws n) (e ∙ ap (λ (x : Step). x .seen) q)
+    line-is e f = ap (recordLine S T m ws room n es) (sym f ∙ seen-is e)
 
-    pub one-none : {z : Seen} {at next : ℕ} {old : List ℕ} → next ≡ s .next → z ≡ s .seen → z ≡ Nothing → at ≤ length old → One S T m ws n at old old next at
-    one-none {z} w e f h = record { puts = puts-as (ap (recordLine S T m ws n) (sym f) ∙ line-is z e) (puts-none h); moves = moved-on w }
+    open-is : {z y : Seen} → z ≡ s .seen → z ≡ y → openAfter room y es ≡ openThen S T m ws room n es
+    unfolding openThen
+    open-is e f = ap (λ (x : Seen). openAfter room x es) (sym f ∙ seen-is e)
 
-    pub one-line : {z : Seen} {a e t f b c at p r next : ℕ} {old mid new : List ℕ} → next ≡ s .next → z ≡ s .seen → z ≡ Record a e t f → b ≡ a → c ≡ e → Puts (leftText T m ws n b) at old mid p → Puts (rightText S T m b c t f) p mid new r → One S T m ws n at old new next r
-    one-line {z} {a} {e} {t} {f} {b} {c} w g h i j x y = record {
-      puts = puts-as (ap (λ (k : ℕ). leftText T m ws n k ++ rightText S T m k c t f) i ∙ ap (λ (k : ℕ). leftText T m ws n a ++ rightText S T m a k t f) j ∙ ap (recordLine S T m ws n) (sym h) ∙ line-is z g) (puts-on x y);
-      moves = moved-on w;
-    }
+    pub one-none : {z : Seen} {at next : ℕ} {old : List ℕ} → next ≡ s .next → z ≡ s .seen → z ≡ Nothing → at ≤ length old → One S T m ws room n es at old old next es at
+    one-none w e f h = record { puts = puts-as (line-is e f) (puts-none h); moves = moved-on w; opens = open-is e f }
+
+    pub one-line : (ends : List ℕ) (k : ℕ) {z : Seen} {a e t f b c at p r next : ℕ} {es′ old mid new : List ℕ} → next ≡ s .next → z ≡ s .seen → z ≡ Record a e t f → b ≡ a → c ≡ e → back ends k ≡ stillOpen b es → Puts (leftText T m ws n b k) at old mid p → Puts (rightText S T m b c t f) p mid new r
+        → es′ ≡ opened room e (back ends k) → One S T m ws room n es at old new next es′ r
+    one-line ends k {a = a} {e} {t} {f} {b} {c} w g h i j o x y v =
+        let u : back ends k ≡ stillOpen a es = o ∙ ap (λ (z : ℕ). stillOpen z es) i in
+        record {
+          puts = puts-as (ap (λ (z : ℕ). leftText T m ws n z k ++ rightText S T m z c t f) i ∙ ap (λ (z : ℕ). leftText T m ws n a k ++ rightText S T m a z t f) j ∙ ap (λ (z : ℕ). leftText T m ws n a z ++ rightText S T m a e t f) (sym (back-length ends k) ∙ ap length u) ∙ line-is g h) (puts-on x y);
+          moves = moved-on w;
+          opens = v ∙ ap (opened room e) u ∙ open-is g h;
+        }
 
   -- the lines from a place on: one record more, or the end
   whole-left : (n : ℕ) → (placeAfter ws n ≡ n → ⊥) → n < length ws / 4
@@ -126,25 +122,26 @@ module _ (S T m ws : List ℕ) where
   pub next-above : (n : ℕ) {k : ℕ} → k ≡ placeAfter ws n → (k ≡ n → ⊥) → (n < length ws / 4) × (k ≡ n + 1)
   next-above n e h = let l = whole-left n (λ p. h (e ∙ p)) in (l, e ∙ sym (after-whole ws n l))
 
-  lines-on : (n : ℕ) → n < length ws / 4 → linesFrom S T m ws n ≡ lineAt S T m ws n ++ linesFrom S T m ws (n + 1)
+  lines-on : (n : ℕ) (es : List ℕ) → n < length ws / 4 → linesFrom S T m ws room n es ≡ lineAt S T m ws room n es ++ linesFrom S T m ws room (n + 1) (openThen S T m ws room n es)
   unfolding linesFrom linesOf
-  lines-on n h =
+  lines-on n es h =
       let w = length ws / 4 in
       let f : w - n ≡ suc (w - (n + 1)) = omega arith in
-      ap (λ (k : ℕ). linesOf S T m ws k n) f ∙ ap (λ (k : ℕ). lineAt S T m ws n ++ linesOf S T m ws (w - (n + 1)) k) (sym (after-whole ws n h))
+      ap (λ (k : ℕ). linesOf S T m ws room k n es) f ∙ ap (λ (k : ℕ). lineAt S T m ws room n es ++ linesOf S T m ws room (w - (n + 1)) k (openThen S T m ws room n es)) (sym (after-whole ws n h))
 
-  pub shown-begin : (from : ℕ) (out : List ℕ) → Shown S T m ws from out out from 0
-  shown-begin from out = record { lines = []; puts = puts-none (omega arith); splits = refl }
+  pub shown-begin : (from : ℕ) (es out : List ℕ) → Shown S T m ws room from es out out from es 0
+  shown-begin from es out = record { lines = []; puts = puts-none (omega arith); splits = refl }
 
-  pub shown-on : {from i at next r : ℕ} {old mid new : List ℕ} → Shown S T m ws from old mid i at → One S T m ws i at mid new next r → (next ≡ i → ⊥) → Shown S T m ws from old new next r
-  shown-on {i = i} {next = next} s o h =
+  pub shown-on : {from i at next r : ℕ} {es es₁ es₂ old mid new : List ℕ} → Shown S T m ws room from es old mid i es₁ at → One S T m ws room i es₁ at mid new next es₂ r → (next ≡ i → ⊥) → Shown S T m ws room from es old new next es₂ r
+  shown-on {i = i} {next = next} {es₁ = es₁} s o h =
       let l = next-above i (o .moves) h in
       record {
-        lines = s .lines ++ lineAt S T m ws i;
+        lines = s .lines ++ lineAt S T m ws room i es₁;
         puts = puts-on (s .puts) (o .puts);
         splits =
-            s .splits ∙ ap (λ (t : List ℕ). s .lines ++ t) (lines-on i (l .0)) ∙ sym (append-assoc (s .lines) (lineAt S T m ws i) (linesFrom S T m ws (i + 1)))
-            ∙ ap (λ (k : ℕ). (s .lines ++ lineAt S T m ws i) ++ linesFrom S T m ws k) (sym (l .1));
+            s .splits ∙ ap (λ (t : List ℕ). s .lines ++ t) (lines-on i es₁ (l .0)) ∙ sym (append-assoc (s .lines) (lineAt S T m ws room i es₁) (linesFrom S T m ws room (i + 1) (openThen S T m ws room i es₁)))
+            ∙ ap (λ (k : ℕ). (s .lines ++ lineAt S T m ws room i es₁) ++ linesFrom S T m ws room k (openThen S T m ws room i es₁)) (sym (l .1))
+            ∙ ap (λ (x : List ℕ). (s .lines ++ lineAt S T m ws room i es₁) ++ linesFrom S T m ws room next x) (sym (o .opens));
       }
 
   -- where the place stays nothing is seen, and nothing more is put
@@ -156,13 +153,19 @@ module _ (S T m ws : List ℕ) where
   unfolding placeAfter
   at-end {i} e f = ends-so i (seenAt ws i) (sym e ∙ f)
 
-  nothing-put : (i : ℕ) → seenAt ws i ≡ Nothing → lineAt S T m ws i ≡ []
+  nothing-put : (i : ℕ) (es : List ℕ) → seenAt ws i ≡ Nothing → lineAt S T m ws room i es ≡ []
   unfolding lineAt
-  nothing-put i e = ap (recordLine S T m ws i) e
+  nothing-put i es e = ap (recordLine S T m ws room i es) e
 
-  pub shown-stays : {from i at next r : ℕ} {old mid new : List ℕ} → Shown S T m ws from old mid i at → One S T m ws i at mid new next r → next ≡ i → Shown S T m ws from old new i r
-  shown-stays {i = i} s o h = record {
-    lines = s .lines;
-    puts = puts-as (ap (λ (t : List ℕ). s .lines ++ t) (nothing-put i (at-end (o .moves) h)) ∙ append-nil (s .lines)) (puts-on (s .puts) (o .puts));
-    splits = s .splits;
-  }
+  nothing-opened : (i : ℕ) (es : List ℕ) → seenAt ws i ≡ Nothing → openThen S T m ws room i es ≡ es
+  unfolding openThen
+  nothing-opened i es e = ap (λ (x : Seen). openAfter room x es) e
+
+  pub shown-stays : {from i at next r : ℕ} {es es₁ es₂ old mid new : List ℕ} → Shown S T m ws room from es old mid i es₁ at → One S T m ws room i es₁ at mid new next es₂ r → next ≡ i → Shown S T m ws room from es old new i es₂ r
+  shown-stays {i = i} {es₁ = es₁} s o h =
+      let z = at-end (o .moves) h in
+      record {
+        lines = s .lines;
+        puts = puts-as (ap (λ (t : List ℕ). s .lines ++ t) (nothing-put i es₁ z) ∙ append-nil (s .lines)) (puts-on (s .puts) (o .puts));
+        splits = s .splits ∙ ap (λ (x : List ℕ). s .lines ++ linesFrom S T m ws room i x) (sym (o .opens ∙ nothing-opened i es₁ z));
+      }

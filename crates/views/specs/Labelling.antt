@@ -1,10 +1,9 @@
 -- What a record is called: the key before its value, as it is written, or what it is of the record before it.
-use Prim.Native.Nat.{ℕ, zero, suc, _-_, _<_, min}
+use Prim.Native.Nat.{ℕ, zero, suc, _-_, _<_}
 use mathlib.Core.Bool.{Bool, true, false, cond, not, _&&_}
 use mathlib.Core.List.{List, [], _∷_}
 use mathlib.Core.Option.{Option, none, some}
 use lib.Dec.{eqb, leb}
-use lib.ListN.{length, getD}
 use Rattle.grammar.specs.Limits.{first-row}
 use Rattle.grammar.specs.Notation.{text}
 use Rattle.grammar.specs.Lexis.{blank}
@@ -16,13 +15,10 @@ use Rattle.views.specs.declared.labels.Mark.the-variants.{At, Missing}
 use Rattle.views.specs.declared.labels.Label.{Label}
 use Rattle.views.specs.declared.labels.Label.the-variants.{Key, Element}
 use Rattle.viewer.specs.Seeing.{seenAt, partOf}
+use Rattle.views.specs.Backwards.{back, before}
 use Rattle.views.specs.Escapes.{shown}
 
--- the bytes before a place, the nearest first
-unfoldable pub back : List ℕ → ℕ → List ℕ
-back m zero = []
-back m (suc i) = getD m i 0 ∷ back m i
-
+-- bytes before a value, the nearest first
 unfoldable pub skipBlanks : List ℕ → List ℕ
 skipBlanks [] = []
 skipBlanks (b ∷ l) = elim (blank b) [ true ↦ skipBlanks l | false ↦ b ∷ l ]
@@ -58,10 +54,6 @@ behindColon (some l) = closedKey (behindMark 34 (skipBlanks l))
 -- the key that stands before a value, if one does: a string and a colon
 unfoldable pub keyBefore : List ℕ → Option (List ℕ)
 keyBefore l = behindColon (behindMark 58 (skipBlanks l))
-
--- the bytes before the value that starts there
-abbrev pub before : List ℕ → ℕ → List ℕ
-before m start = back m (min start (length m))
 
 -- what the code found: the place of a mark, and the key's place in the message
 abbrev pub backAt : List ℕ → Mark → Option (List ℕ)

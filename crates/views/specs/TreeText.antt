@@ -1,10 +1,8 @@
 -- The records of a message as a tree: a line each, indented by the records that are open around it.
 use Prim.Native.Nat.{ℕ, zero, suc, _+_, _-_, _*_, _/_, _≤_, _<_, min}
-use mathlib.Core.Bool.{cond}
 use mathlib.Core.Logic.{_⊎_}
 use mathlib.Core.Path.{_≡_}
 use mathlib.Core.List.{List, [], _∷_, _++_}
-use lib.Dec.{ltb}
 use lib.ListN.{length, replicate}
 use Rattle.grammar.specs.Limits.{record-words}
 use Rattle.grammar.specs.Notation.{text}
@@ -13,22 +11,9 @@ use Rattle.viewer.specs.declared.records.Seen.{Seen}
 use Rattle.viewer.specs.declared.records.Seen.the-variants.{Record, Nothing}
 use Rattle.viewer.specs.Seeing.{seenAt, placeAfter, partOf}
 use Rattle.views.specs.Escapes.{shown}
+use Rattle.views.specs.Nesting.{stillOpen, openAfter}
 use Rattle.views.specs.Labelling.{labelText}
 use Rattle.views.specs.Typing.{typeText}
-
--- the end that is seen; 0 where nothing is
-abbrev pub endSeen : Seen → ℕ
-endSeen (Record a e t f) = e
-endSeen Nothing = 0
-
--- 1 if the record number n ends after a start: it is open there
-abbrev pub openAt : List ℕ → ℕ → ℕ → ℕ
-openAt ws n start = cond (ltb start (endSeen (seenAt ws n))) 1 0
-
--- how many of the first n records are open at a start
-unfoldable pub openBefore : List ℕ → ℕ → ℕ → ℕ
-openBefore ws zero start = 0
-openBefore ws (suc n) start = openBefore ws n start + openAt ws n start
 
 -- more than 80 open records indent no further; an accepted message has fewer
 abbrev pub deepest : ℕ
@@ -45,44 +30,48 @@ valueShown (b ∷ l) = shown (b ∷ l)
 unfoldable pub valueText : List ℕ → ℕ → ℕ → List ℕ
 valueText m start end = valueShown (partOf m start end)
 
--- the line of the record number n: its label, then its type and its text
-unfoldable pub leftText : List ℕ → List ℕ → List ℕ → ℕ → ℕ → List ℕ
-leftText T m ws n a = indentText (openBefore ws n a) ++ labelText T m ws n a
+-- the line of the record number n, within k records: its label, then its type and its text
+unfoldable pub leftText : List ℕ → List ℕ → List ℕ → ℕ → ℕ → ℕ → List ℕ
+leftText T m ws n a k = indentText k ++ labelText T m ws n a
 
 unfoldable pub rightText : List ℕ → List ℕ → List ℕ → ℕ → ℕ → ℕ → ℕ → List ℕ
 rightText S T m a e t f = text ": " ++ (typeText S T t f ++ (text " = " ++ (valueText m a e ++ (10 ∷ []))))
 
--- over a schema, its table, a message and its record words
-module _ (S T m ws : List ℕ) where
-  abbrev pub recordLine : ℕ → Seen → List ℕ
-  recordLine n Nothing = []
-  recordLine n (Record a e t f) = leftText T m ws n a ++ rightText S T m a e t f
+-- over a schema, its table, a message, its record words and the room for ends; at a place within open records
+module _ (S T m ws : List ℕ) (room : ℕ) where
+  abbrev pub recordLine : ℕ → List ℕ → Seen → List ℕ
+  recordLine n es Nothing = []
+  recordLine n es (Record a e t f) = leftText T m ws n a (length (stillOpen a es)) ++ rightText S T m a e t f
 
-  unfoldable pub lineAt : ℕ → List ℕ
-  lineAt n = recordLine n (seenAt ws n)
+  unfoldable pub lineAt : ℕ → List ℕ → List ℕ
+  lineAt n es = recordLine n es (seenAt ws n)
+
+  unfoldable pub openThen : ℕ → List ℕ → List ℕ
+  openThen n es = openAfter room (seenAt ws n) es
 
   -- the lines of so many asks, from a place on
-  unfoldable pub linesOf : ℕ → ℕ → List ℕ
-  linesOf zero n = []
-  linesOf (suc k) n = lineAt n ++ linesOf k (placeAfter ws n)
+  unfoldable pub linesOf : ℕ → ℕ → List ℕ → List ℕ
+  linesOf zero n es = []
+  linesOf (suc k) n es = lineAt n es ++ linesOf k (placeAfter ws n) (openThen n es)
 
   -- the lines of all records from a place on
-  unfoldable pub linesFrom : ℕ → List ℕ
-  linesFrom n = linesOf (length ws / record-words - n) n
+  unfoldable pub linesFrom : ℕ → List ℕ → List ℕ
+  linesFrom n es = linesOf (length ws / record-words - n) n es
 
-  -- one ask: the line is put, and the place is the next
-  pub record One (n at : ℕ) (old new : List ℕ) (next r : ℕ) : Type 0 where
-    pub puts : Puts (lineAt n) at old new r
+  -- one ask: the line is put, the place is the next, and the record is open
+  pub record One (n : ℕ) (es : List ℕ) (at : ℕ) (old new : List ℕ) (next : ℕ) (es′ : List ℕ) (r : ℕ) : Type 0 where
+    pub puts : Puts (lineAt n es) at old new r
     pub moves : next ≡ placeAfter ws n
+    pub opens : es′ ≡ openThen n es
 
   -- the lines from a place to the next are put, from the start of the room on
-  pub record Shown (from : ℕ) (old new : List ℕ) (next at : ℕ) : Type 0 where
+  pub record Shown (from : ℕ) (es : List ℕ) (old new : List ℕ) (next : ℕ) (es′ : List ℕ) (at : ℕ) : Type 0 where
     pub lines : List ℕ
     pub puts : Puts lines 0 old new at
-    pub splits : linesFrom from ≡ lines ++ linesFrom next
+    pub splits : linesFrom from es ≡ lines ++ linesFrom next es′
 
   -- and then there is nothing left, or no room for the longest line
-  pub record Tree (from : ℕ) (old new : List ℕ) (next at : ℕ) : Type 0 where
-    pub so-far : Shown from old new next at
+  pub record Tree (from : ℕ) (es : List ℕ) (old new : List ℕ) (next : ℕ) (es′ : List ℕ) (at : ℕ) : Type 0 where
+    pub so-far : Shown from es old new next es′ at
     pub within : at ≤ length new
     pub stops : (seenAt ws next ≡ Nothing) ⊎ (length old < at + 1024)

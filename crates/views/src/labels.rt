@@ -15,7 +15,8 @@ ghost use lib.ListN.{length, take, drop};
 ghost use Rattle.grammar.specs.Lexis.{blank};
 ghost use Rattle.lines.specs.Text.{Puts};
 ghost use Rattle.viewer.specs.Seeing.{seenAt};
-ghost use Rattle.views.specs.Labelling.{back, skipBlanks, evenSlashes, quoteFirst, keyBack, behindMark, backAt, MarkIn, keyBefore, before, keyAt, keyText, alternateRef, ofAlternate, labelText};
+ghost use Rattle.views.specs.Backwards.{back, before};
+ghost use Rattle.views.specs.Labelling.{skipBlanks, evenSlashes, quoteFirst, keyBack, behindMark, backAt, MarkIn, keyBefore, keyAt, keyText, alternateRef, ofAlternate, labelText};
 
 // Where a byte stands that is looked for.
 pub enum Mark {

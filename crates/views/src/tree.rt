@@ -1,4 +1,6 @@
 // The records of a message as lines of a tree, put into lent bytes.
+use crate::depth::open_record;
+use crate::depth::still_open;
 use crate::labels::put_label;
 use crate::shown::put_bytes;
 use crate::shown::put_shown;
@@ -8,57 +10,23 @@ use viewer::reader::ask;
 use viewer::records::Seen;
 use viewer::records::least;
 use viewer::records::part_of;
-use viewer::records::record_at;
-ghost use mathlib.Core.Path.{_≡_};
 ghost use Prim.Native.Nat.{_+_, _≤_};
 ghost use lib.ListN.{length, replicate};
 ghost use Rattle.lines.specs.Text.{Puts};
-ghost use Rattle.viewer.specs.Seeing.{seenAt};
-ghost use Rattle.views.specs.TreeText.{endSeen, openAt, openBefore, indentText, valueText, leftText, rightText, One, Tree};
+ghost use Rattle.views.specs.Backwards.{before};
+ghost use Rattle.views.specs.TreeText.{indentText, valueText, leftText, rightText, One, Tree};
 
 // More than the longest line.
 const LINE: usize = 1024;
 
-// More than the records that can be open in an accepted message.
+// The most levels that a line is indented by; the records of an accepted message have fewer.
 const DEEPEST: usize = 80;
 
-// The place to ask at next, and the place after the text.
+// The place to ask at next, how many records are open there, and the place after the text.
 pub struct Progress {
     pub next: usize,
+    pub around: usize,
     pub at: usize,
-}
-
-fn end_at(records: &[u32], n: usize) -> usize
-    ensures { λ r. ⌜ r ≡ endSeen (seenAt (now (records .entry)) n) ⌝ }
-{
-    match record_at(records, n) {
-        Seen::Record(_start, end, _reference, _array) => wide(end),
-        Seen::Nothing => 0,
-    }
-}
-
-// 1 if the record with a number ends after a start.
-fn is_open(records: &[u32], n: usize, start: usize) -> usize
-    ensures { λ r. ⌜ r ≡ openAt (now (records .entry)) n start ⌝ }
-    ensures { λ r. ⌜ r ≤ 1 ⌝ }
-{
-    if start < end_at(records, n) {
-        return 1;
-    }
-    0
-}
-
-// How many of the first n records are open at a start.
-fn open_before(records: &[u32], n: usize, start: usize) -> usize
-    ensures { λ r. ⌜ r ≡ openBefore (now (records .entry)) n start ⌝ }
-{
-    let mut i = 0;
-    let mut around = 0;
-    while i < n {
-        around += is_open(records, i, start);
-        i += 1;
-    }
-    around
 }
 
 fn put_spaces(out: &mut [u8], at: usize, count: usize) -> usize
@@ -100,14 +68,15 @@ fn put_left(
     records: &[u32],
     n: usize,
     start: usize,
+    around: usize,
     out: &mut [u8],
     at: usize,
 ) -> usize
     requires { ⌜ at + 417 ≤ length (now out) ⌝ }
-    ensures { λ r. ⌜ Puts (leftText (now (table .entry)) (now (message .entry)) (now (records .entry)) n start) at (now (out .entry)) (now (out .exit)) r ⌝ }
+    ensures { λ r. ⌜ Puts (leftText (now (table .entry)) (now (message .entry)) (now (records .entry)) n start around) at (now (out .entry)) (now (out .exit)) r ⌝ }
     ensures { λ r. ⌜ r ≤ at + 417 ⌝ }
 {
-    let p = put_indent(out, at, open_before(records, n, start));
+    let p = put_indent(out, at, around);
     put_label(table, message, records, n, start, out, p)
 }
 
@@ -133,27 +102,30 @@ fn put_right(
     put_bytes(out, d, b"\n")
 }
 
-// Asks at a place, and puts the line of the record seen.
+// Asks at a place, puts the line of the record seen within those around it, and opens that record.
 fn put_next(
     schema: &[u8],
     table: &[u32],
     message: &[u8],
     records: &[u32],
     n: usize,
+    ends: &mut [u32],
+    around: usize,
     out: &mut [u8],
     at: usize,
 ) -> Progress
     requires { ⌜ at + 1024 ≤ length (now out) ⌝ }
-    ensures { λ r. ⌜ One (now (schema .entry)) (now (table .entry)) (now (message .entry)) (now (records .entry)) n at (now (out .entry)) (now (out .exit)) (r .next) (r .at) ⌝ }
+    ensures { λ r. ⌜ One (now (schema .entry)) (now (table .entry)) (now (message .entry)) (now (records .entry)) (length (now (ends .entry))) n (before (now (ends .entry)) around) at (now (out .entry)) (now (out .exit)) (r .next) (before (now (ends .exit)) (r .around)) (r .at) ⌝ }
 {
     let step = ask(message, n, records);
     let seen = step.seen;
     let next = step.next;
     match seen {
-        Seen::Nothing => Progress { next, at },
+        Seen::Nothing => Progress { next, around, at },
         Seen::Record(start, end, reference, array) => {
             let a = wide(start);
-            let p = put_left(table, message, records, n, a, out, at);
+            let k = still_open(ends, around, a);
+            let p = put_left(table, message, records, n, a, k, out, at);
             let e = put_right(
                 schema,
                 table,
@@ -165,32 +137,49 @@ fn put_next(
                 out,
                 p,
             );
-            Progress { next, at: e }
+            let inside = open_record(ends, k, end);
+            Progress {
+                next,
+                around: inside,
+                at: e,
+            }
         }
     }
 }
 
-// The lines of the records from a place on, as long as there is room for a line.
+// The lines of the records from a place on, within the first `around` of the ends, as long as there is room for a line.
 pub fn put_tree(
     schema: &[u8],
     table: &[u32],
     message: &[u8],
     records: &[u32],
     from: usize,
+    ends: &mut [u32],
+    around: usize,
     out: &mut [u8],
 ) -> Progress
-    ensures { λ r. ⌜ Tree (now (schema .entry)) (now (table .entry)) (now (message .entry)) (now (records .entry)) from (now (out .entry)) (now (out .exit)) (r .next) (r .at) ⌝ }
+    ensures { λ r. ⌜ Tree (now (schema .entry)) (now (table .entry)) (now (message .entry)) (now (records .entry)) (length (now (ends .entry))) from (before (now (ends .entry)) around) (now (out .entry)) (now (out .exit)) (r .next) (before (now (ends .exit)) (r .around)) (r .at) ⌝ }
 {
     let mut i = from;
+    let mut k = around;
     let mut at = 0;
     while LINE <= out.len() - at {
-        let p = put_next(schema, table, message, records, i, out, at);
+        let p = put_next(schema, table, message, records, i, ends, k, out, at);
         let next = p.next;
+        k = p.around;
         at = p.at;
         if next == i {
-            return Progress { next: i, at };
+            return Progress {
+                next: i,
+                around: k,
+                at,
+            };
         }
         i = next;
     }
-    Progress { next: i, at }
+    Progress {
+        next: i,
+        around: k,
+        at,
+    }
 }

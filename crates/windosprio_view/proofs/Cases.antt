@@ -9,9 +9,11 @@ use Rattle.rules.specs.Answers.{messageResult}
 use Rattle.lines.specs.Text.{decimalText}
 use Rattle.viewer.specs.Seeing.{seenAt, placeAfter, partOf}
 use Rattle.views.specs.Escapes.{shown, shownBytes, shownByte}
-use Rattle.views.specs.Labelling.{back, skipBlanks, evenSlashes, quoteFirst, keyBack, keyBefore, labelText}
+use Rattle.views.specs.Backwards.{back}
+use Rattle.views.specs.Nesting.{stillOpen, opened}
+use Rattle.views.specs.Labelling.{skipBlanks, evenSlashes, quoteFirst, keyBack, keyBefore, labelText}
 use Rattle.views.specs.Typing.{rowName, typeName, typeText}
-use Rattle.views.specs.TreeText.{openBefore, indentText, valueText, leftText, rightText, lineAt, linesOf, linesFrom}
+use Rattle.views.specs.TreeText.{indentText, valueText, leftText, rightText, lineAt, openThen, linesOf, linesFrom}
 use Rattle.views.specs.Meanings.{refusedLine, commandLine}
 use Rattle.windosprio_view.specs.Program.{messageView}
 
@@ -23,7 +25,7 @@ rows = 9 ∷ 12 ∷ 8 ∷ 2 ∷ 0 ∷ 0 ∷ 0 ∷ 0 ∷ 3 ∷ 0 ∷ 0 ∷ 1 ∷ 
 
 p1 : messageView schema rows 9 (text "{\"execute\":\"stop-lot\",\"arguments\":{\"lot\":\"007\"}}")
     ≡ text "0 stop-lot" ++ (10 ∷ (text "  arguments: (inline) = {\"lot\":\"007\"}" ++ (10 ∷ (text "    lot: str = \"007\"" ++ (10 ∷ [])))))
-unfolding messageView messageResult schema rows nameOf blank seenAt placeAfter partOf shown shownBytes shownByte back skipBlanks evenSlashes quoteFirst keyBack keyBefore labelText rowName typeName typeText openBefore indentText valueText leftText rightText lineAt linesOf linesFrom commandLine
+unfolding messageView messageResult schema rows nameOf blank seenAt placeAfter partOf shown shownBytes shownByte back skipBlanks evenSlashes quoteFirst keyBack keyBefore labelText rowName typeName typeText stillOpen opened indentText valueText leftText rightText lineAt openThen linesOf linesFrom commandLine
 p1 = refl
 
 p2 : messageView schema rows 8 (text "{\"execute\":\"stop-lot\",\"arguments\":{\"lot\":7}}") ≡ text "29 the arguments have no reading at the command's types" ++ (10 ∷ [])

@@ -1,6 +1,6 @@
 -- What the program shows of each message, and what its functions promise each other.
 use Prim.Native.Nat.{ℕ, _*_, _≤_}
-use mathlib.Core.List.{List, _++_}
+use mathlib.Core.List.{List, [], _++_}
 use lib.ListN.{take}
 use Rattle.grammar.specs.Limits.{record-words}
 use Rattle.rules.specs.MessageAnswers.{answerRecords}
@@ -10,9 +10,9 @@ use Rattle.views.specs.TreeText.{linesFrom}
 use Rattle.windosprio_view.specs.declared.turns.Turn.{Turn}
 use Rattle.windosprio_view.specs.declared.turns.Turn.the-variants.{Kept, Stop}
 
--- the answer in words, then a line for each record counted
+-- the answer in words, then a line for each record counted; there is room for the ends of all
 abbrev pub resultView : List ℕ → List ℕ → List ℕ → MessageResult → List ℕ
-resultView S T m r = messageHead S T (r .answer) ++ linesFrom S T m (take (record-words * answerRecords (r .answer)) (r .words)) 0
+resultView S T m r = messageHead S T (r .answer) ++ linesFrom S T m (take (record-words * answerRecords (r .answer)) (r .words)) (answerRecords (r .answer)) 0 []
 
 -- over a schema, its table and the words lent for records
 unfoldable pub messageView : List ℕ → List ℕ → ℕ → List ℕ → List ℕ

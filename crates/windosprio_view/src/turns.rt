@@ -16,8 +16,10 @@ ghost use mathlib.Core.Path.{_≡_};
 ghost use lib.ListN.{length};
 ghost use Rattle.windosprio_view.specs.Program.{KeptIn};
 
-// Room for many lines of a tree.
+// Room for many lines of a tree, and for an end of each record.
 const OUT: usize = 65536;
+
+const ENDS: usize = RECORD_ROOM / RECORD_WORDS;
 
 // How many bytes are kept of a line that goes on; or standard output can't be written.
 enum Turn {
@@ -31,13 +33,16 @@ fn show_records(
     schema: &[u8],
     message: &[u8],
     records: &[u32],
+    ends: &mut [u32],
     out: &mut [u8],
 ) -> bool {
     let mut i = 0;
+    let mut around = 0;
     while i < records.len() {
-        let p = put_tree(schema, table, message, records, i, out);
+        let p = put_tree(schema, table, message, records, i, ends, around, out);
         let next = p.next;
         let at = p.at;
+        around = p.around;
         if !io::write_all(STDOUT_FILENO, &out[0..at]) {
             return false;
         }
@@ -47,6 +52,17 @@ fn show_records(
         i = next;
     }
     true
+}
+
+fn show_tree(
+    table: &[u32],
+    schema: &[u8],
+    message: &[u8],
+    records: &[u32],
+    out: &mut [u8],
+) -> bool {
+    let mut ends = [0u32; ENDS];
+    show_records(table, schema, message, records, &mut ends, out)
 }
 
 // Writes what a message says; answers whether it could be written.
@@ -59,7 +75,7 @@ fn show(table: &[u32], schema: &[u8], message: &[u8], records: &mut [u32], out: 
         return false;
     }
     let end = words_of(message_records(a), RECORD_WORDS, records.len());
-    show_records(table, schema, message, &records[0..end], out)
+    show_tree(table, schema, message, &records[0..end], out)
 }
 
 // The message in the first `kept` bytes.

@@ -2,7 +2,8 @@
 use Prim.Native.Nat.{_≤_}
 use native.Mathlib.Omega.{arith}
 use mathlib.Core.Path.{_≡_, refl}
-use Rattle.views.specs.Labelling.{back, skipBlanks}
+use Rattle.views.specs.Backwards.{back}
+use Rattle.views.specs.Labelling.{skipBlanks}
 use borrow.Author.Needs.{needs}
 use Rattle.views.proofs.LabelLaws.{skip-stop, skip-on, skip-end}
 use Rattle.views.proofs.labels.blanks_back.Statement.{statement}

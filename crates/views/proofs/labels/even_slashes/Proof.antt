@@ -2,7 +2,8 @@
 use Prim.Native.Nat.{_≤_}
 use native.Mathlib.Omega.{arith}
 use mathlib.Core.Path.{_≡_}
-use Rattle.views.specs.Labelling.{back, evenSlashes}
+use Rattle.views.specs.Backwards.{back}
+use Rattle.views.specs.Labelling.{evenSlashes}
 use borrow.Author.Needs.{needs}
 use Rattle.views.proofs.LabelLaws.{turned, even-begin, even-stop, even-on, even-end}
 use Rattle.views.proofs.labels.even_slashes.Statement.{statement}

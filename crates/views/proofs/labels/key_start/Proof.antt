@@ -3,7 +3,8 @@ use Prim.Native.Nat.{_≤_}
 use mathlib.Core.Path.{_≡_}
 use mathlib.Core.List.{[]}
 use native.Mathlib.Omega.{arith}
-use Rattle.views.specs.Labelling.{back, keyBack}
+use Rattle.views.specs.Backwards.{back}
+use Rattle.views.specs.Labelling.{keyBack}
 use Rattle.views.proofs.LabelLaws.{span, key-begin, key-stop, key-on, key-end}
 use borrow.Author.Needs.{needs}
 use Rattle.views.proofs.labels.key_start.Statement.{statement}

@@ -5,9 +5,6 @@ use borrow.Author.Needs.{needs}
 use Rattle.views.proofs.tree.put_left.Statement.{statement}
 use Rattle.views.proofs.tree.put_left.Tie as tie
 
-open-before-requires : tie.Need-open-before-requires
-open-before-requires c κs = search needs
-
 put-indent-requires : tie.Need-put-indent-requires
 put-indent-requires c κs = search needs
 
@@ -18,9 +15,11 @@ same-length : tie.Need-same-length
 same-length c = search needs
 
 returns : tie.Need-returns
-returns c = (puts-left (c .before .before .before .before .before .before .before .before .before .before .before .before .before .args .table .now) (c .before .before .before .before .before .before .before .before .before .before .before .before .before .args .message .now) (c .before .before .before .before .before .before .before .before .before .before .before .before .before .args .records .now) (c .before .before .before .before .before .before .before .before .before .before .before .before .before .args .n) (c .before .before .before .before .before .before .before .before .before .before .before .before .before .args .start) (c .before .before .before .before .before .before .before .open-before .ensures) (c .before .before .before .before .before .before .put-indent .ensures .0) (c .before .before .put-label .ensures .0), omega (arith, c .before .before .before .before .before .before .put-indent .ensures .1, c .before .before .put-label .ensures .1))
+returns c =
+    let a = c .before .before .before .before .before .before .before .before .before .before .before .before .args in
+    let i = c .before .before .before .before .before .before .put-indent .ensures in
+    let l = c .before .before .put-label .ensures in
+    (puts-left (a .table .now) (a .message .now) (a .records .now) (a .n) (a .start) (a .around) (i .0) (l .0), omega (arith, i .1, l .1))
 
 pub put-left-spec : {M : Type 1} → statement M
-put-left-spec =
-    tie.close
-    (tie.spec open-before-requires put-indent-requires put-label-requires same-length returns)
+put-left-spec = tie.close (tie.spec put-indent-requires put-label-requires same-length returns)

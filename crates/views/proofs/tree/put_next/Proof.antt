@@ -1,6 +1,8 @@
 -- `put_next` meets its contract, by what is seen.
 use native.Mathlib.Omega.{arith}
 use mathlib.Core.Path.{refl}
+use lib.ListN.{length}
+use Rattle.views.specs.Backwards.{before}
 use Rattle.views.proofs.TreeLaws.{one-none, one-line}
 use borrow.Author.Needs.{needs}
 use Rattle.views.proofs.tree.put_next.Statement.{statement}
@@ -18,6 +20,9 @@ enum-known-seen c = search needs
 wide-requires : tie.Need-wide-requires
 wide-requires c κs = search needs
 
+still-open-requires : tie.Need-still-open-requires
+still-open-requires c κs = search needs
+
 put-left-requires : tie.Need-put-left-requires
 put-left-requires c κs = search needs
 
@@ -27,14 +32,25 @@ wide-requires-2 c κs = search needs
 put-right-requires : tie.Need-put-right-requires
 put-right-requires c κs = search needs
 
+open-record-requires : tie.Need-open-record-requires
+open-record-requires c κs = search needs
+
 returns : tie.Need-returns
-returns c = one-none (c .before .before .before .before .before .before .before .before .args .schema .now) (c .before .before .before .before .before .before .before .before .args .table .now) (c .before .before .before .before .before .before .before .before .args .message .now) (c .before .before .before .before .before .before .before .before .args .records .now) (c .before .before .before .before .before .before .before .before .args .n) (c .before .before .ask .ensures) refl refl (c .enum-told .given .1) (omega (arith, c .before .before .before .before .before .before .before .before .pre))
+returns c =
+    let a = c .before .before .before .before .before .before .before .before .before .args in
+    one-none (a .schema .now) (a .table .now) (a .message .now) (a .records .now) (length (a .ends .now)) (a .n) (before (a .ends .now) (a .around)) (c .before .before .ask .ensures) refl refl (c .enum-told .given .1) (omega (arith, c .before .before .before .before .before .before .before .before .before .pre))
 
 same-length : tie.Need-same-length
 same-length c = search needs
 
+same-length-2 : tie.Need-same-length-2
+same-length-2 c = search needs
+
 returns-2 : tie.Need-returns-2
-returns-2 c = one-line (c .before .before .before .before .before .before .before .before .before .before .before .before .before .before .before .before .before .before .before .args .schema .now) (c .before .before .before .before .before .before .before .before .before .before .before .before .before .before .before .before .before .before .before .args .table .now) (c .before .before .before .before .before .before .before .before .before .before .before .before .before .before .before .before .before .before .before .args .message .now) (c .before .before .before .before .before .before .before .before .before .before .before .before .before .before .before .before .before .before .before .args .records .now) (c .before .before .before .before .before .before .before .before .before .before .before .before .before .before .before .before .before .before .before .args .n) (c .before .before .before .before .before .before .before .before .before .before .before .before .before .ask .ensures) refl refl (c .before .before .before .before .before .before .before .before .before .before .before .seen .given .1) (c .before .before .before .before .before .before .before .before .before .wide .ensures) (c .before .before .before .before .wide2 .ensures) (c .before .before .before .before .before .before .before .put-left .ensures .0) (c .before .before .put-right .ensures)
+returns-2 c =
+    let a = c .before .before .before .before .before .before .before .before .before .before .before .before .before .before .before .before .before .before .before .before .before .before .before .before .before .before .args in
+    one-line (a .schema .now) (a .table .now) (a .message .now) (a .records .now) (length (a .ends .now)) (a .n) (before (a .ends .now) (a .around)) (c .before .before .before .before .before .before .before .before .before .before .before .before .before .before .before .before .before .before .before .ask .ensures) (a .ends .now) (c .before .before .before .before .before .before .before .before .before .before .before .before .before .still-open .result) refl refl (c .before .before .before .before .before .before .before .before .before .before .before .before .before .before .before .before .before .seen .given .1) (c .before .before .before .before .before .before .before .before .before .before .before .before .before .before .before .wide .ensures) (c .before .before .before .before .before .before .before .before .wide2 .ensures)
+    (c .before .before .before .before .before .before .before .before .before .before .before .before .before .still-open .ensures .0) (c .before .before .before .before .before .before .before .before .before .before .before .put-left .ensures .0) (c .before .before .before .before .before .before .put-right .ensures) (c .before .before .open-record .ensures)
 
 pub put-next-spec : {M : Type 1} → statement M
 put-next-spec =
@@ -44,9 +60,12 @@ put-next-spec =
     enum-told
     enum-known-seen
     wide-requires
+    still-open-requires
     put-left-requires
     wide-requires-2
     put-right-requires
+    open-record-requires
     returns
     same-length
+    same-length-2
     returns-2)

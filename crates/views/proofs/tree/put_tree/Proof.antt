@@ -1,47 +1,69 @@
--- `put_tree` meets its contract. The invariant: the lines before i are put. The measure is the records left.
+-- `put_tree` meets its contract. The invariant: the lines before i are put, and the records open there are kept. The measure is the records left.
 use Prim.Native.Nat.{_-_, _/_, _≤_}
 use mathlib.Core.Path.{_≡_, refl}
 use mathlib.Core.Logic.{inl, inr}
 use lib.ListN.{length}
 use native.Mathlib.Omega.{arith}
+use Rattle.views.specs.Backwards.{before}
 use Rattle.views.specs.TreeText.{Shown}
-use Rattle.views.proofs.TreeLaws.{next-above, shown-begin, shown-on, shown-stays, at-end}
+use Rattle.views.proofs.TreeLaws.{one-room, next-above, shown-begin, shown-on, shown-stays, at-end}
 use borrow.Author.Needs.{needs}
 use Rattle.views.proofs.tree.put_tree.Statement.{statement}
 use Rattle.views.proofs.tree.put_tree.Tie as tie
 
 abbrev Inv-loop : tie.InvT-loop
-Inv-loop schema table message records from out₀ i₀ at₀ out i at = (at ≤ length out) × (length out ≡ length out₀) × Shown schema table message records from out₀ out i at
+Inv-loop schema table message records from ends₀ around out₀ i₀ k₀ at₀ ends out i k at = (at ≤ length out) × (length out ≡ length out₀) × (length ends ≡ length ends₀) × Shown schema table message records (length ends₀) from (before ends₀ around) out₀ out i (before ends k) at
 
 abbrev μ-loop : tie.MeasureT-loop
-μ-loop schema table message records from out₀ i₀ at₀ out i at = length records / 4 - i
+μ-loop schema table message records from ends₀ around out₀ i₀ k₀ at₀ ends out i k at = length records / 4 - i
 
 loop-holds : tie.Need-loop-holds Inv-loop μ-loop
-loop-holds c = (omega arith, refl, shown-begin (c .before .before .before .before .before .args .schema .now) (c .before .before .before .before .before .args .table .now) (c .before .before .before .before .before .args .message .now) (c .before .before .before .before .before .args .records .now) (c .before .before .before .before .before .args .from) (c .before .before .before .before .before .args .out .now))
+loop-holds c = let a = c .before .before .before .before .before .before .args in (omega arith, refl, refl, shown-begin (a .schema .now) (a .table .now) (a .message .now) (a .records .now) (length (a .ends .now)) (a .from) (before (a .ends .now) (a .around)) (a .out .now))
 
 sub-loop : tie.Need-sub-loop Inv-loop μ-loop
 sub-loop c = search needs
 
 put-next-requires : tie.Need-put-next-requires Inv-loop μ-loop
-put-next-requires c κs = omega (arith, c .before .before .loop .inv .0, c .before .loop-test .taken)
+put-next-requires c κs = omega (arith, c .before .before .before .loop .inv .0, c .before .before .loop-test .taken)
 
 same-length : tie.Need-same-length Inv-loop μ-loop
 same-length c = search needs
 
-returns : tie.Need-returns Inv-loop μ-loop
-returns c = record { so-far = shown-stays (c .before .before .before .before .before .before .before .before .before .before .before .before .args .schema .now) (c .before .before .before .before .before .before .before .before .before .before .before .before .args .table .now) (c .before .before .before .before .before .before .before .before .before .before .before .before .args .message .now) (c .before .before .before .before .before .before .before .before .before .before .before .before .args .records .now) (c .before .before .before .before .before .before .loop .inv .2) (c .before .before .before .put-next .ensures) (c .if1 .taken); within = c .before .before .before .put-next .ensures .puts .within; stops = inl (at-end (c .before .before .before .before .before .before .before .before .before .before .before .before .args .schema .now) (c .before .before .before .before .before .before .before .before .before .before .before .before .args .table .now) (c .before .before .before .before .before .before .before .before .before .before .before .before .args .message .now) (c .before .before .before .before .before .before .before .before .before .before .before .before .args .records .now) (c .before .before .before .put-next .ensures .moves) (c .if1 .taken)) }
-
-loop-less : tie.Need-loop-less Inv-loop μ-loop
-loop-less c = let k = next-above (c .before .before .before .before .before .before .before .before .before .before .before .before .args .schema .now) (c .before .before .before .before .before .before .before .before .before .before .before .before .args .table .now) (c .before .before .before .before .before .before .before .before .before .before .before .before .args .message .now) (c .before .before .before .before .before .before .before .before .before .before .before .before .args .records .now) (c .before .before .before .before .before .before .loop .i) (c .before .before .before .put-next .ensures .moves) (c .if1 .left) in omega (arith, k .0, k .1)
-
-loop-again : tie.Need-loop-again Inv-loop μ-loop
-loop-again c = (c .before .before .before .put-next .ensures .puts .within, search needs, shown-on (c .before .before .before .before .before .before .before .before .before .before .before .before .args .schema .now) (c .before .before .before .before .before .before .before .before .before .before .before .before .args .table .now) (c .before .before .before .before .before .before .before .before .before .before .before .before .args .message .now) (c .before .before .before .before .before .before .before .before .before .before .before .before .args .records .now) (c .before .before .before .before .before .before .loop .inv .2) (c .before .before .before .put-next .ensures) (c .if1 .left))
-
 same-length-2 : tie.Need-same-length-2 Inv-loop μ-loop
 same-length-2 c = search needs
 
+returns : tie.Need-returns Inv-loop μ-loop
+returns c =
+    let a = c .before .before .before .before .before .before .before .before .before .before .before .before .before .before .before .before .args in
+    let l = c .before .before .before .before .before .before .before .before .before .loop .inv in
+    let o = one-room (a .schema .now) (a .table .now) (a .message .now) (a .records .now) (l .2) (c .before .before .before .before .before .put-next .ensures) in
+    record {
+      so-far = shown-stays (a .schema .now) (a .table .now) (a .message .now) (a .records .now) (length (a .ends .now)) (l .3) o (c .if1 .taken);
+      within = o .puts .within;
+      stops = inl (at-end (a .schema .now) (a .table .now) (a .message .now) (a .records .now) (length (a .ends .now)) (o .moves) (c .if1 .taken));
+    }
+
+loop-less : tie.Need-loop-less Inv-loop μ-loop
+loop-less c =
+    let a = c .before .before .before .before .before .before .before .before .before .before .before .before .before .before .before .before .args in
+    let k = next-above (a .schema .now) (a .table .now) (a .message .now) (a .records .now) (length (a .ends .now)) (c .before .before .before .before .before .before .before .before .before .loop .i) (c .before .before .before .before .before .put-next .ensures .moves) (c .if1 .left) in
+    omega (arith, k .0, k .1)
+
+loop-again : tie.Need-loop-again Inv-loop μ-loop
+loop-again c =
+    let a = c .before .before .before .before .before .before .before .before .before .before .before .before .before .before .before .before .args in
+    let l = c .before .before .before .before .before .before .before .before .before .loop .inv in
+    let o = one-room (a .schema .now) (a .table .now) (a .message .now) (a .records .now) (l .2) (c .before .before .before .before .before .put-next .ensures) in
+    (o .puts .within, search needs, search needs, shown-on (a .schema .now) (a .table .now) (a .message .now) (a .records .now) (length (a .ends .now)) (l .3) o (c .if1 .left))
+
+same-length-3 : tie.Need-same-length-3 Inv-loop μ-loop
+same-length-3 c = search needs
+
+same-length-4 : tie.Need-same-length-4 Inv-loop μ-loop
+same-length-4 c = search needs
+
 returns-2 : tie.Need-returns-2 Inv-loop μ-loop
-returns-2 c = record { so-far = c .before .loop .inv .2; within = c .before .loop .inv .0; stops = inr (omega (arith, c .before .loop .inv .0, c .before .loop .inv .1, c .loop-test .left)) }
+returns-2 c = let l = c .before .loop .inv in record { so-far = l .3; within = l .0; stops = inr (omega (arith, l .0, l .1, c .loop-test .left)) }
 
 pub put-tree-spec : {M : Type 1} → statement M
 put-tree-spec =
@@ -53,8 +75,10 @@ put-tree-spec =
     sub-loop
     put-next-requires
     same-length
+    same-length-2
     returns
     loop-less
     loop-again
-    same-length-2
+    same-length-3
+    same-length-4
     returns-2)
