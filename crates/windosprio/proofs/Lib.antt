@@ -1,3 +1,4 @@
 -- Laws of the program.
 pub mod ProgramLaws
 pub mod AnswerLaws
+pub mod AnyReads

@@ -1,2 +1,3 @@
 -- What the contracts cite.
 pub mod Program
+pub mod Runs

@@ -6,7 +6,7 @@ use mathlib.Core.Path.{_≡_}
 use mathlib.Core.List.{List, [], _∷_, _++_}
 use lib.Dec.{eqb}
 use lib.ListN.{length, take, drop}
-use Rattle.grammar.specs.Limits.{record-words}
+use Rattle.grammar.specs.Limits.{message-bytes, record-words}
 use Rattle.rules.specs.declared.SchemaAnswer.{SchemaAnswer}
 use Rattle.rules.specs.SchemaAnswers as Schemas
 use Rattle.rules.specs.MessageAnswers as Messages
@@ -39,29 +39,43 @@ module _ (S T : List ℕ) (room : ℕ) where
   unfoldable pub messageLine : List ℕ → List ℕ
   messageLine m = resultLine (messageResult S T m room)
 
-  -- the lines of all messages that LF ends, after the first bytes of the first
-  unfoldable pub answersAfter : List ℕ → List ℕ → List ℕ
-  answersAfter m [] = []
-  answersAfter m (b ∷ l) = elim (eqb b 10) [ true ↦ messageLine m ++ answersAfter [] l | false ↦ answersAfter (m ++ (b ∷ [])) l ]
+  -- 01, What the gateway reads: a last line needs no LF, and nothing after a last LF is no message
+  abbrev pub lastLine : List ℕ → List ℕ
+  lastLine [] = []
+  lastLine (b ∷ m) = messageLine (b ∷ m)
 
-  -- the messages from a place to the next are answered
-  pub record Done (s : List ℕ) (from : ℕ) (old new : List ℕ) (next at : ℕ) : Type 0 where
+  -- the lines of all messages of an input, where m has been read of the first
+  unfoldable pub answersTo : List ℕ → List ℕ → List ℕ
+  answersTo m [] = lastLine m
+  answersTo m (b ∷ l) = elim (eqb b 10) [ true ↦ messageLine m ++ answersTo [] l | false ↦ answersTo (m ++ (b ∷ [])) l ]
+
+  -- from a place in a chunk to the next the input is answered, whatever follows the chunk; m is read of a line before, m′ after
+  pub record Done (chunk : List ℕ) (from : ℕ) (m : List ℕ) (at : ℕ) (old new : List ℕ) (next : ℕ) (m′ : List ℕ) (r : ℕ) : Type 0 where
     pub text : List ℕ
-    pub puts : Puts text 0 old new at
-    pub splits : answersAfter [] (drop from s) ≡ text ++ answersAfter [] (drop next s)
+    pub puts : Puts text at old new r
+    pub splits : (rest : List ℕ) → answersTo m (drop from chunk ++ rest) ≡ text ++ answersTo m′ (drop next chunk ++ rest)
 
-  -- and from there no LF follows, or there is no room for the longest line
-  pub record Answers (s : List ℕ) (from : ℕ) (old new : List ℕ) (next at : ℕ) : Type 0 where
-    pub done : Done s from old new next at
+  -- whole lines; and then no LF follows, or there is no room for the longest line
+  pub record Answers (chunk : List ℕ) (from at : ℕ) (old new : List ℕ) (next r : ℕ) : Type 0 where
+    pub done : Done chunk from [] at old new next [] r
+    pub moves : (from < next) ⊎ ((next ≡ from) × (r ≡ at))
+    pub within : next ≤ length chunk
+    pub fits : r ≤ length new
+    pub stops : (next + beforeLF (drop next chunk) ≡ length chunk) ⊎ (length old < r + longest-line)
+
+  -- the lines that end in a chunk, and what follows them is read of the next line
+  pub record Takes (chunk : List ℕ) (from : ℕ) (m : List ℕ) (at : ℕ) (old new : List ℕ) (next : ℕ) (m′ : List ℕ) (r : ℕ) : Type 0 where
+    pub done : Done chunk from m at old new next m′ r
     pub after : from ≤ next
-    pub within : next ≤ length s
-    pub fits : at ≤ length new
-    pub stops : (next + beforeLF (drop next s) ≡ length s) ⊎ (length old < at + longest-line)
+    pub moves : at + longest-line ≤ length old → from < length chunk → from < next
+    pub within : next ≤ length chunk
+    pub fits : r ≤ length new
 
--- no more than 4,096 records are lent, and the longest line has room
-pub record Room (records out : List ℕ) : Type 0 where
+-- no more than 4,096 records are lent, the longest line has room, and of a line that goes on a byte more than the longest message
+pub record Room (records out carry : List ℕ) : Type 0 where
   pub few : length records ≤ record-room
   pub wide : longest-line ≤ length out
+  pub long : message-bytes < length carry
 
 abbrev pub KeptIn : ℕ → Turn → Type 0
 KeptIn room (Kept n) = n ≤ room

@@ -62,25 +62,26 @@ pub fn answer(
 pub fn answer_lines(
     table: &[u32],
     schema: &[u8],
-    s: &[u8],
+    chunk: &[u8],
     from: usize,
     records: &mut [u32],
     out: &mut [u8],
+    at: usize,
 ) -> Progress
-    requires { ⌜ (length (now records) ≤ record-room) × (from ≤ length (now s)) ⌝ }
-    ensures { λ r. ⌜ Answers (now (schema .entry)) (now (table .entry)) (length (now (records .entry))) (now (s .entry)) from (now (out .entry)) (now (out .exit)) (r .next) (r .at) ⌝ }
+    requires { ⌜ (length (now records) ≤ record-room) × (from ≤ length (now chunk)) × (at ≤ length (now out)) ⌝ }
+    ensures { λ r. ⌜ Answers (now (schema .entry)) (now (table .entry)) (length (now (records .entry))) (now (chunk .entry)) from at (now (out .entry)) (now (out .exit)) (r .next) (r .at) ⌝ }
 {
     let mut i = from;
-    let mut at = 0;
+    let mut p = at;
     loop {
-        let e = line_end(s, i);
-        if e == s.len() {
-            return Progress { next: i, at };
+        let e = line_end(chunk, i);
+        if e == chunk.len() {
+            return Progress { next: i, at: p };
         }
-        if out.len() - at < LINE {
-            return Progress { next: i, at };
+        if out.len() - p < LINE {
+            return Progress { next: i, at: p };
         }
-        at = answer(table, schema, &s[i..e], records, out, at);
+        p = answer(table, schema, &chunk[i..e], records, out, p);
         i = e + 1;
     }
 }

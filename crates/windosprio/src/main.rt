@@ -1,5 +1,6 @@
 // Reads schema.json, then one message per line from standard input, and prints an answer line for each.
 mod answers;
+mod chunks;
 mod turns;
 
 use crate::answers::answer_schema;

@@ -1,17 +1,15 @@
 // Standard input, chunk by chunk. What is answered is written before the next read.
 use crate::answers::LINE;
-use crate::answers::answer;
-use crate::answers::answer_lines;
-use input::joins::Joined;
-use input::joins::join_line;
+use crate::chunks::answer_chunk;
+use crate::chunks::answer_last;
 use input::lent::LINE_ROOM;
 use input::lent::RECORD_ROOM;
 use libc::STDIN_FILENO;
 use libc::STDOUT_FILENO;
-use lines::ends::keep;
-ghost use Prim.Native.Nat.{_*_, _≤_};
+ghost use Prim.Native.Nat.{_+_, _*_, _≤_};
 ghost use mathlib.Core.Path.{_≡_};
 ghost use lib.ListN.{length};
+ghost use Rattle.grammar.specs.Limits.{message-bytes};
 ghost use Rattle.windosprio.specs.Program.{record-room, longest-line, Room, KeptIn};
 
 // Room for answers: twice the longest line.
@@ -21,50 +19,6 @@ const OUT: usize = 2 * LINE;
 enum Turn {
     Kept(usize),
     Stop,
-}
-
-// The whole lines from a place on; then what follows them is kept.
-fn take_lines(
-    table: &[u32],
-    schema: &[u8],
-    chunk: &[u8],
-    from: usize,
-    carry: &mut [u8],
-    records: &mut [u32],
-    out: &mut [u8],
-) -> Turn
-    requires { ⌜ (from ≤ length (now chunk)) × Room (now records) (now out) ⌝ }
-    ensures { λ r. ⌜ KeptIn (length (now (carry .exit))) r ⌝ }
-{
-    let mut i = from;
-    while i < chunk.len() {
-        let p = answer_lines(table, schema, chunk, i, records, out);
-        let at = p.at;
-        let next = p.next;
-        if next == i {
-            return Turn::Kept(keep(carry, 0, &chunk[i..]));
-        }
-        if !io::write_all(STDOUT_FILENO, &out[0..at]) {
-            return Turn::Stop;
-        }
-        i = next;
-    }
-    Turn::Kept(0)
-}
-
-// The message in the first `kept` bytes.
-fn take_kept(
-    table: &[u32],
-    schema: &[u8],
-    carry: &[u8],
-    kept: usize,
-    records: &mut [u32],
-    out: &mut [u8],
-) -> bool
-    requires { ⌜ (kept ≤ length (now carry)) × Room (now records) (now out) ⌝ }
-{
-    let n = answer(table, schema, &carry[0..kept], records, out, 0);
-    io::write_all(STDOUT_FILENO, &out[0..n])
 }
 
 // A chunk, after a line of which `kept` bytes are kept.
@@ -77,21 +31,21 @@ fn take_chunk(
     records: &mut [u32],
     out: &mut [u8],
 ) -> Turn
-    requires { ⌜ (kept ≤ length (now carry)) × Room (now records) (now out) ⌝ }
+    requires { ⌜ (kept ≤ length (now carry)) × Room (now records) (now out) (now carry) ⌝ }
     ensures { λ r. ⌜ KeptIn (length (now (carry .exit))) r ⌝ }
 {
-    if kept == 0 {
-        return take_lines(table, schema, chunk, 0, carry, records, out);
-    }
-    match join_line(carry, kept, chunk, 0) {
-        Joined::More(n) => Turn::Kept(n),
-        Joined::Line(size, next) => {
-            if !take_kept(table, schema, carry, size, records, out) {
-                return Turn::Stop;
-            }
-            take_lines(table, schema, chunk, next, carry, records, out)
+    let mut i = 0;
+    let mut k = kept;
+    while i < chunk.len() {
+        let t = answer_chunk(table, schema, chunk, i, carry, k, records, out);
+        i = t.next;
+        k = t.kept;
+        let at = t.at;
+        if !io::write_all(STDOUT_FILENO, &out[0..at]) {
+            return Turn::Stop;
         }
     }
+    Turn::Kept(k)
 }
 
 fn take_some(
@@ -103,14 +57,13 @@ fn take_some(
     records: &mut [u32],
     out: &mut [u8],
 ) -> Turn
-    requires { ⌜ (kept ≤ length (now carry)) × Room (now records) (now out) ⌝ }
+    requires { ⌜ (kept ≤ length (now carry)) × Room (now records) (now out) (now carry) ⌝ }
     ensures { λ r. ⌜ KeptIn (length (now (carry .exit))) r ⌝ }
 {
     let n = io::count(libc::read(STDIN_FILENO, chunk), chunk);
     if n == 0 {
-        if 0 < kept {
-            take_kept(table, schema, carry, kept, records, out);
-        }
+        let at = answer_last(table, schema, carry, kept, records, out);
+        io::write_all(STDOUT_FILENO, &out[0..at]);
         return Turn::Stop;
     }
     take_chunk(table, schema, &chunk[0..n], carry, kept, records, out)
@@ -125,7 +78,7 @@ fn take_all(
     records: &mut [u32],
     out: &mut [u8],
 )
-    requires { ⌜ Room (now records) (now out) ⌝ }
+    requires { ⌜ Room (now records) (now out) (now carry) ⌝ }
 {
     let mut kept = 0;
     let mut turns = u64::MAX;
@@ -142,11 +95,17 @@ fn take_all(
     }
 }
 
-// The room for records, and that for answers.
+// The rooms for records, for a line and for answers.
 fn record_room() -> [u32; RECORD_ROOM]
     ensures { λ r. ⌜ record-room ≡ length r ⌝ }
 {
     [0; RECORD_ROOM]
+}
+
+fn line_room() -> [u8; LINE_ROOM]
+    ensures { λ r. ⌜ message-bytes + 1 ≡ length r ⌝ }
+{
+    [0; LINE_ROOM]
 }
 
 fn out_room() -> [u8; OUT]
@@ -157,7 +116,7 @@ fn out_room() -> [u8; OUT]
 
 pub fn serve(table: &[u32], schema: &[u8]) {
     let mut chunk = io::large_buffer();
-    let mut carry = [0u8; LINE_ROOM];
+    let mut carry = line_room();
     let mut records = record_room();
     let mut out = out_room();
     take_all(

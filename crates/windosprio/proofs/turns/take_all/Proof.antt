@@ -1,25 +1,25 @@
 -- `take_all` is safe and ends. The invariant: what is kept is within its room. The measure is the turns left.
-use Prim.Native.Nat.{_-_, _≤_}
+use Prim.Native.Nat.{_≤_}
 use native.Mathlib.Omega.{arith}
-use mathlib.Core.Path.{_≡_, refl, _∙_}
+use mathlib.Core.Path.{_≡_, refl}
 use lib.ListN.{length}
+use Rattle.windosprio.specs.Program.{Room}
 use Rattle.windosprio.proofs.ProgramLaws.{kept-in}
 use borrow.Author.Needs.{needs}
-use Rattle.windosprio.specs.Program.{record-room, longest-line}
 use Rattle.windosprio.proofs.turns.take_all.Statement.{statement}
 use Rattle.windosprio.proofs.turns.take_all.Tie as tie
 
 abbrev Inv-loop : tie.InvT-loop
-Inv-loop table schema chunk₀ carry₀ records₀ out₀ kept₀ turns₀ chunk carry records out kept turns = (kept ≤ length carry) × (length chunk ≡ length chunk₀) × (length carry ≡ length carry₀) × (length records ≡ length records₀) × (length out ≡ length out₀) × (length records ≤ record-room) × (longest-line ≤ length out)
+Inv-loop table schema chunk₀ carry₀ records₀ out₀ kept₀ turns₀ chunk carry records out kept turns = (kept ≤ length carry) × (length chunk ≡ length chunk₀) × (length carry ≡ length carry₀) × (length records ≡ length records₀) × (length out ≡ length out₀) × Room records out carry
 
 abbrev μ-loop : tie.MeasureT-loop
 μ-loop table schema chunk₀ carry₀ records₀ out₀ kept₀ turns₀ chunk carry records out kept turns = turns
 
 loop-holds : tie.Need-loop-holds Inv-loop μ-loop
-loop-holds c = (omega arith, refl, refl, refl, refl, c .before .before .before .before .before .before .pre .few, c .before .before .before .before .before .before .pre .wide)
+loop-holds c = (omega arith, refl, refl, refl, refl, c .before .before .before .before .before .before .pre)
 
 take-some-requires : tie.Need-take-some-requires Inv-loop μ-loop
-take-some-requires c κs = (c .before .before .before .before .before .loop .inv .0, record { few = c .before .before .before .before .before .loop .inv .5; wide = c .before .before .before .before .before .loop .inv .6 })
+take-some-requires c κs = (c .before .before .before .before .before .loop .inv .0, c .before .before .before .before .before .loop .inv .5)
 
 enum-told : tie.Need-enum-told Inv-loop μ-loop
 enum-told c = search needs
@@ -49,16 +49,7 @@ loop-less : tie.Need-loop-less Inv-loop μ-loop
 loop-less c = search needs
 
 loop-again : tie.Need-loop-again Inv-loop μ-loop
-loop-again c =
-    let k = c .before .before .before .before .before .before .before .before .before .before .before .take-some .kept in (
-      kept-in _ (c .before .n .given .1) (c .before .before .before .before .before .before .before .before .before .before .before .take-some .ensures),
-      search needs,
-      search needs,
-      search needs,
-      search needs,
-      search needs,
-      search needs,
-    )
+loop-again c = let r = c .before .before .before .before .before .before .before .before .before .before .before .before .before .before .before .before .before .loop .inv .5 in (kept-in _ (c .before .n .given .1) (c .before .before .before .before .before .before .before .before .before .before .before .take-some .ensures), search needs, search needs, search needs, search needs, record { few = omega (arith, r .few); wide = omega (arith, r .wide); long = omega (arith, r .long) })
 
 same-length-5 : tie.Need-same-length-5 Inv-loop μ-loop
 same-length-5 c = search needs
