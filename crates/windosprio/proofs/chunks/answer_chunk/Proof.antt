@@ -25,7 +25,7 @@ returns c =
     (chunk-rest (a .schema .now) (a .table .now) (length (a .records .now)) (a .carry .now) (c .before .before .before .before .before .before .before .before .before .before .if1 .taken) (c .before .before .before .before .before .before .answer-rest .ensures .0), c .before .before .before .before .before .before .answer-rest .ensures .1)
 
 join-line-requires : tie.Need-join-line-requires
-join-line-requires c κs = (c .before .before .before .before .before .before .before .before .pre .1, c .before .before .before .before .before .before .before .before .pre .0)
+join-line-requires c κs = search needs
 
 enum-known-n : tie.Need-enum-known-n
 enum-known-n c = search needs
