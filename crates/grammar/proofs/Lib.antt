@@ -21,4 +21,5 @@ pub mod MessageTokens
 pub mod MessageDialect
 pub mod Texts
 pub mod Spans
+pub mod Order
 pub mod Vectors

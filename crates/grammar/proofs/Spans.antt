@@ -76,7 +76,7 @@ module _ (G : Lexis) (L : TokenSpans G) where
     elements-span : {n p q : ℕ} {l r : List ℕ} {js : Items} → Elements G n p l q r js → Span 0 p l q r
     elements-span (element v w) = let y = value-span v in let z = more-elements-span w in record { rises = omega arith; same-text = omega arith }
 
-    more-elements-span : {n p q : ℕ} {l r : List ℕ} {js : Items} → MoreElements G n p l q r js → Span 0 p l q r
+    pub more-elements-span : {n p q : ℕ} {l r : List ℕ} {js : Items} → MoreElements G n p l q r js → Span 0 p l q r
     more-elements-span (end-array b) = let y = blanks-span b in record { rises = omega arith; same-text = omega arith }
     more-elements-span (next-element b c w) =
         let x = blanks-span b in let y = blanks-span c in let z = elements-span w in record { rises = omega arith; same-text = omega arith }
@@ -94,7 +94,7 @@ module _ (G : Lexis) (L : TokenSpans G) where
         let o = more-members-span w in
         record { rises = omega arith; same-text = omega arith }
 
-    more-members-span : {n p q : ℕ} {l r : List ℕ} {fs : Fields} → MoreMembers G n p l q r fs → Span 0 p l q r
+    pub more-members-span : {n p q : ℕ} {l r : List ℕ} {fs : Fields} → MoreMembers G n p l q r fs → Span 0 p l q r
     more-members-span (end-object b) = let y = blanks-span b in record { rises = omega arith; same-text = omega arith }
     more-members-span (next-member b c w) =
         let x = blanks-span b in let y = blanks-span c in let z = members-span w in record { rises = omega arith; same-text = omega arith }
@@ -142,7 +142,7 @@ module _ (G : Lexis) (L : TokenSpans G) where
   text-placed {l = l} (one-value s b v c) = let y = blanks-span b in (value-placed (length l) (omega arith) v, tt)
 
 -- schema text
-spells-span : {p q : ℕ} {w l r : List ℕ} → Spells w p l q r → Span 0 p l q r
+pub spells-span : {p q : ℕ} {w l r : List ℕ} → Spells w p l q r → Span 0 p l q r
 spells-span spelled = record { rises = omega arith; same-text = omega arith }
 spells-span (letter t) = let z = spells-span t in record { rises = omega arith; same-text = omega arith }
 

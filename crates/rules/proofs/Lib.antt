@@ -18,6 +18,7 @@ pub mod SchemaOutcome
 pub mod Commands
 pub mod MessageOutcome
 pub mod Acceptance
+pub mod ReadingOrder
 pub mod DefinitionForms
 pub mod CellBases
 pub mod NameSpans

@@ -83,7 +83,7 @@ unfolding placeThen placeAfter seenAt
 ends-after [] k = ap (λ (i : ℕ). placeThen [] i 0) (zero-more k) ∙ stays [] 0 refl k .1
 ends-after (t ∷ ts) k = ap (λ (i : ℕ). placeThen (recordsOf (t ∷ ts)) i 0) (suc-more (length ts) k) ∙ behind-then t (recordsOf ts) (length ts + k) 0 ∙ ap suc (ends-after ts k)
 
-counted : (ts : List Typed) (zs : List ℕ) → take (4 * length ts) (recordsOf ts ++ zs) ≡ recordsOf ts
+pub counted : (ts : List Typed) (zs : List ℕ) → take (4 * length ts) (recordsOf ts ++ zs) ≡ recordsOf ts
 counted [] zs = refl
 counted (t ∷ ts) zs = ap (λ (k : ℕ). take k (recordsOf (t ∷ ts) ++ zs)) (four-more (length ts)) ∙ ap (λ (l : List ℕ). recordOf t ++ l) (counted ts zs)
 

@@ -6,5 +6,6 @@ pub mod TypeLaws
 pub mod NestLaws
 pub mod TreeLaws
 pub mod HeadLaws
+pub mod Indents
 pub mod Printable
 pub mod Cases

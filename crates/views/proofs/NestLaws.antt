@@ -11,7 +11,7 @@ use Rattle.views.specs.Backwards.{back, before}
 use Rattle.views.specs.Nesting.{stillOpen, opened}
 use Rattle.views.proofs.BackLaws.{back-at, back-start, back-length, before-in, back-set}
 
-by-end : (start e : ℕ) (es : List ℕ) (t : Bool) → ltb start e ≡ t → stillOpen start (e ∷ es) ≡ elim t [ true ↦ e ∷ es | false ↦ stillOpen start es ]
+pub by-end : (start e : ℕ) (es : List ℕ) (t : Bool) → ltb start e ≡ t → stillOpen start (e ∷ es) ≡ elim t [ true ↦ e ∷ es | false ↦ stillOpen start es ]
 unfolding stillOpen
 by-end start e es t p = ap (λ (x : Bool). elim x [ true ↦ e ∷ es | false ↦ stillOpen start es ]) p
 

@@ -2,10 +2,14 @@
 use Prim.Native.Nat.{ℕ, zero, suc, _+_, _-_, _*_, _/_, _≤_, _<_, min}
 use mathlib.Core.Logic.{_⊎_}
 use mathlib.Core.Path.{_≡_}
+use mathlib.Core.Bool.{cond}
 use mathlib.Core.List.{List, [], _∷_, _++_}
+use lib.Dec.{ltb}
 use lib.ListN.{length, replicate}
 use Rattle.grammar.specs.Limits.{record-words}
 use Rattle.grammar.specs.Notation.{text}
+use Rattle.grammar.specs.Tree.{startOf, endOf}
+use Rattle.rules.specs.Readings.{Typed}
 use Rattle.lines.specs.Text.{Puts}
 use Rattle.viewer.specs.declared.records.Seen.{Seen}
 use Rattle.viewer.specs.declared.records.Seen.the-variants.{Record, Nothing}
@@ -75,3 +79,18 @@ module _ (S T m ws : List ℕ) (room : ℕ) where
     pub so-far : Shown from es old new next es′ at
     pub within : at ≤ length new
     pub stops : (seenAt ws next ≡ Nothing) ⊎ (length old < at + 1024)
+
+-- how many of these values are open at a place: they end after it
+abbrev pub openAt : List Typed → ℕ → ℕ
+openAt [] place = 0
+openAt (u ∷ us) place = cond (ltb place (endOf (u .value))) 1 0 + openAt us place
+
+-- The lines of a reading's values, after those before them, the last first. Each stands under as many as are open where it starts: in a message the values that it is inside of.
+module _ (S T m ws : List ℕ) where
+  abbrev pub valueLine : List Typed → Typed → List ℕ
+  valueLine us t =
+      leftText T m ws (length us) (startOf (t .value)) (openAt us (startOf (t .value))) ++ rightText S T m (startOf (t .value)) (endOf (t .value)) (t .ref) (t .array)
+
+  unfoldable pub readingLines : List Typed → List Typed → List ℕ
+  readingLines us [] = []
+  readingLines us (t ∷ ts) = valueLine us t ++ readingLines (t ∷ us) ts
