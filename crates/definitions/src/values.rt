@@ -1,4 +1,5 @@
 // Names as they stand in the nodes, as words of rows. Any node may be asked.
+use rules::SCHEMA_BYTES;
 use text::nodes::node_word;
 use text::reader::stands;
 ghost use mathlib.Core.Path.{_≡_};
@@ -48,7 +49,7 @@ pub fn name_word(nodes: &[u32], k: usize) -> u32
 {
     let start = wide(name_start(nodes, k, 0));
     let size = wide(name_size(nodes, k, 0));
-    narrow(32768 * start + size)
+    narrow(SCHEMA_BYTES * start + size)
 }
 
 // 1 if the key at node a has a `*` in front, else 0.

@@ -24,6 +24,9 @@ ghost use Rattle.rules.specs.Envelope.{mayUse};
 ghost use Rattle.rules.specs.Sound.{sound};
 ghost use Rattle.message.specs.Stages.{TextRead, SaysCall, FoundRow, CallsRow, Judged, Answered};
 
+// Words for the nodes of the longest message.
+const NODE_WORDS: usize = 2 * MESSAGE_BYTES;
+
 // Whether a message may use the command at row c.
 fn may_use(rows: &[u32], c: usize, oob: bool) -> bool
     ensures { λ r. ⌜ r ≡ mayUse (now (rows .entry)) c oob ⌝ }
@@ -138,7 +141,7 @@ fn with_text(schema: &[u8], rows: &[u32], m: &[u8], records: &mut [u32]) -> Mess
     requires { ⌜ (sound (now schema) (now rows) ≡ true) × (length (now m) ≤ message-bytes) ⌝ }
     ensures { λ r. ⌜ Judged (now (schema .entry)) (now (rows .entry)) (now (m .entry)) 2 (now (records .entry)) (now (records .exit)) r ⌝ }
 {
-    let mut nodes = [0u32; 32768];
+    let mut nodes = [0u32; NODE_WORDS];
     match read_message(m, &mut nodes) {
         Text::Whole(count) => with_nodes(schema, rows, m, &nodes, count, records),
         Text::Fault(_e) => MessageAnswer::Refused(MessageRefusal::NotText),

@@ -48,7 +48,7 @@ module _ {w : List ℕ} {k y : ℕ} (q : y ≡ node w k 0) where
 
 -- no row is past the last
 module _ (S T : List ℕ) (o : sound S T ≡ true) where
-  no-row : (r : ℕ) → 1024 ≤ r → kind T r ≡ 0
+  no-row : (r : ℕ) → table-rows ≤ r → kind T r ≡ 0
   unfolding sound
   no-row r h = go (eqb (kind T r) 0) refl
     where
@@ -92,7 +92,7 @@ module _ (S T m w : List ℕ) {c link : ℕ} (p : link ≡ arguments T c) {k : �
 
   -- one with data
   module _ (n : link ≡ 0 → ⊥) where
-    pub arguments-past : {y : ℕ} → y ≡ link → 1024 < y → (old : List ℕ) → ReadsArgumentsAt S T m w old old k c Nothing
+    pub arguments-past : {y : ℕ} → y ≡ link → table-rows < y → (old : List ℕ) → ReadsArgumentsAt S T m w old old k c Nothing
     arguments-past q u old = record {
       told = λ j l o h x. told-nothing old old 0 (argumentsReading S T (arguments T c) j) refl
           (by-link S T c link (link + 15) p n refl j ∙ read-nothing S T (link + 15) (omega arith) (no-row S T o (link + 15 - 16) (omega arith)) j);

@@ -2,6 +2,7 @@
 use buckets::BUCKETS;
 use buckets::first;
 use buckets::next;
+use rules::SCHEMA_BYTES;
 use table::definitions::built_in;
 use table::marks::mark_of;
 use table::names::name_of;
@@ -66,11 +67,14 @@ fn find(
     0
 }
 
+// A word names a name by its start, this many times, and its size.
+const STARTS: u32 = SCHEMA_BYTES as u32;
+
 // The name that a word names.
 pub fn named_by(s: &[u8], w: u32) -> &[u8]
     ensures { λ x. ⌜ now x ≡ nameIn (now (s .entry)) w ⌝ }
 {
-    part_of(s, wide(w / 32768), wide(w % 32768))
+    part_of(s, wide(w / STARTS), wide(w % STARTS))
 }
 
 // What a word names: a struct's link, or a type reference; 0 for 0 and where there is none.
