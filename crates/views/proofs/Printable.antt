@@ -10,11 +10,7 @@ use lib.Dec.{eqb, ltb}
 use lib.ListN.{length, take, getD, replicate}
 use Rattle.grammar.specs.Notation.{text, all}
 use Rattle.grammar.proofs.Booleans.{both}
-use Rattle.rules.specs.declared.MessageAnswer.{MessageAnswer}
-use Rattle.rules.specs.declared.MessageAnswer.the-variants as MA
-use Rattle.rules.specs.declared.MessageRefusal.the-variants as M
 use Rattle.rules.specs.Rows.{isStruct, nameOf}
-use Rattle.lines.specs.Text.{decimalText}
 use Rattle.viewer.specs.declared.records.Seen.{Seen}
 use Rattle.viewer.specs.declared.records.Seen.the-variants.{Record, Nothing}
 use Rattle.viewer.specs.Seeing.{seenAt, placeAfter, partOf}
@@ -24,7 +20,6 @@ use Rattle.views.specs.Nesting.{stillOpen}
 use Rattle.views.specs.Labelling.{keyBefore, keyText, ofAlternate, labelText}
 use Rattle.views.specs.Typing.{builtInNames, rowText, rowName, typeName, typeText}
 use Rattle.views.specs.TreeText.{indentText, valueShown, valueText, leftText, rightText, recordLine, lineAt, openThen, linesOf, linesFrom}
-use Rattle.views.specs.Meanings.{refusedLine, commandLine, messageHead}
 use Rattle.views.proofs.TypeLaws.{every}
 
 -- what a terminal may have
@@ -41,7 +36,7 @@ or-left true b p = refl
 or-left false true p = refl
 or-left false false p = p
 
-joined : (xs ys : List ℕ) → all clean xs ≡ true → all clean ys ≡ true → all clean (xs ++ ys) ≡ true
+pub joined : (xs ys : List ℕ) → all clean xs ≡ true → all clean ys ≡ true → all clean (xs ++ ys) ≡ true
 joined [] ys p q = q
 joined (x ∷ xs) ys p q = holds-both (clean x) (all clean (xs ++ ys)) (both (clean x) (all clean xs) p .0) (joined xs ys (both (clean x) (all clean xs) p .1) q)
 
@@ -148,18 +143,3 @@ module _ (S T m ws : List ℕ) (room : ℕ) where
   pub tree-clean : (n : ℕ) (es : List ℕ) → all clean (linesFrom S T m ws room n es) ≡ true
   unfolding linesFrom
   tree-clean n es = lines-clean (length ws / 4 - n) n es
-
--- and the first line of a message's view
-pub head-clean : (S T : List ℕ) (a : MessageAnswer) → all clean (messageHead S T a) ≡ true
-unfolding commandLine refusedLine decimalText
-head-clean S T (MA.Accepted c n) = joined (text "0 ") (shown (nameOf S T c) ++ (10 ∷ [])) refl (joined (shown (nameOf S T c)) (10 ∷ []) (shown-clean (nameOf S T c)) refl)
-head-clean S T (MA.Refused M.UnsoundTable) = refl
-head-clean S T (MA.Refused M.TooLong) = refl
-head-clean S T (MA.Refused M.NotText) = refl
-head-clean S T (MA.Refused M.TooDeep) = refl
-head-clean S T (MA.Refused M.RepeatedKey) = refl
-head-clean S T (MA.Refused M.NotEnvelope) = refl
-head-clean S T (MA.Refused M.UnknownCommand) = refl
-head-clean S T (MA.Refused M.NotOutOfBand) = refl
-head-clean S T (MA.Refused M.NoReading) = refl
-head-clean S T (MA.Refused M.NoRoom) = refl

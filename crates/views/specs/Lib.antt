@@ -5,4 +5,3 @@ pub mod Labelling
 pub mod Typing
 pub mod Nesting
 pub mod TreeText
-pub mod Meanings

@@ -1,6 +1,5 @@
-// What the operator sees: answers in words, and the records of an accepted message as lines of a tree.
+// What the operator sees of an accepted message: its records as lines of a tree.
 pub mod depth;
-pub mod heads;
 pub mod labels;
 pub mod shown;
 pub mod tree;

@@ -14,7 +14,7 @@ use Rattle.views.specs.Nesting.{stillOpen, opened}
 use Rattle.views.specs.Labelling.{skipBlanks, evenSlashes, quoteFirst, keyBack, keyBefore, labelText}
 use Rattle.views.specs.Typing.{rowName, typeName, typeText}
 use Rattle.views.specs.TreeText.{indentText, valueText, leftText, rightText, lineAt, openThen, linesOf, linesFrom}
-use Rattle.views.specs.Meanings.{refusedLine, commandLine}
+use Rattle.meanings.specs.Meanings.{refusedLine, commandLine}
 use Rattle.windosprio_view.specs.Program.{messageView}
 
 schema : List ℕ

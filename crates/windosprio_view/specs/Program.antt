@@ -5,7 +5,7 @@ use lib.ListN.{take}
 use Rattle.grammar.specs.Limits.{record-words}
 use Rattle.rules.specs.MessageAnswers.{answerRecords}
 use Rattle.rules.specs.Answers.{MessageResult, messageResult}
-use Rattle.views.specs.Meanings.{messageHead}
+use Rattle.meanings.specs.Meanings.{messageHead}
 use Rattle.views.specs.TreeText.{linesFrom}
 use Rattle.windosprio_view.specs.declared.turns.Turn.{Turn}
 use Rattle.windosprio_view.specs.declared.turns.Turn.the-variants.{Kept, Stop}

@@ -8,10 +8,10 @@ use input::lent::SCHEMA_ROOM;
 use input::lent::TABLE_ROOM;
 use input::lent::words_of;
 use libc::STDOUT_FILENO;
+use meanings::heads::put_schema_head;
 use rules::ROW_WORDS;
 use rules::SchemaAnswer;
 use schema::compile::compile_schema;
-use views::heads::put_schema_head;
 
 // Shows the messages where the schema was accepted and its line could be written.
 fn with_answer(answer: SchemaAnswer, schema: &[u8], rows: &[u32]) {

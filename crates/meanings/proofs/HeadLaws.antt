@@ -10,8 +10,8 @@ use Rattle.rules.specs.SchemaAnswers as Schemas
 use Rattle.rules.specs.MessageAnswers as Messages
 use Rattle.lines.specs.Text.{Puts, decimalText}
 use Rattle.lines.proofs.TextLaws.{puts-as, puts-on}
 use Rattle.views.specs.Escapes.{shown}
-use Rattle.views.specs.Meanings.{schemaMeaning, messageMeaning, refusedLine, rowsLine, commandLine}
+use Rattle.meanings.specs.Meanings.{schemaMeaning, messageMeaning, refusedLine, rowsLine, commandLine}
 
 pub schema-refused : {x y : SchemaRefusal} {t old new : List ℕ} {at r : ℕ} → x ≡ y → t ≡ refusedLine (Schemas.refusalNumber y) (schemaMeaning y) → Puts t at old new r
     → Puts (refusedLine (Schemas.refusalNumber x) (schemaMeaning x)) at old new r

@@ -1,8 +1,8 @@
 -- `put_command` meets its contract: three pieces, one after another.
-use Rattle.views.proofs.HeadLaws.{puts-command}
+use Rattle.meanings.proofs.HeadLaws.{puts-command}
 use borrow.Author.Needs.{needs}
-use Rattle.views.proofs.heads.put_command.Statement.{statement}
-use Rattle.views.proofs.heads.put_command.Tie as tie
+use Rattle.meanings.proofs.heads.put_command.Statement.{statement}
+use Rattle.meanings.proofs.heads.put_command.Tie as tie
 
 slice-aggregate-put-bytes : tie.Need-slice-aggregate-put-bytes
 slice-aggregate-put-bytes c = search needs

@@ -2,10 +2,10 @@
 use mathlib.Core.Path.{sym, ap}
 use Rattle.lines.proofs.TextLaws.{puts-as}
 use Rattle.rules.specs.declared.MessageAnswer.{MessageAnswer}
-use Rattle.views.specs.Meanings.{messageHead}
+use Rattle.meanings.specs.Meanings.{messageHead}
 use borrow.Author.Needs.{needs}
-use Rattle.views.proofs.heads.put_message_head.Statement.{statement}
-use Rattle.views.proofs.heads.put_message_head.Tie as tie
+use Rattle.meanings.proofs.heads.put_message_head.Statement.{statement}
+use Rattle.meanings.proofs.heads.put_message_head.Tie as tie
 
 enum-known-answer : tie.Need-enum-known-answer
 enum-known-answer c = search needs

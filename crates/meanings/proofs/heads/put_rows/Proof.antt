@@ -2,10 +2,10 @@
 use Prim.Native.Nat.{_<_, _^_}
 use native.Mathlib.Omega.{arith}
 use Rattle.lines.proofs.TextLaws.{number-length}
-use Rattle.views.proofs.HeadLaws.{puts-rows}
+use Rattle.meanings.proofs.HeadLaws.{puts-rows}
 use borrow.Author.Needs.{needs}
-use Rattle.views.proofs.heads.put_rows.Statement.{statement}
-use Rattle.views.proofs.heads.put_rows.Tie as tie
+use Rattle.meanings.proofs.heads.put_rows.Statement.{statement}
+use Rattle.meanings.proofs.heads.put_rows.Tie as tie
 
 slice-aggregate-put-bytes : tie.Need-slice-aggregate-put-bytes
 slice-aggregate-put-bytes c = search needs

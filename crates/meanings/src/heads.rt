@@ -1,18 +1,18 @@
 // The first line of a view: an answer in words.
-use crate::shown::put_bytes;
-use crate::shown::put_shown;
 use lines::numbers::put_number;
 use rules::MessageAnswer;
 use rules::MessageRefusal;
 use rules::SchemaAnswer;
 use rules::SchemaRefusal;
 use table::names::name_of;
+use views::shown::put_bytes;
+use views::shown::put_shown;
 ghost use Prim.Native.Nat.{_+_, _≤_};
 ghost use lib.ListN.{length};
 ghost use Rattle.rules.specs.SchemaAnswers as Schemas;
 ghost use Rattle.rules.specs.MessageAnswers as Messages;
 ghost use Rattle.lines.specs.Text.{Puts};
-ghost use Rattle.views.specs.Meanings.{schemaMeaning, messageMeaning, refusedLine, rowsLine, commandLine, schemaHead, messageHead};
+ghost use Rattle.meanings.specs.Meanings.{schemaMeaning, messageMeaning, refusedLine, rowsLine, commandLine, schemaHead, messageHead};
 
 fn put_schema_refusal(x: SchemaRefusal, out: &mut [u8], at: usize) -> usize
     requires { ⌜ at + 100 ≤ length (now out) ⌝ }

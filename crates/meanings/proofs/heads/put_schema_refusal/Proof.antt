@@ -1,11 +1,11 @@
--- `put_message_refusal` meets its contract: a line for each number.
+-- `put_schema_refusal` meets its contract: a line for each number.
 use mathlib.Core.Path.{refl}
 use Rattle.lines.specs.Text.{decimalText}
-use Rattle.views.specs.Meanings.{refusedLine}
-use Rattle.views.proofs.HeadLaws.{message-refused}
+use Rattle.meanings.specs.Meanings.{refusedLine}
+use Rattle.meanings.proofs.HeadLaws.{schema-refused}
 use borrow.Author.Needs.{needs}
-use Rattle.views.proofs.heads.put_message_refusal.Statement.{statement}
-use Rattle.views.proofs.heads.put_message_refusal.Tie as tie
+use Rattle.meanings.proofs.heads.put_schema_refusal.Statement.{statement}
+use Rattle.meanings.proofs.heads.put_schema_refusal.Tie as tie
 
 enum-told : tie.Need-enum-told
 enum-told c = search needs
@@ -97,78 +97,126 @@ slice-aggregate-put-bytes-10 c = search needs
 put-bytes-requires-10 : tie.Need-put-bytes-requires-10
 put-bytes-requires-10 c κs = search needs
 
+enum-told-11 : tie.Need-enum-told-11
+enum-told-11 c = search needs
+
+slice-aggregate-put-bytes-11 : tie.Need-slice-aggregate-put-bytes-11
+slice-aggregate-put-bytes-11 c = search needs
+
+put-bytes-requires-11 : tie.Need-put-bytes-requires-11
+put-bytes-requires-11 c κs = search needs
+
+enum-told-12 : tie.Need-enum-told-12
+enum-told-12 c = search needs
+
+slice-aggregate-put-bytes-12 : tie.Need-slice-aggregate-put-bytes-12
+slice-aggregate-put-bytes-12 c = search needs
+
+put-bytes-requires-12 : tie.Need-put-bytes-requires-12
+put-bytes-requires-12 c κs = search needs
+
+enum-told-13 : tie.Need-enum-told-13
+enum-told-13 c = search needs
+
+slice-aggregate-put-bytes-13 : tie.Need-slice-aggregate-put-bytes-13
+slice-aggregate-put-bytes-13 c = search needs
+
+put-bytes-requires-13 : tie.Need-put-bytes-requires-13
+put-bytes-requires-13 c κs = search needs
+
 same-length : tie.Need-same-length
 same-length c = search needs
 
 returns : tie.Need-returns
 unfolding refusedLine decimalText
-returns c = message-refused (c .before .before .before .before .before .enum-told .given .1) refl (c .before .before .put-bytes .ensures)
+returns c = schema-refused (c .before .before .before .before .before .enum-told .given .1) refl (c .before .before .put-bytes .ensures)
 
 same-length-2 : tie.Need-same-length-2
 same-length-2 c = search needs
 
 returns-2 : tie.Need-returns-2
 unfolding refusedLine decimalText
-returns-2 c = message-refused (c .before .before .before .before .before .enum-told2 .given .1) refl (c .before .before .put-bytes2 .ensures)
+returns-2 c = schema-refused (c .before .before .before .before .before .enum-told2 .given .1) refl (c .before .before .put-bytes2 .ensures)
 
 same-length-3 : tie.Need-same-length-3
 same-length-3 c = search needs
 
 returns-3 : tie.Need-returns-3
 unfolding refusedLine decimalText
-returns-3 c = message-refused (c .before .before .before .before .before .enum-told3 .given .1) refl (c .before .before .put-bytes3 .ensures)
+returns-3 c = schema-refused (c .before .before .before .before .before .enum-told3 .given .1) refl (c .before .before .put-bytes3 .ensures)
 
 same-length-4 : tie.Need-same-length-4
 same-length-4 c = search needs
 
 returns-4 : tie.Need-returns-4
 unfolding refusedLine decimalText
-returns-4 c = message-refused (c .before .before .before .before .before .enum-told4 .given .1) refl (c .before .before .put-bytes4 .ensures)
+returns-4 c = schema-refused (c .before .before .before .before .before .enum-told4 .given .1) refl (c .before .before .put-bytes4 .ensures)
 
 same-length-5 : tie.Need-same-length-5
 same-length-5 c = search needs
 
 returns-5 : tie.Need-returns-5
 unfolding refusedLine decimalText
-returns-5 c = message-refused (c .before .before .before .before .before .enum-told5 .given .1) refl (c .before .before .put-bytes5 .ensures)
+returns-5 c = schema-refused (c .before .before .before .before .before .enum-told5 .given .1) refl (c .before .before .put-bytes5 .ensures)
 
 same-length-6 : tie.Need-same-length-6
 same-length-6 c = search needs
 
 returns-6 : tie.Need-returns-6
 unfolding refusedLine decimalText
-returns-6 c = message-refused (c .before .before .before .before .before .enum-told6 .given .1) refl (c .before .before .put-bytes6 .ensures)
+returns-6 c = schema-refused (c .before .before .before .before .before .enum-told6 .given .1) refl (c .before .before .put-bytes6 .ensures)
 
 same-length-7 : tie.Need-same-length-7
 same-length-7 c = search needs
 
 returns-7 : tie.Need-returns-7
 unfolding refusedLine decimalText
-returns-7 c = message-refused (c .before .before .before .before .before .enum-told7 .given .1) refl (c .before .before .put-bytes7 .ensures)
+returns-7 c = schema-refused (c .before .before .before .before .before .enum-told7 .given .1) refl (c .before .before .put-bytes7 .ensures)
 
 same-length-8 : tie.Need-same-length-8
 same-length-8 c = search needs
 
 returns-8 : tie.Need-returns-8
 unfolding refusedLine decimalText
-returns-8 c = message-refused (c .before .before .before .before .before .enum-told8 .given .1) refl (c .before .before .put-bytes8 .ensures)
+returns-8 c = schema-refused (c .before .before .before .before .before .enum-told8 .given .1) refl (c .before .before .put-bytes8 .ensures)
 
 same-length-9 : tie.Need-same-length-9
 same-length-9 c = search needs
 
 returns-9 : tie.Need-returns-9
 unfolding refusedLine decimalText
-returns-9 c = message-refused (c .before .before .before .before .before .enum-told9 .given .1) refl (c .before .before .put-bytes9 .ensures)
+returns-9 c = schema-refused (c .before .before .before .before .before .enum-told9 .given .1) refl (c .before .before .put-bytes9 .ensures)
 
 same-length-10 : tie.Need-same-length-10
 same-length-10 c = search needs
 
 returns-10 : tie.Need-returns-10
 unfolding refusedLine decimalText
-returns-10 c = message-refused (c .before .before .before .before .before .enum-told10 .given .1) refl (c .before .before .put-bytes10 .ensures)
+returns-10 c = schema-refused (c .before .before .before .before .before .enum-told10 .given .1) refl (c .before .before .put-bytes10 .ensures)
 
-pub put-message-refusal-spec : {M : Type 1} → statement M
-put-message-refusal-spec =
+same-length-11 : tie.Need-same-length-11
+same-length-11 c = search needs
+
+returns-11 : tie.Need-returns-11
+unfolding refusedLine decimalText
+returns-11 c = schema-refused (c .before .before .before .before .before .enum-told11 .given .1) refl (c .before .before .put-bytes11 .ensures)
+
+same-length-12 : tie.Need-same-length-12
+same-length-12 c = search needs
+
+returns-12 : tie.Need-returns-12
+unfolding refusedLine decimalText
+returns-12 c = schema-refused (c .before .before .before .before .before .enum-told12 .given .1) refl (c .before .before .put-bytes12 .ensures)
+
+same-length-13 : tie.Need-same-length-13
+same-length-13 c = search needs
+
+returns-13 : tie.Need-returns-13
+unfolding refusedLine decimalText
+returns-13 c = schema-refused (c .before .before .before .before .before .enum-told13 .given .1) refl (c .before .before .put-bytes13 .ensures)
+
+pub put-schema-refusal-spec : {M : Type 1} → statement M
+put-schema-refusal-spec =
     tie.close
     (tie.spec
     enum-told
@@ -201,6 +249,15 @@ put-message-refusal-spec =
     enum-told-10
     slice-aggregate-put-bytes-10
     put-bytes-requires-10
+    enum-told-11
+    slice-aggregate-put-bytes-11
+    put-bytes-requires-11
+    enum-told-12
+    slice-aggregate-put-bytes-12
+    put-bytes-requires-12
+    enum-told-13
+    slice-aggregate-put-bytes-13
+    put-bytes-requires-13
     same-length
     returns
     same-length-2
@@ -220,4 +277,10 @@ put-message-refusal-spec =
     same-length-9
     returns-9
     same-length-10
-    returns-10)
+    returns-10
+    same-length-11
+    returns-11
+    same-length-12
+    returns-12
+    same-length-13
+    returns-13)

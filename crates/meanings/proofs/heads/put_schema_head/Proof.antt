@@ -1,10 +1,10 @@
 -- `put_schema_head` meets its contract, by the answer.
 use mathlib.Core.Path.{sym, ap}
 use Rattle.lines.proofs.TextLaws.{puts-as}
-use Rattle.views.specs.Meanings.{schemaHead}
+use Rattle.meanings.specs.Meanings.{schemaHead}
 use borrow.Author.Needs.{needs}
-use Rattle.views.proofs.heads.put_schema_head.Statement.{statement}
-use Rattle.views.proofs.heads.put_schema_head.Tie as tie
+use Rattle.meanings.proofs.heads.put_schema_head.Statement.{statement}
+use Rattle.meanings.proofs.heads.put_schema_head.Tie as tie
 
 enum-known-answer : tie.Need-enum-known-answer
 enum-known-answer c = search needs
