@@ -1,10 +1,10 @@
 // The first line of a view: an answer in words.
 use lines::numbers::put_number;
+use rows::names::name_of;
 use rules::MessageAnswer;
 use rules::MessageRefusal;
 use rules::SchemaAnswer;
 use rules::SchemaRefusal;
-use table::names::name_of;
 use views::shown::put_bytes;
 use views::shown::put_shown;
 ghost use Prim.Native.Nat.{_+_, _≤_};

@@ -15,7 +15,7 @@ use Rattle.grammar.specs.Machine.Message.{message}
 use Rattle.rules.specs.Rows.{rowCount, kind, nameOf}
 use Rattle.rules.specs.Answers.{commandFrom}
 use Rattle.text.specs.Nodes.{Holds}
-use Rattle.table.proofs.ListLaws.{same-sym}
+use Rattle.rows.proofs.ListLaws.{same-sym}
 use Rattle.lookups.specs.Lookups.{NodeMeans}
 use Rattle.message.specs.declared.commands.Command.{Command}
 use Rattle.message.specs.declared.commands.Command.the-variants.{Row, Unknown}

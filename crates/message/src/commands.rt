@@ -1,7 +1,7 @@
 // The command that a message names.
 use lookups::values::node_means;
-use table::names::name_of;
-use table::rows::word;
+use rows::names::name_of;
+use rows::rows::word;
 ghost use Rattle.message.specs.Commands.{NamesCommand, FindsCommand};
 
 pub enum Command {

@@ -16,9 +16,9 @@ use Rattle.rules.specs.Rows.{upFrom, base, optional, inlineRows, childCount, ch
 use Rattle.rules.specs.ReadingOf.{mandatoryThere}
 use Rattle.rules.proofs.Lists.{none-not-some, key-there}
 use Rattle.rules.proofs.First.{decided}
-use Rattle.table.proofs.Walks.{upFrom-on, upFrom-end}
-use Rattle.table.proofs.ListLaws.{all-append}
-use Rattle.table.proofs.ChildLaws.{children-run}
+use Rattle.rows.proofs.Walks.{upFrom-on, upFrom-end}
+use Rattle.rows.proofs.ListLaws.{all-append}
+use Rattle.rows.proofs.ChildLaws.{children-run}
 use Rattle.lookups.specs.Lookups.{ValueFound, FindsValue}
 use Rattle.readings.specs.Members.{FieldsAt, IsThere, OwnThere, AllThere}
 use Rattle.readings.proofs.MemberLaws.{not0, members-none, members-out, members-split}

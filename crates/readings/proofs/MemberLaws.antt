@@ -18,8 +18,8 @@ use Rattle.rules.specs.Rules.{namesOf}
 use Rattle.rules.specs.SchemaTable.{memberIn}
 use Rattle.rules.specs.ReadingOf.{branchLink}
 use Rattle.rules.proofs.Lists.{none-not-some}
-use Rattle.table.proofs.Walks.{upFrom-on, upFrom-end}
-use Rattle.table.proofs.ChildLaws.{children-run}
+use Rattle.rows.proofs.Walks.{upFrom-on, upFrom-end}
+use Rattle.rows.proofs.ChildLaws.{children-run}
 use Rattle.lookups.specs.Lookups.{NodeMeans}
 use Rattle.readings.specs.Members.{MeaningAt, ChildMeant, MemberMeant, FieldMember}
 use Rattle.readings.specs.Members.MeaningAt.{a-key, a-string}

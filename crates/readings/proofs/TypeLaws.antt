@@ -14,8 +14,8 @@ use Rattle.rules.specs.Rows.{upFrom, kind, typeRef, inlineRows, childCount, chi
 use Rattle.rules.specs.Rules.{is}
 use Rattle.rules.specs.ReadingOf.{ofKind, fromAlternatives, via}
 use Rattle.table.specs.RuleParts.{columnOr6}
-use Rattle.table.proofs.Walks.{upFrom-on, upFrom-end}
-use Rattle.table.proofs.ChildLaws.{children-run}
+use Rattle.rows.proofs.Walks.{upFrom-on, upFrom-end}
+use Rattle.rows.proofs.ChildLaws.{children-run}
 use Rattle.text.specs.Nodes.{node}
 use Rattle.readings.specs.Parts.{columnOf, AlternativeOf, TypeFor}
 use Rattle.readings.specs.declared.types.Via.{Via}

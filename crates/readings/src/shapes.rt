@@ -5,8 +5,8 @@ use crate::members::child_meant;
 use crate::members::object_at;
 use crate::types::FIRST_REFERENCE;
 use lookups::values::is_string;
-use table::rows::wide;
-use table::rows::word;
+use rows::rows::wide;
+use rows::rows::word;
 use text::nodes::node_word;
 ghost use Rattle.readings.specs.Parts.{ScalarFits, ShapeAt, ArrayShape, ObjectShape, ScalarShape};
 

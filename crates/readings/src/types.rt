@@ -1,11 +1,11 @@
 // By which type a value is read: the one given, or one alternative of an alternate.
 use crate::builtins::column;
+use rows::rows::child_count;
+use rows::rows::first_child;
+use rows::rows::wide;
+use rows::rows::word;
 use rules::FIRST_ROW;
 use table::alternates::type_kind;
-use table::rows::child_count;
-use table::rows::first_child;
-use table::rows::wide;
-use table::rows::word;
 use text::nodes::node_word;
 ghost use Prim.Native.Nat.{_<_, _^_};
 ghost use Rattle.readings.specs.Parts.{AlternativeOf, TypeFor};

@@ -17,11 +17,11 @@ use Rattle.rules.specs.Rows.{kind, nameOf}
 use Rattle.rules.specs.SchemaTable.{placeIn, reference}
 use Rattle.rules.specs.Cells.{firstLink, isNamed}
 use Rattle.rules.proofs.Lists.{clash, and-left, and-right}
-use Rattle.table.specs.Index.{itself, rowMark}
+use Rattle.rows.specs.Index.{itself, rowMark}
 use Rattle.table.specs.Definitions.{definitionRows}
-use Rattle.table.specs.Marks.{markOf}
-use Rattle.table.proofs.Walks.{granted, denied}
-use Rattle.table.proofs.IndexLaws.{Walk, Says, walk-start, walk-hit, walk-on, walk-end, walk-out}
+use Rattle.rows.specs.Marks.{markOf}
+use Rattle.rows.proofs.Walks.{granted, denied}
+use Rattle.rows.proofs.IndexLaws.{Walk, Says, walk-start, walk-hit, walk-on, walk-end, walk-out}
 use Rattle.table.proofs.DistinctLaws.{few-rows}
 use Rattle.references.specs.Lookups.{nameIn, fitting, findRow, refersTo, wordRefers, Heads, Finds, Refers}
 

@@ -19,7 +19,7 @@ use Rattle.rules.specs.Cells.{Entry, blank, inlineEntries, ownEntry, childEntri
 use Rattle.rules.specs.Cells.Entry.{valueRow, memberRow, branchRow, alternativeRow}
 use Rattle.rules.proofs.Cells.{table-words, length-words, words-append, every-append, every-is, entry-names, every-at, entries-follow}
 use Rattle.rules.proofs.CellRows.{Behind, inline-after}
-use Rattle.table.proofs.ListLaws.{all-append, all-map}
+use Rattle.rows.proofs.ListLaws.{all-append, all-map}
 use Rattle.references.specs.Steps.{putRow, foundRow, putRows, foundRows}
 use Rattle.references.proofs.RawWords.{rawTag, linkRefers, all-behind}
 use Rattle.references.proofs.RawRows.{entryRefers, NamedRow, inline-behind, row-step}

@@ -17,8 +17,8 @@ use Rattle.rules.specs.Rules.{is}
 use Rattle.rules.specs.SchemaTable.{memberIn, memberOf}
 use Rattle.rules.proofs.Lists.{clash, none-not-some}
 use Rattle.table.specs.Chains.{chainEnds}
-use Rattle.table.proofs.Walks.{upFrom-on, upFrom-end, granted, denied}
-use Rattle.table.proofs.ChildLaws.{children-run}
+use Rattle.rows.proofs.Walks.{upFrom-on, upFrom-end, granted, denied}
+use Rattle.rows.proofs.ChildLaws.{children-run}
 use Rattle.table.proofs.ChainLaws.{ends-is}
 use Rattle.references.specs.Lookups.{nameIn}
 use Rattle.references.specs.Tags.{orElse, memberLink, narrow, tagLink, putTag, putTags}

@@ -1,9 +1,9 @@
 // The words of rows that name become links and type references, in place.
 use crate::find::referred;
 use buckets::BUCKETS;
+use rows::rows::is_inline;
+use rows::rows::word;
 use rules::ROW_WORDS;
-use table::rows::is_inline;
-use table::rows::word;
 ghost use mathlib.Core.Path.{_≡_};
 ghost use Prim.Native.Nat.{_+_, _*_, _<_, _^_};
 ghost use mathlib.Core.Bool.{_&&_};

@@ -1,14 +1,14 @@
 // Discriminators become links to members of the base, found by recursion over base links, the structs left falling.
 use crate::find::named_by;
+use rows::names::name_of;
+use rows::names::same_bytes;
+use rows::rows::child_count;
+use rows::rows::first_child;
+use rows::rows::wide;
+use rows::rows::word;
 use rules::CHAIN_STRUCTS;
 use rules::ROW_WORDS;
 use table::chains::chain_ends;
-use table::names::name_of;
-use table::names::same_bytes;
-use table::rows::child_count;
-use table::rows::first_child;
-use table::rows::wide;
-use table::rows::word;
 ghost use mathlib.Core.Path.{_≡_};
 ghost use Prim.Native.Nat.{_+_, _*_, _<_, _^_};
 ghost use lib.ListN.{length};

@@ -1,4 +1,5 @@
 // The stages of the compile call, from the table on: each number is judged over the whole schema before the next.
+use rows::marks::put_marks;
 use rules::ROW_WORDS;
 use rules::SchemaAnswer;
 use rules::SchemaRefusal;
@@ -7,13 +8,12 @@ use table::alternates::good_alternates;
 use table::chains::good_chains;
 use table::definitions::distinct_names;
 use table::definitions::good_names;
-use table::marks::put_marks;
 use table::returns::good_returns;
 use table::unions::good_unions;
 use words::copy;
 ghost use Prim.Native.Nat.{_*_, _≤_, _<_, _^_};
 ghost use lib.ListN.{length};
-ghost use Rattle.table.specs.Marks.{Marks};
+ghost use Rattle.rows.specs.Marks.{Marks};
 ghost use Rattle.schema.specs.Stages.{Answered, Zero, IsTable, Refers};
 
 // Numbers 12 and 13, and the lent rows.

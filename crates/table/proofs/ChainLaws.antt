@@ -16,10 +16,10 @@ use Rattle.rules.specs.Rows.{upFrom, base, inlineRows, childCount, children, me
 use Rattle.rules.specs.Rules.{any, is, namesOf, noClash, base-structs, chainFits}
 use Rattle.rules.proofs.Lists.{none-not-some, any-true, any-of, is-true, in-upFrom, upFrom-bounds}
 use Rattle.rules.proofs.First.{decided}
-use Rattle.table.specs.Marks.{freshOf, runsApart}
+use Rattle.rows.specs.Marks.{freshOf, runsApart}
 use Rattle.table.specs.Chains.{chainEnds, hasChild, hasMember, isMember, listsApart, childrenNew, membersNew}
-use Rattle.table.proofs.ListLaws.{all-map, all-map-append, any-map-append, any-append, all-same, all-true, all-both, not-any, not-not, not-or, no-clash-is, is-guard}
-use Rattle.table.proofs.ChildLaws.{children-run}
+use Rattle.rows.proofs.ListLaws.{all-map, all-map-append, any-map-append, any-append, all-same, all-true, all-both, not-any, not-not, not-or, no-clash-is, is-guard}
+use Rattle.rows.proofs.ChildLaws.{children-run}
 
 -- a walk by structs left and link: `none` at link 0, `out` where no struct is left, and `on` of the walk from the base and the struct's row
 pub record Walk (T : List ℕ) (f : ℕ → ℕ → Bool) (none out : Bool) (on : Bool → ℕ → Bool) : Type 0 where

@@ -16,8 +16,8 @@ use Rattle.rules.specs.Rows.{rowCount, kind, inline, nameOf}
 use Rattle.rules.specs.Rules.{isDefinition, goodNames}
 use Rattle.rules.specs.SchemaTable.{placeIn, later}
 use Rattle.table.specs.Definitions.{nameFits, placeFrom}
-use Rattle.table.proofs.Walks.{upTo, upTo-rows}
-use Rattle.table.proofs.NameFacts.{fresh}
+use Rattle.rows.proofs.Walks.{upTo, upTo-rows}
+use Rattle.rows.proofs.NameFacts.{fresh}
 use Rattle.table.proofs.LayoutFacts.{ofDefinition}
 
 -- rule 5

@@ -16,14 +16,14 @@ use Rattle.rules.specs.Names.{clash}
 use Rattle.rules.specs.Rows.{upFrom, rowCount, inlineRows, childCount, children, nameOf}
 use Rattle.rules.specs.Rules.{those, isDefinition, namesOf, noClash, distinctNames}
 use Rattle.rules.specs.SchemaTable.{placeIn}
-use Rattle.table.specs.Marks.{markOf}
-use Rattle.table.specs.Index.{itself, RowIndex, freshIn, Entered}
+use Rattle.rows.specs.Marks.{markOf}
+use Rattle.rows.specs.Index.{itself, RowIndex, freshIn, Entered}
 use Rattle.table.specs.Definitions.{definitionRows, withRow, DefinitionIndex, RowEntered, clearIn, DefinitionEntered, definitionsClear, childrenApart}
-use Rattle.table.proofs.Walks.{upFrom-on, upFrom-end, upTo, upTo-of, upTo-back, upTo-none, upTo-miss}
-use Rattle.table.proofs.RowFacts.{children-from}
-use Rattle.table.proofs.NameFacts.{fresh}
+use Rattle.rows.proofs.Walks.{upFrom-on, upFrom-end, upTo, upTo-of, upTo-back, upTo-none, upTo-miss}
+use Rattle.rows.proofs.RowFacts.{children-from}
+use Rattle.rows.proofs.NameFacts.{fresh}
 use Rattle.table.proofs.DefinitionFacts.{taken-of-place, fresh-of-place}
-use Rattle.table.proofs.IndexLaws.{index-none, index-more}
+use Rattle.rows.proofs.IndexLaws.{index-none, index-more}
 
 -- rows that pass a test
 few : (f : ℕ → Bool) (n a : ℕ) → length (those f (upFrom a n)) ≤ n

@@ -19,8 +19,8 @@ use Rattle.rules.specs.Rules.{is, sameKinds, kindsOf, alternateFits, returnFits
 use Rattle.rules.proofs.Lists.{all-true, in-upFrom}
 use Rattle.rules.proofs.Grid.{built-in-kind, row-kind}
 use Rattle.table.specs.RuleParts.{columnOr6, rowColumn, kindNew, kindsFit}
-use Rattle.table.proofs.ListLaws.{all-map, all-same, eqb-sym}
-use Rattle.table.proofs.Walks.{upFrom-end, upFrom-on}
+use Rattle.rows.proofs.ListLaws.{all-map, all-same, eqb-sym}
+use Rattle.rows.proofs.Walks.{upFrom-end, upFrom-on}
 
 -- the column of a type
 module _ (T : List ℕ) where

@@ -15,8 +15,8 @@ use borrow.Author.Tests.{eq-eqb, ne-eqb}
 use Rattle.grammar.specs.Notation.{all}
 use Rattle.rules.specs.Rows.{upFrom, rowCount, word, kind, inline, inlineRows, childCount}
 use Rattle.rules.specs.Sound.{childrenFit, definitionAt, laidOut, lastUsed, restZero}
-use Rattle.table.proofs.Walks.{upTo, upTo-of}
-use Rattle.table.proofs.RowFacts.{children-from}
+use Rattle.rows.proofs.Walks.{upTo, upTo-of}
+use Rattle.rows.proofs.RowFacts.{children-from}
 
 -- children from a up to e, of the kind after their row's
 pub fit-upTo : (T : List ℕ) (r a e : ℕ) → a ≡ suc r + inlineRows T r → e ≡ a + childCount T r → childrenFit T r ≡ upTo (λ c. eqb (kind T c) (suc (kind T r))) a e

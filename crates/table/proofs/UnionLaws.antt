@@ -15,7 +15,7 @@ use Rattle.rules.specs.Rules.{any, is, namesOf, noClash, discriminatorRow, disc
 use Rattle.rules.proofs.Lists.{and-left, and-right}
 use Rattle.table.specs.Chains.{chainEnds, hasChild, isMember, membersNew}
 use Rattle.table.specs.RuleParts.{isTag, tagFits, branchNew}
-use Rattle.table.proofs.ListLaws.{all-same, any-same, any-none, is-guard}
+use Rattle.rows.proofs.ListLaws.{all-same, any-same, any-none, is-guard}
 use Rattle.table.proofs.ChainLaws.{ends-is, is-member-is, members-new-is}
 
 -- a tag: mandatory, no array, of an enum type

@@ -11,7 +11,7 @@ use Rattle.rules.specs.Types.{built-ins}
 use Rattle.rules.specs.Names.{goodName, sameName, clash}
 use Rattle.rules.specs.Rows.{upFrom, rowCount, kind, inline, children, nameOf}
 use Rattle.rules.specs.Rules.{those, everyRow, isDefinition, namesOf, noClash, definitionNames}
-use Rattle.table.specs.Index.{itself, RowIndex, freshIn}
+use Rattle.rows.specs.Index.{itself, RowIndex, freshIn}
 
 -- row r is an inline struct or has a good name
 abbrev pub nameFits : List ℕ → List ℕ → ℕ → Bool

@@ -1,8 +1,8 @@
 // Alternates: rule 10.
-use crate::rows::child_count;
-use crate::rows::first_child;
-use crate::rows::wide;
-use crate::rows::word;
+use rows::rows::child_count;
+use rows::rows::first_child;
+use rows::rows::wide;
+use rows::rows::word;
 use rules::FIRST_ROW;
 use rules::ROW_WORDS;
 ghost use mathlib.Core.Path.{_≡_};

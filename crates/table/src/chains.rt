@@ -1,10 +1,10 @@
 // Chains of bases and inherited members, by recursion over base links, the structs left falling: rule 8.
-use crate::marks::is_fresh;
-use crate::marks::runs_apart;
-use crate::rows::child_count;
-use crate::rows::first_child;
-use crate::rows::wide;
-use crate::rows::word;
+use rows::marks::is_fresh;
+use rows::marks::runs_apart;
+use rows::rows::child_count;
+use rows::rows::first_child;
+use rows::rows::wide;
+use rows::rows::word;
 use rules::CHAIN_STRUCTS;
 use rules::ROW_WORDS;
 ghost use mathlib.Core.Path.{_≡_};
@@ -12,7 +12,7 @@ ghost use Prim.Native.Nat.{_<_, _^_};
 ghost use lib.ListN.{length};
 ghost use Rattle.rules.specs.Rows.{nameOf};
 ghost use Rattle.rules.specs.Rules.{chainFits, goodChains};
-ghost use Rattle.table.specs.Marks.{Marks};
+ghost use Rattle.rows.specs.Marks.{Marks};
 ghost use Rattle.table.specs.Chains.{chainEnds, hasChild, isMember, listsApart, childrenNew, membersNew};
 
 // The most structs on the chain of a base: the struct that has it is the first one counted.

@@ -1,16 +1,16 @@
 // Names of definitions and of what is in them: rules 5 and 6.
-use crate::index::add_new;
-use crate::index::all_apart;
-use crate::marks::mark_of;
-use crate::names::good_name;
-use crate::names::name_of;
-use crate::names::same_bytes;
-use crate::rows::child_count;
-use crate::rows::first_child;
-use crate::rows::is_inline;
-use crate::rows::word;
 use buckets::BUCKETS;
 use buckets::add;
+use rows::index::add_new;
+use rows::index::all_apart;
+use rows::marks::mark_of;
+use rows::names::good_name;
+use rows::names::name_of;
+use rows::names::same_bytes;
+use rows::rows::child_count;
+use rows::rows::first_child;
+use rows::rows::is_inline;
+use rows::rows::word;
 use rules::ROW_WORDS;
 use strings::classes::class_table;
 ghost use mathlib.Core.Path.{_≡_};
@@ -24,7 +24,7 @@ ghost use Rattle.rules.specs.Types.{built-ins};
 ghost use Rattle.rules.specs.Rules.{isDefinition, goodNames, distinctNames};
 ghost use Rattle.rules.specs.SchemaTable.{placeIn};
 ghost use Rattle.strings.specs.Classes.{classOf, tabulate};
-ghost use Rattle.table.specs.Marks.{Marks};
+ghost use Rattle.rows.specs.Marks.{Marks};
 ghost use Rattle.table.specs.Definitions.{nameFits, placeFrom, DefinitionIndex, RowEntered, DefinitionEntered, definitionsClear, childrenApart};
 
 // The number of a name among five that are numbered from n on; 0 if it is none of them.

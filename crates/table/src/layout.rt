@@ -1,10 +1,10 @@
 // The layout: rows fall into definitions, each followed by its inline struct and its children.
-use crate::rows::child_count;
-use crate::rows::first_child;
-use crate::rows::inline_rows;
-use crate::rows::is_inline;
-use crate::rows::wide;
-use crate::rows::word;
+use rows::rows::child_count;
+use rows::rows::first_child;
+use rows::rows::inline_rows;
+use rows::rows::is_inline;
+use rows::rows::wide;
+use rows::rows::word;
 use rules::ROW_WORDS;
 ghost use mathlib.Core.Path.{_≡_};
 ghost use Prim.Native.Nat.{_<_, _^_};

@@ -2,12 +2,8 @@
 pub mod alternates;
 pub mod chains;
 pub mod definitions;
-pub mod index;
 pub mod layout;
-pub mod marks;
-pub mod names;
 pub mod references;
 pub mod returns;
-pub mod rows;
 pub mod sound;
 pub mod unions;

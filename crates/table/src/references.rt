@@ -1,7 +1,7 @@
 // References: every link and every type reference is to a row of a fitting kind, and flags are 0 or 1.
-use crate::rows::is_inline;
-use crate::rows::wide;
-use crate::rows::word;
+use rows::rows::is_inline;
+use rows::rows::wide;
+use rows::rows::word;
 use rules::FIRST_ROW;
 ghost use mathlib.Core.Path.{_≡_};
 ghost use mathlib.Core.Bool.{_||_};

@@ -1,6 +1,6 @@
 // What commands return: rule 11.
-use crate::rows::wide;
-use crate::rows::word;
+use rows::rows::wide;
+use rows::rows::word;
 use rules::FIRST_ROW;
 use rules::ROW_WORDS;
 ghost use mathlib.Core.Path.{_≡_};

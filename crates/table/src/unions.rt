@@ -3,10 +3,10 @@ use crate::chains::chain_ends;
 use crate::chains::has_child;
 use crate::chains::is_member;
 use crate::chains::members_new;
-use crate::rows::child_count;
-use crate::rows::first_child;
-use crate::rows::wide;
-use crate::rows::word;
+use rows::rows::child_count;
+use rows::rows::first_child;
+use rows::rows::wide;
+use rows::rows::word;
 use rules::CHAIN_STRUCTS;
 use rules::FIRST_ROW;
 use rules::ROW_WORDS;
@@ -16,7 +16,7 @@ ghost use lib.ListN.{length};
 ghost use Rattle.grammar.specs.Notation.{all};
 ghost use Rattle.rules.specs.Rows.{children};
 ghost use Rattle.rules.specs.Rules.{unionFits, goodUnions};
-ghost use Rattle.table.specs.Marks.{Marks};
+ghost use Rattle.rows.specs.Marks.{Marks};
 ghost use Rattle.table.specs.RuleParts.{isTag, tagFits, branchNew};
 
 // Whether row d is a mandatory member, no array, of an enum type.

@@ -1,5 +1,5 @@
 // The records open around a record: their ends, in lent words, the innermost last.
-use table::rows::wide;
+use rows::rows::wide;
 use viewer::records::least;
 ghost use Prim.Native.Nat.{_≤_};
 ghost use mathlib.Core.Path.{_≡_};

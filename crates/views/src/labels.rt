@@ -1,9 +1,9 @@
 // What a record is called. A key is looked for backwards from its value.
 use crate::shown::put_bytes;
 use crate::shown::put_shown;
+use rows::rows::wide;
+use rows::rows::word;
 use rules::FIRST_ROW;
-use table::rows::wide;
-use table::rows::word;
 use viewer::records::Seen;
 use viewer::records::least;
 use viewer::records::part_of;

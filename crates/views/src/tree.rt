@@ -5,7 +5,7 @@ use crate::labels::put_label;
 use crate::shown::put_bytes;
 use crate::shown::put_shown;
 use crate::types::put_type;
-use table::rows::wide;
+use rows::rows::wide;
 use viewer::reader::ask;
 use viewer::records::Seen;
 use viewer::records::least;

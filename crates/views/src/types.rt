@@ -1,10 +1,10 @@
 // A type by its name.
 use crate::shown::put_bytes;
 use crate::shown::put_shown;
+use rows::names::name_of;
+use rows::rows::wide;
+use rows::rows::word;
 use rules::FIRST_ROW;
-use table::names::name_of;
-use table::rows::wide;
-use table::rows::word;
 ghost use mathlib.Core.Path.{_≡_};
 ghost use Prim.Native.Nat.{_+_, _-_, _≤_, _<_};
 ghost use mathlib.Core.List.{[]};

@@ -1,5 +1,5 @@
 -- `check::judge` meets its contract: numbers 21 and 22, then the rest.
-use Rattle.table.proofs.Walks.{denied, granted}
+use Rattle.rows.proofs.Walks.{denied, granted}
 use Rattle.message.proofs.StageLaws.{unsound, too-long, judged-on}
 use borrow.Author.Needs.{needs}
 use Rattle.message.proofs.check.judge.Statement.{statement}

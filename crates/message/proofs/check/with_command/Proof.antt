@@ -1,5 +1,5 @@
 -- `check::with_command` meets its contract: allowed, read, held.
-use Rattle.table.proofs.Walks.{denied, granted}
+use Rattle.rows.proofs.Walks.{denied, granted}
 use Rattle.message.proofs.ArgumentLaws.{not-allowed, unread, unheld, held}
 use borrow.Author.Needs.{needs}
 use Rattle.message.proofs.check.with_command.Statement.{statement}

@@ -1,6 +1,6 @@
 -- `check::with_nodes` meets its contract: numbers 25 and 26, then the envelope that was read.
 use mathlib.Core.Path.{refl}
-use Rattle.table.proofs.Walks.{denied, granted}
+use Rattle.rows.proofs.Walks.{denied, granted}
 use Rattle.message.proofs.CallLaws.{keys-are, improper, says-call, call-says}
 use Rattle.message.proofs.StageLaws.{repeated, no-envelope, envelope-on}
 use borrow.Author.Needs.{needs}

@@ -1,6 +1,6 @@
 -- `envelope::call` meets its contract: by the kind of the node.
 use Rattle.message.proofs.EnvelopeLaws.{no-name, not-string, a-string}
-use Rattle.table.proofs.Walks.{denied, granted}
+use Rattle.rows.proofs.Walks.{denied, granted}
 use borrow.Author.Needs.{needs}
 use Rattle.message.proofs.envelope.call.Statement.{statement}
 use Rattle.message.proofs.envelope.call.Tie as tie

@@ -1,7 +1,7 @@
 -- `envelope::read_envelope` meets its contract: an object, no other key, arguments that are an object, and one name.
 use mathlib.Core.Path.{_∙_, sym}
 use borrow.Author.Tests.{not-true, not-false}
-use Rattle.table.proofs.Walks.{denied, granted}
+use Rattle.rows.proofs.Walks.{denied, granted}
 use Rattle.message.proofs.EnvelopeLaws.{not-object, other-key, bad-arguments, in-band, both, out-of-band}
 use Rattle.lookups.proofs.KeyTests.{keys-are}
 use borrow.Author.Needs.{needs}

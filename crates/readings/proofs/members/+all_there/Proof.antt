@@ -10,8 +10,8 @@ use Rattle.readings.proofs.members.all_there.Reads as all-there
 use Rattle.readings.proofs.members.all_there.Kinds as all-there-kinds
 use Rattle.readings.proofs.members.+all_there.Lts-all_there as all-there-lts
 use Rattle.readings.proofs.members.own_there.Reads as own-there-reads
-use Rattle.table.proofs.rows.wide.Reads as wide-reads
-use Rattle.table.proofs.rows.word.Reads as word-reads
+use Rattle.rows.proofs.rows.wide.Reads as wide-reads
+use Rattle.rows.proofs.rows.word.Reads as word-reads
 use Rattle.readings.proofs.members.+all_there.{statement}
 use Rattle.readings.proofs.members.+all_there.Tie.{close}
 

@@ -9,8 +9,8 @@ use Rattle.readings.proofs.members.member_meant.Reads as member-meant
 use Rattle.readings.proofs.members.member_meant.Kinds as member-meant-kinds
 use Rattle.readings.proofs.members.+member_meant.Lts-member_meant as member-meant-lts
 use Rattle.readings.proofs.members.child_meant.Reads as child-meant-reads
-use Rattle.table.proofs.rows.wide.Reads as wide-reads
-use Rattle.table.proofs.rows.word.Reads as word-reads
+use Rattle.rows.proofs.rows.wide.Reads as wide-reads
+use Rattle.rows.proofs.rows.word.Reads as word-reads
 use Rattle.readings.proofs.members.+member_meant.{statement}
 use Rattle.readings.proofs.members.+member_meant.Tie.{close}
 

@@ -4,8 +4,8 @@ use borrow.Author.Needs.{needs}
 use Prim.Native.Nat.{_-_}
 use mathlib.Core.Path.{refl}
 use native.Mathlib.Omega.{arith}
-use Rattle.table.proofs.LoopLaws.{next-fits}
-use Rattle.table.proofs.ChildLaws.{end-fits}
+use Rattle.rows.proofs.LoopLaws.{next-fits}
+use Rattle.rows.proofs.ChildLaws.{end-fits}
 use Rattle.readings.proofs.MemberLaws.{ChildLeft, child-start, child-hit, child-on, child-end}
 use Rattle.readings.proofs.members.child_meant.Statement.{statement}
 use Rattle.readings.proofs.members.child_meant.Tie as tie

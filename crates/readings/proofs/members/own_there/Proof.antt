@@ -4,8 +4,8 @@ use borrow.Author.Needs.{needs}
 use Prim.Native.Nat.{_-_}
 use native.Mathlib.Omega.{arith}
 use borrow.Author.Tests.{not-true, not-false}
-use Rattle.table.proofs.LoopLaws.{next-fits}
-use Rattle.table.proofs.ChildLaws.{end-fits}
+use Rattle.rows.proofs.LoopLaws.{next-fits}
+use Rattle.rows.proofs.ChildLaws.{end-fits}
 use Rattle.readings.proofs.MandatoryLaws.{OwnLeft, own-start, own-fails, own-on, own-end}
 use Rattle.readings.proofs.members.own_there.Statement.{statement}
 use Rattle.readings.proofs.members.own_there.Tie as tie

@@ -25,7 +25,7 @@ use Rattle.readings.proofs.members.field_member.Reads as field-member-r
 use Rattle.readings.proofs.readings.put_node_record.Reads as put-node-record-reads
 use Rattle.readings.proofs.shapes.shape_at.Reads as shape-at-reads
 use Rattle.readings.proofs.types.type_for.Reads as type-for-reads
-use Rattle.table.proofs.rows.word.Reads as word-reads
+use Rattle.rows.proofs.rows.word.Reads as word-reads
 use Rattle.text.proofs.nodes.node_number.Reads as node-number-reads
 use Rattle.readings.proofs.readings.+read_fields+read_items+read_plain+read_value.{statement}
 use Rattle.readings.proofs.readings.+read_fields+read_items+read_plain+read_value.Tie.{close}

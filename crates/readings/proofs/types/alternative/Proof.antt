@@ -3,8 +3,8 @@
 use borrow.Author.Needs.{needs}
 use Prim.Native.Nat.{_-_}
 use native.Mathlib.Omega.{arith}
-use Rattle.table.proofs.LoopLaws.{next-fits}
-use Rattle.table.proofs.ChildLaws.{end-fits}
+use Rattle.rows.proofs.LoopLaws.{next-fits}
+use Rattle.rows.proofs.ChildLaws.{end-fits}
 use Rattle.readings.proofs.TypeLaws.{AlternativesLeft, alternatives-start, alternatives-hit, alternatives-on, alternatives-end}
 use Rattle.readings.proofs.types.alternative.Statement.{statement}
 use Rattle.readings.proofs.types.alternative.Tie as tie

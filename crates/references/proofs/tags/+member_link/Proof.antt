@@ -5,8 +5,8 @@ use mathlib.Core.Path.{_∙_}
 use borrow.Author.Needs.{needs}
 use borrow.Fn.PlainCycle.{Measures, is, falls, and}
 use borrow.Fn.Kinds.{In}
-use Rattle.table.proofs.rows.wide.Reads as wide-reads
-use Rattle.table.proofs.rows.word.Reads as word-reads
+use Rattle.rows.proofs.rows.wide.Reads as wide-reads
+use Rattle.rows.proofs.rows.word.Reads as word-reads
 use Rattle.references.proofs.TagLaws.{walk-none, walk-out, walk-inherited, walk-own}
 use Rattle.references.proofs.tags.member_link.Reads as member-link
 use Rattle.references.proofs.tags.member_link.Kinds as member-link-kinds

@@ -5,8 +5,8 @@ use native.Mathlib.Omega.{arith}
 use borrow.Author.Needs.{needs}
 use Rattle.rules.specs.Rows.{children}
 use Rattle.rules.specs.SchemaTable.{memberIn}
-use Rattle.table.proofs.LoopLaws.{next-fits}
-use Rattle.table.proofs.ChildLaws.{end-fits}
+use Rattle.rows.proofs.LoopLaws.{next-fits}
+use Rattle.rows.proofs.ChildLaws.{end-fits}
 use Rattle.references.proofs.TagLaws.{LinkLeft, link-starts, link-hit, link-on, link-ends}
 use Rattle.references.proofs.tags.child_link.Statement.{statement}
 use Rattle.references.proofs.tags.child_link.Tie as tie

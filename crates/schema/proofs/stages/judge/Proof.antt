@@ -3,7 +3,7 @@ use mathlib.Core.Path.{refl}
 use Rattle.rules.specs.Rules.{goodNames, distinctNames}
 use Rattle.rules.specs.declared.SchemaRefusal.the-variants.{BadName, RepeatedName}
 use borrow.Author.Tests.{not-true, not-false}
-use Rattle.table.proofs.Walks.{denied, granted}
+use Rattle.rows.proofs.Walks.{denied, granted}
 use Rattle.schema.proofs.StageLaws.{broken, kept, unknown, all-known}
 use borrow.Author.Needs.{needs}
 use Rattle.schema.proofs.stages.judge.Statement.{statement}

@@ -2,7 +2,7 @@
 use mathlib.Core.Path.{refl}
 use Rattle.rules.specs.Rules.{goodChains, goodUnions, goodAlternates, goodReturns}
 use Rattle.rules.specs.declared.SchemaRefusal.the-variants.{BadChain, BadUnion, BadAlternate, BadReturn}
-use Rattle.table.proofs.Walks.{denied, granted}
+use Rattle.rows.proofs.Walks.{denied, granted}
 use Rattle.schema.proofs.StageLaws.{broken, kept}
 use borrow.Author.Needs.{needs}
 use Rattle.schema.proofs.stages.judge_definitions.Statement.{statement}

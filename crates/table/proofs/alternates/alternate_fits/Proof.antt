@@ -4,7 +4,7 @@ use mathlib.Core.Path.{sym, ap, _∙_}
 use native.Mathlib.Omega.{arith}
 use borrow.Author.Needs.{needs}
 use Rattle.table.specs.RuleParts.{kindsFit}
-use Rattle.table.proofs.ChildLaws.{children-run, end-fits}
+use Rattle.rows.proofs.ChildLaws.{children-run, end-fits}
 use Rattle.table.proofs.KindLaws.{alternate-empty, alternate-is}
 use Rattle.table.proofs.alternates.alternate_fits.Statement.{statement}
 use Rattle.table.proofs.alternates.alternate_fits.Tie as tie

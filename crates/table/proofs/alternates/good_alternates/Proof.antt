@@ -6,8 +6,8 @@ use mathlib.Core.Logic.{⊎-elim}
 use native.Mathlib.Omega.{arith}
 use borrow.Author.Needs.{needs}
 use Rattle.rules.specs.Rules.{alternateFits, goodAlternates}
-use Rattle.table.proofs.Walks.{denied, granted}
-use Rattle.table.proofs.LoopLaws.{KindLeft, kind-starts, kind-fails, kind-on, kind-other, kind-ends}
+use Rattle.rows.proofs.Walks.{denied, granted}
+use Rattle.rows.proofs.LoopLaws.{KindLeft, kind-starts, kind-fails, kind-on, kind-other, kind-ends}
 use Rattle.table.proofs.alternates.good_alternates.Statement.{statement}
 use Rattle.table.proofs.alternates.good_alternates.Tie as tie
 

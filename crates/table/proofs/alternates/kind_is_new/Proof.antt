@@ -8,7 +8,7 @@ use lib.Dec.{eqb}
 use borrow.Author.Needs.{needs}
 use Rattle.rules.specs.Rows.{upFrom, typeRef, typeKind}
 use Rattle.table.specs.RuleParts.{columnOr6, kindNew}
-use Rattle.table.proofs.LoopLaws.{AllLeft, all-fails, all-on, all-ends}
+use Rattle.rows.proofs.LoopLaws.{AllLeft, all-fails, all-on, all-ends}
 use Rattle.table.proofs.KindLaws.{column-at, column-hit, column-new}
 use Rattle.table.proofs.alternates.kind_is_new.Statement.{statement}
 use Rattle.table.proofs.alternates.kind_is_new.Tie as tie

@@ -6,7 +6,7 @@ use native.Mathlib.Omega.{arith}
 use borrow.Author.Needs.{needs}
 use Rattle.rules.specs.Rows.{upFrom}
 use Rattle.table.specs.RuleParts.{kindsFit}
-use Rattle.table.proofs.Walks.{denied, granted}
+use Rattle.rows.proofs.Walks.{denied, granted}
 use Rattle.table.proofs.KindLaws.{column-at, KindsLeft, kinds-fail, kinds-clash, kinds-on, kinds-end}
 use Rattle.table.proofs.alternates.kinds_apart.Statement.{statement}
 use Rattle.table.proofs.alternates.kinds_apart.Tie as tie

@@ -9,8 +9,8 @@ use Rattle.table.proofs.ChainLaws.{walk-none, walk-out, walk-on, ends-w
 use Rattle.table.proofs.chains.chain_ends.Reads as chain-ends
 use Rattle.table.proofs.chains.chain_ends.Kinds as chain-ends-kinds
 use Rattle.table.proofs.chains.+chain_ends.Lts-chain_ends as chain-ends-lts
-use Rattle.table.proofs.rows.wide.Reads as wide-reads
-use Rattle.table.proofs.rows.word.Reads as word-reads
+use Rattle.rows.proofs.rows.wide.Reads as wide-reads
+use Rattle.rows.proofs.rows.word.Reads as word-reads
 use Rattle.table.proofs.chains.+chain_ends.{statement}
 use Rattle.table.proofs.chains.+chain_ends.Tie.{close}
 

@@ -9,10 +9,10 @@ use Rattle.table.proofs.ChainLaws.{walk-none, walk-out, walk-on, is-mem
 use Rattle.table.proofs.chains.is_member.Reads as is-member
 use Rattle.table.proofs.chains.is_member.Kinds as is-member-kinds
 use Rattle.table.proofs.chains.+is_member.Lts-is_member as is-member-lts
-use Rattle.table.proofs.rows.child_count.Reads as child-count-reads
-use Rattle.table.proofs.rows.first_child.Reads as first-child-reads
-use Rattle.table.proofs.rows.wide.Reads as wide-reads
-use Rattle.table.proofs.rows.word.Reads as word-reads
+use Rattle.rows.proofs.rows.child_count.Reads as child-count-reads
+use Rattle.rows.proofs.rows.first_child.Reads as first-child-reads
+use Rattle.rows.proofs.rows.wide.Reads as wide-reads
+use Rattle.rows.proofs.rows.word.Reads as word-reads
 use Rattle.table.proofs.chains.+is_member.{statement}
 use Rattle.table.proofs.chains.+is_member.Tie.{close}
 

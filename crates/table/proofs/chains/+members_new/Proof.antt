@@ -5,14 +5,14 @@ use mathlib.Core.Path.{sym, _∙_}
 use borrow.Author.Needs.{needs}
 use borrow.Fn.Kinds.{In}
 use borrow.Fn.PlainCycle.{Measures, is, falls, and}
-use Rattle.table.proofs.Walks.{denied, granted}
+use Rattle.rows.proofs.Walks.{denied, granted}
 use Rattle.table.proofs.ChainLaws.{walk-none, walk-out, walk-on, members-new-walk}
 use Rattle.table.proofs.chains.members_new.Reads as members-new
 use Rattle.table.proofs.chains.members_new.Kinds as members-new-kinds
 use Rattle.table.proofs.chains.+members_new.Lts-members_new as members-new-lts
 use Rattle.table.proofs.chains.children_new.Reads as children-new-reads
-use Rattle.table.proofs.rows.wide.Reads as wide-reads
-use Rattle.table.proofs.rows.word.Reads as word-reads
+use Rattle.rows.proofs.rows.wide.Reads as wide-reads
+use Rattle.rows.proofs.rows.word.Reads as word-reads
 use Rattle.table.proofs.chains.+members_new.{statement}
 use Rattle.table.proofs.chains.+members_new.Tie.{close}
 

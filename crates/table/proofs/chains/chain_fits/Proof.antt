@@ -2,7 +2,7 @@
 -- What the walks say of the list of inherited members.
 use mathlib.Core.Path.{_∙_}
 use borrow.Author.Needs.{needs}
-use Rattle.table.proofs.Walks.{denied, granted}
+use Rattle.rows.proofs.Walks.{denied, granted}
 use Rattle.table.proofs.ChainLaws.{chain-fails, chain-holds}
 use Rattle.table.proofs.chains.chain_fits.Statement.{statement}
 use Rattle.table.proofs.chains.chain_fits.Tie as tie

@@ -1,5 +1,5 @@
 -- `table::chains::has_child` says whether a row has a child with the name of another row: where that name is not fresh among its children.
-use Rattle.table.proofs.ChildLaws.{end-fits}
+use Rattle.rows.proofs.ChildLaws.{end-fits}
 use Rattle.table.proofs.ChainLaws.{has-child-of}
 use borrow.Author.Needs.{needs}
 use Rattle.table.proofs.chains.has_child.Statement.{statement}

@@ -1,5 +1,5 @@
 -- `table::chains::lists_apart` says whether no child of one row has the name of a child of another: two runs of rows.
-use Rattle.table.proofs.ChildLaws.{end-fits}
+use Rattle.rows.proofs.ChildLaws.{end-fits}
 use Rattle.table.proofs.ChainLaws.{lists-apart-of}
 use borrow.Author.Needs.{needs}
 use Rattle.table.proofs.chains.lists_apart.Statement.{statement}

@@ -9,8 +9,8 @@ use Rattle.rules.specs.Names.{clash}
 use Rattle.rules.specs.Rows.{children}
 use Rattle.rules.specs.Rules.{namesOf}
 use Rattle.table.specs.Definitions.{childrenApart}
-use Rattle.table.proofs.Walks.{granted, denied, upTo, upTo-hit, upTo-on, upTo-end, upTo-rows}
-use Rattle.table.proofs.RowFacts.{inlineRows-small, childCount-small}
+use Rattle.rows.proofs.Walks.{granted, denied, upTo, upTo-hit, upTo-on, upTo-end, upTo-rows}
+use Rattle.rows.proofs.RowFacts.{inlineRows-small, childCount-small}
 use Rattle.table.proofs.DistinctLaws.{apart-children}
 use borrow.Author.Needs.{needs}
 use Rattle.table.proofs.definitions.children_apart.Statement.{statement}

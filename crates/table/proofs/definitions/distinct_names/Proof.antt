@@ -1,7 +1,7 @@
 -- `table::definitions::distinct_names` says whether rule 6 holds.
 -- Of the definitions by an index of them, and then of every row's children.
 use mathlib.Core.Path.{_∙_}
-use Rattle.table.proofs.Walks.{granted, denied}
+use Rattle.rows.proofs.Walks.{granted, denied}
 use Rattle.table.proofs.DistinctLaws.{distinct-not, distinct-rest}
 use borrow.Author.Needs.{needs}
 use Rattle.table.proofs.definitions.distinct_names.Statement.{statement}

@@ -5,7 +5,7 @@ use mathlib.Core.Path.{_≡_}
 use borrow.Author.Needs.{needs}
 use Rattle.rules.specs.Rules.{goodNames}
 use Rattle.table.specs.Definitions.{nameFits}
-use Rattle.table.proofs.Walks.{granted, denied, upTo, upTo-hit, upTo-on, upTo-end}
+use Rattle.rows.proofs.Walks.{granted, denied, upTo, upTo-hit, upTo-on, upTo-end}
 use Rattle.table.proofs.DefinitionFacts.{good-names-upTo}
 use Rattle.table.proofs.definitions.good_names.Statement.{statement}
 use Rattle.table.proofs.definitions.good_names.Tie as tie

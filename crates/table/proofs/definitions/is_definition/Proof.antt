@@ -4,7 +4,7 @@ use mathlib.Core.Path.{refl, ap, _∙_}
 use mathlib.Core.Bool.{not}
 use borrow.Author.Needs.{needs}
 use borrow.Author.Tests.{eqb-false}
-use Rattle.table.proofs.Walks.{so}
+use Rattle.rows.proofs.Walks.{so}
 use Rattle.table.proofs.DefinitionFacts.{own-definition, struct-definition, no-definition}
 use Rattle.table.proofs.definitions.is_definition.Statement.{statement}
 use Rattle.table.proofs.definitions.is_definition.Tie as tie

@@ -4,7 +4,7 @@ use mathlib.Core.Path.{ap, _∙_}
 use mathlib.Core.Bool.{_||_}
 use lib.Dec.{eqb}
 use borrow.Author.Needs.{needs}
-use Rattle.table.proofs.Walks.{so}
+use Rattle.rows.proofs.Walks.{so}
 use Rattle.table.proofs.DefinitionFacts.{inline-fits, name-fits-at}
 use Rattle.table.proofs.definitions.name_fits.Statement.{statement}
 use Rattle.table.proofs.definitions.name_fits.Tie as tie

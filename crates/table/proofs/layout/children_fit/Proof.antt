@@ -8,8 +8,8 @@ use borrow.Author.Needs.{needs}
 use borrow.Author.Tests.{eq-eqb, ne-eqb}
 use Rattle.rules.specs.Rows.{kind}
 use Rattle.rules.specs.Sound.{childrenFit}
-use Rattle.table.proofs.Walks.{so, upTo, upTo-hit, upTo-on, upTo-end}
-use Rattle.table.proofs.RowFacts.{inlineRows-small, childCount-small}
+use Rattle.rows.proofs.Walks.{so, upTo, upTo-hit, upTo-on, upTo-end}
+use Rattle.rows.proofs.RowFacts.{inlineRows-small, childCount-small}
 use Rattle.table.proofs.LayoutFacts.{fit-upTo}
 use Rattle.table.proofs.layout.children_fit.Statement.{statement}
 use Rattle.table.proofs.layout.children_fit.Tie as tie

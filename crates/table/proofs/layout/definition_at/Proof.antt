@@ -2,7 +2,7 @@
 -- By its kind, its children, and its inline struct's children where it has one.
 use mathlib.Core.Path.{_∙_}
 use borrow.Author.Needs.{needs}
-use Rattle.table.proofs.Walks.{so, granted, denied}
+use Rattle.rows.proofs.Walks.{so, granted, denied}
 use Rattle.table.proofs.LayoutFacts.{no-definition-at, definition-inline, definition-plain, children-unfit}
 use Rattle.table.proofs.layout.definition_at.Statement.{statement}
 use Rattle.table.proofs.layout.definition_at.Tie as tie

@@ -3,8 +3,8 @@
 use Prim.Native.Nat.{_-_}
 use native.Mathlib.Omega.{arith}
 use borrow.Author.Needs.{needs}
-use Rattle.table.proofs.Walks.{granted, denied}
-use Rattle.table.proofs.RowFacts.{inlineRows-small, childCount-small}
+use Rattle.rows.proofs.Walks.{granted, denied}
+use Rattle.rows.proofs.RowFacts.{inlineRows-small, childCount-small}
 use Rattle.table.proofs.LayoutFacts.{Left, left-all, left-stuck, left-on, left-none}
 use Rattle.table.proofs.layout.is_laid_out.Statement.{statement}
 use Rattle.table.proofs.layout.is_laid_out.Tie as tie

@@ -7,7 +7,7 @@ use lib.ListN.{getD}
 use borrow.Author.Needs.{needs}
 use borrow.Author.Tests.{eq-eqb, ne-eqb}
 use Rattle.rules.specs.Sound.{restZero}
-use Rattle.table.proofs.Walks.{so, upTo, upTo-hit, upTo-on, upTo-end}
+use Rattle.rows.proofs.Walks.{so, upTo, upTo-hit, upTo-on, upTo-end}
 use Rattle.table.proofs.LayoutFacts.{rest-upTo}
 use Rattle.table.proofs.layout.rest_zero.Statement.{statement}
 use Rattle.table.proofs.layout.rest_zero.Tie as tie

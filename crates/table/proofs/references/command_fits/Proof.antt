@@ -2,7 +2,7 @@
 -- A law for each return: no arguments, no flag, nothing returned, no flag of an array, or the type returned.
 use mathlib.Core.Path.{_∙_}
 use borrow.Author.Needs.{needs}
-use Rattle.table.proofs.Walks.{denied, granted}
+use Rattle.rows.proofs.Walks.{denied, granted}
 use Rattle.table.proofs.ReferenceLaws.{command-no-arguments, command-no-flag, command-nothing, command-no-array, command-is}
 use Rattle.table.proofs.references.command_fits.Statement.{statement}
 use Rattle.table.proofs.references.command_fits.Tie as tie

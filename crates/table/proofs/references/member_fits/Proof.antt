@@ -2,7 +2,7 @@
 -- A law for each return: no type, a mark that is no flag, or the last flag.
 use mathlib.Core.Path.{_∙_}
 use borrow.Author.Needs.{needs}
-use Rattle.table.proofs.Walks.{denied, granted}
+use Rattle.rows.proofs.Walks.{denied, granted}
 use Rattle.table.proofs.ReferenceLaws.{member-no-type, member-no-flag, member-is}
 use Rattle.table.proofs.references.member_fits.Statement.{statement}
 use Rattle.table.proofs.references.member_fits.Tie as tie

@@ -2,7 +2,7 @@
 -- A law for each return: no base, no discriminator, or the kind of its row.
 use mathlib.Core.Path.{_∙_}
 use borrow.Author.Needs.{needs}
-use Rattle.table.proofs.Walks.{denied, granted}
+use Rattle.rows.proofs.Walks.{denied, granted}
 use Rattle.table.proofs.ReferenceLaws.{union-no-base, union-no-tag, union-is}
 use Rattle.table.proofs.references.union_fits.Statement.{statement}
 use Rattle.table.proofs.references.union_fits.Tie as tie

@@ -7,8 +7,8 @@ use native.Mathlib.Omega.{arith}
 use borrow.Author.Needs.{needs}
 use Rattle.rules.specs.Rows
 use Rattle.rules.specs.Rules.{returnFits, goodReturns}
-use Rattle.table.proofs.Walks.{denied, granted}
-use Rattle.table.proofs.LoopLaws.{KindLeft, kind-starts, kind-fails, kind-on, kind-other, kind-ends}
+use Rattle.rows.proofs.Walks.{denied, granted}
+use Rattle.rows.proofs.LoopLaws.{KindLeft, kind-starts, kind-fails, kind-on, kind-other, kind-ends}
 use Rattle.table.proofs.KindLaws.{return-at}
 use Rattle.table.proofs.returns.good_returns.Statement.{statement}
 use Rattle.table.proofs.returns.good_returns.Tie as tie

@@ -2,7 +2,7 @@
 -- The first of four tests that fails decides.
 use borrow.Author.Needs.{needs}
 use Rattle.table.specs.RuleParts.{definitionsFit}
-use Rattle.table.proofs.Walks.{denied, granted}
+use Rattle.rows.proofs.Walks.{denied, granted}
 use Rattle.table.proofs.sound.definitions_fit.Statement.{statement}
 use Rattle.table.proofs.sound.definitions_fit.Tie as tie
 

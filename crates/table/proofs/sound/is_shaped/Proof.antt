@@ -2,7 +2,7 @@
 -- The first of three tests that fails decides.
 use borrow.Author.Needs.{needs}
 use Rattle.table.specs.RuleParts.{shaped}
-use Rattle.table.proofs.Walks.{denied, granted}
+use Rattle.rows.proofs.Walks.{denied, granted}
 use Rattle.table.proofs.sound.is_shaped.Statement.{statement}
 use Rattle.table.proofs.sound.is_shaped.Tie as tie
 

@@ -3,7 +3,7 @@
 use mathlib.Core.Path.{sym}
 use lib.Seq.{length-take-le}
 use borrow.Author.Needs.{needs}
-use Rattle.table.proofs.Walks.{denied, granted}
+use Rattle.rows.proofs.Walks.{denied, granted}
 use Rattle.table.proofs.SoundLaws.{not-whole-rows, too-many-rows, too-long-schema, not-shaped, sound-is}
 use Rattle.table.proofs.sound.is_sound.Statement.{statement}
 use Rattle.table.proofs.sound.is_sound.Tie as tie

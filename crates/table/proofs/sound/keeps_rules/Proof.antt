@@ -1,7 +1,7 @@
 -- `keeps_rules` meets its contract.
 -- The first of three tests that fails decides.
 use Rattle.table.specs.RuleParts.{keepsRules}
-use Rattle.table.proofs.Walks.{denied, granted}
+use Rattle.rows.proofs.Walks.{denied, granted}
 use borrow.Author.Needs.{needs}
 use Rattle.table.proofs.sound.keeps_rules.Statement.{statement}
 use Rattle.table.proofs.sound.keeps_rules.Tie as tie

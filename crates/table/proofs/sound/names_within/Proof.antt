@@ -8,7 +8,7 @@ use lib.ListN.{length}
 use borrow.Author.Needs.{needs}
 use Rattle.rules.specs.Rows.{start, size}
 use Rattle.table.specs.RuleParts.{namesWithin}
-use Rattle.table.proofs.LoopLaws.{AllLeft, every-starts, all-fails, all-on, all-ends}
+use Rattle.rows.proofs.LoopLaws.{AllLeft, every-starts, all-fails, all-on, all-ends}
 use Rattle.table.proofs.SoundLaws.{name-past, name-within}
 use Rattle.table.proofs.sound.names_within.Statement.{statement}
 use Rattle.table.proofs.sound.names_within.Tie as tie

@@ -7,8 +7,8 @@ use native.Mathlib.Omega.{arith}
 use borrow.Author.Needs.{needs}
 use Rattle.rules.specs.Sound.{restZero, referencesFit}
 use Rattle.table.specs.RuleParts.{rowsFit}
-use Rattle.table.proofs.Walks.{denied, granted}
-use Rattle.table.proofs.LoopLaws.{AllLeft, every-starts, all-fails, all-on, all-ends}
+use Rattle.rows.proofs.Walks.{denied, granted}
+use Rattle.rows.proofs.LoopLaws.{AllLeft, every-starts, all-fails, all-on, all-ends}
 use Rattle.table.proofs.sound.rows_fit.Statement.{statement}
 use Rattle.table.proofs.sound.rows_fit.Tie as tie
 

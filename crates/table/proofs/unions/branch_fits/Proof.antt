@@ -2,7 +2,7 @@
 -- A law for each return: no such value, a chain that does not end, or whether the members are new.
 use mathlib.Core.Path.{_∙_}
 use borrow.Author.Needs.{needs}
-use Rattle.table.proofs.Walks.{denied, granted}
+use Rattle.rows.proofs.Walks.{denied, granted}
 use Rattle.table.proofs.UnionLaws.{branch-unnamed, branch-endless, branch-is}
 use Rattle.table.proofs.unions.branch_fits.Statement.{statement}
 use Rattle.table.proofs.unions.branch_fits.Tie as tie

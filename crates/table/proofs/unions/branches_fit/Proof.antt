@@ -7,9 +7,9 @@ use borrow.Author.Needs.{needs}
 use Rattle.grammar.specs.Notation.{all}
 use Rattle.rules.specs.Rows.{children}
 use Rattle.table.specs.RuleParts.{branchNew}
-use Rattle.table.proofs.Walks.{denied, granted}
-use Rattle.table.proofs.LoopLaws.{AllLeft, all-fails, all-on, all-ends, next-fits}
-use Rattle.table.proofs.ChildLaws.{all-children, end-fits}
+use Rattle.rows.proofs.Walks.{denied, granted}
+use Rattle.rows.proofs.LoopLaws.{AllLeft, all-fails, all-on, all-ends, next-fits}
+use Rattle.rows.proofs.ChildLaws.{all-children, end-fits}
 use Rattle.table.proofs.unions.branches_fit.Statement.{statement}
 use Rattle.table.proofs.unions.branches_fit.Tie as tie
 

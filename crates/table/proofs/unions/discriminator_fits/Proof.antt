@@ -2,7 +2,7 @@
 -- A law for each return: no link, no member of the base, or whether it is a tag.
 use mathlib.Core.Path.{_∙_}
 use borrow.Author.Needs.{needs}
-use Rattle.table.proofs.Walks.{denied, granted}
+use Rattle.rows.proofs.Walks.{denied, granted}
 use Rattle.table.proofs.UnionLaws.{discriminator-none, discriminator-strange, discriminator-is}
 use Rattle.table.proofs.unions.discriminator_fits.Statement.{statement}
 use Rattle.table.proofs.unions.discriminator_fits.Tie as tie

@@ -3,7 +3,7 @@
 use mathlib.Core.Path.{_∙_}
 use native.Mathlib.Omega.{arith}
 use borrow.Author.Needs.{needs}
-use Rattle.table.proofs.Walks.{denied, granted}
+use Rattle.rows.proofs.Walks.{denied, granted}
 use Rattle.table.proofs.UnionLaws.{tag-link, tag-type, union-empty, union-endless, union-untagged, union-is}
 use Rattle.table.proofs.unions.union_is_good.Statement.{statement}
 use Rattle.table.proofs.unions.union_is_good.Tie as tie

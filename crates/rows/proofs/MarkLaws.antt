@@ -1,0 +1,54 @@
+-- Laws of marks: a mark is a function of the name, so names of different marks differ; marks of rows are written one after the other.
+-- Runs of rows are apart where the name of each row of one is fresh in the other.
+use Prim.Native.Nat.{ℕ, _+_, _-_, _*_, _≤_, _<_}
+use mathlib.Core.Path.{_≡_, refl, sym, ap, _∙_, subst}
+use mathlib.Core.Bool.{Bool, true, false, not}
+use mathlib.Core.Logic.{⊎-elim}
+use mathlib.Core.List.{List}
+use native.Mathlib.Nat.{eq-or-lt-of-le}
+use native.Mathlib.Omega.{arith}
+use lib.ListN.{length, getD, set, length-set}
+use lib.Seq.{getD-set-same, getD-set-other}
+use Rattle.grammar.proofs.Lists.{different}
+use Rattle.grammar.specs.Notation.{same, all}
+use Rattle.rules.specs.Names.{clash}
+use Rattle.rules.specs.Rows.{nameOf}
+use Rattle.rows.specs.Marks.{markOf, Marks, freshOf, runsApart}
+use Rattle.rows.proofs.Walks.{upTo}
+
+-- names of different marks
+pub other-mark : (x y : List ℕ) → (markOf y ≡ markOf x → ⊥) → same x y ≡ false
+other-mark x y n = different x y (λ e. n (ap markOf (sym e)))
+
+pub other-row : {S T M : List ℕ} {r m : ℕ} (x : List ℕ) → Marks S T M → r < length M → m ≡ markOf x → (getD M r 0 ≡ m → ⊥) → false ≡ same x (nameOf S T r)
+other-row {S} {T} {M} {r} x k h e n = sym (other-mark x (nameOf S T r) (λ q. n (k .told r h ∙ q ∙ sym e)))
+
+-- a row that has the name of row a
+pub named-row : (S T : List ℕ) (a r : ℕ) {x : List ℕ} {b : Bool} → b ≡ same x (nameOf S T r) → x ≡ nameOf S T a → b ≡ clash (nameOf S T a) (nameOf S T r)
+named-row S T a r e q = e ∙ ap (λ y. clash y (nameOf S T r)) q
+
+-- the marks of the rows below r are written
+pub record MarksTo (S T M : List ℕ) (n r : ℕ) : Type 0 where
+  pub room : length M ≡ n
+  pub below : (i : ℕ) → i < r → getD M i 0 ≡ markOf (nameOf S T i)
+
+pub marks-none : {S T M : List ℕ} → MarksTo S T M (length M) 0
+marks-none = record { room = refl; below = λ i h. absurd (omega arith) }
+
+module _ {S T M : List ℕ} {n r : ℕ} where
+  pub marks-more : MarksTo S T M n r → r < length M → (v : ℕ) → v ≡ markOf (nameOf S T r) → MarksTo S T (set M r v) n (r + 1)
+  marks-more k h v e = record {
+    room = length-set M r v ∙ k .room;
+    below = λ i g. ⊎-elim
+        (λ (q : i ≡ r). subst (λ j. getD (set M r v) j 0 ≡ markOf (nameOf S T j)) (sym q) (getD-set-same M r v 0 h ∙ e))
+        (λ (q : i < r). getD-set-other M r i v 0 (λ z. omega arith) ∙ k .below i q)
+        (eq-or-lt-of-le (let q : i ≤ r = omega arith in q));
+  }
+
+  pub marks-all : MarksTo S T M n r → length M ≤ r → Marks S T M
+  marks-all k h = record { told = λ i g. k .below i (omega arith) }
+
+-- a run of rows against another
+pub runs-upTo : (S T : List ℕ) (a e b f : ℕ) → runsApart S T a e b f ≡ upTo (λ r. freshOf S T (nameOf S T r) b f) a e
+unfolding runsApart upTo
+runs-upTo S T a e b f = refl

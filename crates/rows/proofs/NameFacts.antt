@@ -1,0 +1,151 @@
+-- Laws of names: parts of the schema's bytes, equal bytes, good names, and names of rows that do not clash.
+-- Equal bytes, fresh names and names apart are tests of every place or row from the first on.
+use Prim.Native.Nat.{ℕ, _+_, _-_, _≤_, _<_}
+use mathlib.Core.Path.{_≡_, refl, sym, ap, _∙_}
+use mathlib.Core.Bool.{Bool, true, false, not, _&&_, _||_, and-true, and-false, or-true, or-false}
+use mathlib.Core.List.{List, [], _∷_}
+use native.Mathlib.Nat.{sub-self}
+use native.Mathlib.Numerals.{add-one}
+use native.Mathlib.Omega.{arith}
+use lib.Dec.{eqb, leb}
+use lib.ListN.{length, take, drop, getD, drop-of-length-le, length-drop}
+use lib.Seq.{take-nil, take-all, drop-cons}
+use borrow.Author.Tests.{eq-eqb, ne-eqb, le-leb, lt-leb}
+use Rattle.grammar.proofs.Booleans.{within-is, within-below, within-above, Outside}
+use Rattle.grammar.proofs.Booleans.Outside.{below, above}
+use Rattle.grammar.specs.Lexis.{blank}
+use Rattle.grammar.specs.Notation.{text, within, same, all, apart}
+use Rattle.rules.specs.Names.{letter, digit, nameByte, goodName, clash}
+use Rattle.rules.specs.Rows.{upFrom, nameOf}
+use Rattle.rules.specs.Rules.{namesOf}
+use Rattle.strings.proofs.Tables.{entry}
+use Rattle.strings.specs.Classes.{classOf, tabulate}
+use Rattle.rows.proofs.Walks.{upFrom-on, upFrom-end, upTo, upTo-of}
+
+-- n bytes from a on, or those that there are
+module _ (s : List ℕ) (a n : ℕ) where
+  pub part-past : length s ≤ a → take (length s - length s) (drop (length s) s) ≡ take n (drop a s)
+  part-past h = rw (sub-self, drop-of-length-le s h, take-nil)
+
+  pub part-rest : length s - a ≤ n → take (length s - a) (drop a s) ≡ take n (drop a s)
+  part-rest h =
+      let e : length (drop a s) ≡ length s - a = length-drop a s in
+      take-all (length s - a) (drop a s) (omega arith) ∙ sym (take-all n (drop a s) (omega arith))
+
+  pub part-within : take (a + n - a) (drop a s) ≡ take n (drop a s)
+  part-within = let e : a + n - a ≡ n = omega arith in rw e
+
+-- equal bytes of equal length
+pub same-upTo : (x y : List ℕ) → length x ≡ length y → same x y ≡ upTo (λ k. eqb (getD x k 0) (getD y k 0)) 0 (length x)
+same-upTo x y e =
+    upTo-of (λ k. eqb (getD x k 0) (getD y k 0)) (length x) (λ i. same (drop i x) (drop i y))
+    (λ i h. rw (add-one, drop-cons x i 0 h, drop-cons y i 0 (let g : i < length y = omega arith in g)))
+    (λ i h. rw (drop-of-length-le x h, drop-of-length-le y (let g : length y ≤ i = omega arith in g))) 0
+
+-- name bytes by their class
+class-names : tabulate (λ b. within 6 7 (classOf b)) 0 256 ≡ tabulate nameByte 0 256
+unfolding classOf blank
+class-names = refl
+
+name-class : (b : ℕ) → b < 256 → within 6 7 (classOf b) ≡ nameByte b
+name-class b h = sym (entry (λ i. within 6 7 (classOf i)) 256 b false h) ∙ ap (λ l. getD l b false) class-names ∙ entry nameByte 256 b false h
+
+module _ {b c : ℕ} (h : b < 256) (e : c ≡ classOf b) where
+  pub class-name : 6 ≤ c → c ≤ 7 → true ≡ nameByte b
+  class-name l u = sym (within-is 6 7 c l u) ∙ ap (within 6 7) e ∙ name-class b h
+
+  pub class-low : c < 6 → false ≡ nameByte b
+  class-low l = sym (within-below 6 7 c l) ∙ ap (within 6 7) e ∙ name-class b h
+
+  pub class-high : 7 < c → false ≡ nameByte b
+  class-high u = sym (within-above 6 7 c u) ∙ ap (within 6 7) e ∙ name-class b h
+
+-- classes of bytes
+within-out : (a e b : ℕ) → Outside a e b → within a e b ≡ false
+within-out a e b (below h) = within-below a e b h
+within-out a e b (above h) = within-above a e b h
+
+module _ (b : ℕ) where
+  pub upper-letter : 65 ≤ b → b ≤ 90 → true ≡ letter b
+  upper-letter h k = rw (within-is 65 90 b h k)
+
+  pub lower-letter : 97 ≤ b → b ≤ 122 → true ≡ letter b
+  lower-letter h k = rw (within-is 97 122 b h k, or-true)
+
+  pub no-letter : Outside 65 90 b → Outside 97 122 b → false ≡ letter b
+  no-letter h k = rw (within-out 65 90 b h, within-out 97 122 b k)
+
+  pub digit-start : (digits : Bool) → 48 ≤ b → b ≤ 57 → digits ≡ (letter b || digits && digit b)
+  digit-start digits h k =
+      let l : letter b ≡ false = sym (no-letter (below (omega arith)) (below (omega arith))) in
+      rw (within-is 48 57 b h k, l, and-true)
+
+  pub other-start : (digits : Bool) → Outside 48 57 b → (letter b || digits && digit b) ≡ letter b
+  other-start digits h = rw (within-out 48 57 b h, and-false digits) (or-false (letter b))
+
+-- a name that begins with q_
+abbrev reserved : List ℕ → Bool
+reserved x = same (take 2 x) (text "q_")
+
+pub reserved-short : (x : List ℕ) → length x < 2 → false ≡ reserved x
+reserved-short [] h = refl
+reserved-short (a ∷ []) h = sym (and-false (eqb a 113))
+reserved-short (a ∷ b ∷ x) h = absurd (omega arith)
+
+pub reserved-first : (x : List ℕ) → 2 ≤ length x → (getD x 0 0 ≡ 113 → ⊥) → false ≡ reserved x
+reserved-first [] h q = absurd (omega arith)
+reserved-first (a ∷ x) h q = rw (ne-eqb a 113 q)
+
+pub reserved-second : (x : List ℕ) → 2 ≤ length x → getD x 0 0 ≡ 113 → eqb (getD x 1 0) 95 ≡ reserved x
+reserved-second [] h q = absurd (omega arith)
+reserved-second (a ∷ []) h q = absurd (omega arith)
+reserved-second (a ∷ b ∷ x) h q = rw (eq-eqb a 113 q, and-true)
+
+-- a good name, by its parts
+module _ (digits : Bool) where
+  pub no-name : (x : List ℕ) → length x ≡ 0 → false ≡ goodName digits x
+  no-name [] h = refl
+  no-name (b ∷ x) h = absurd (omega arith)
+
+  module _ (x : List ℕ) (some : length x ≡ 0 → ⊥) where
+    abbrev starts : Bool
+    starts = letter (getD x 0 0) || digits && digit (getD x 0 0)
+
+    good-at : goodName digits x ≡ (starts && all nameByte (drop 1 x) && leb (length x) 63 && not (reserved x))
+    good-at = go x some
+      where
+        go : (y : List ℕ) → (length y ≡ 0 → ⊥)
+            → goodName digits y ≡ ((letter (getD y 0 0) || digits && digit (getD y 0 0)) && all nameByte (drop 1 y) && leb (length y) 63 && not (reserved y))
+        go [] n = absurd (n refl)
+        go (b ∷ y) n = refl
+
+    pub name-long : 63 < length x → false ≡ goodName digits x
+    name-long h = rw (good-at, lt-leb (length x) 63 h, and-false)
+
+    pub name-start : starts ≡ false → false ≡ goodName digits x
+    name-start h = rw (good-at, h)
+
+    pub name-reserved : reserved x ≡ true → false ≡ goodName digits x
+    name-reserved h = rw (good-at, h, and-false)
+
+    pub name-rest : length x ≤ 63 → starts ≡ true → reserved x ≡ false → all nameByte (drop 1 x) ≡ goodName digits x
+    name-rest h p q = rw (good-at, le-leb (length x) 63 h, p, q) (simp and-true)
+
+-- a name clashes with none of a list
+abbrev pub fresh : List ℕ → List (List ℕ) → Bool
+fresh x l = all (λ y. not (clash x y)) l
+
+-- the name of row r clashes with none of those after it, up to e
+abbrev pub freshAfter : List ℕ → List ℕ → ℕ → ℕ → Bool
+freshAfter S T e r = fresh (nameOf S T r) (namesOf S T (upFrom (r + 1) (e - (r + 1))))
+
+-- the names of the rows from b up to e
+module _ (S T : List ℕ) (e : ℕ) where
+  pub fresh-upTo : (x : List ℕ) (b : ℕ) → fresh x (namesOf S T (upFrom b (e - b))) ≡ upTo (λ r. not (clash x (nameOf S T r))) b e
+  fresh-upTo x =
+      upTo-of (λ r. not (clash x (nameOf S T r))) e (λ b. fresh x (namesOf S T (upFrom b (e - b))))
+      (λ b h. rw (upFrom-on b e h)) (λ b h. rw (upFrom-end b e h))
+
+  pub apart-upTo : (b : ℕ) → apart clash (namesOf S T (upFrom b (e - b))) ≡ upTo (freshAfter S T e) b e
+  apart-upTo =
+      upTo-of (freshAfter S T e) e (λ b. apart clash (namesOf S T (upFrom b (e - b)))) (λ b h. rw (upFrom-on b e h)) (λ b h. rw (upFrom-end b e h))

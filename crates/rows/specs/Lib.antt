@@ -1,0 +1,4 @@
+-- What the contracts cite.
+pub mod Rows
+pub mod Marks
+pub mod Index

@@ -1,0 +1,129 @@
+// An index of rows by the marks of their names: a name is looked up among the rows that were added before.
+use crate::marks::is_named;
+use crate::marks::mark_of;
+use crate::marks::pairs_apart;
+use crate::names::name_of;
+use buckets::BUCKETS;
+use buckets::add;
+use buckets::first;
+use buckets::next;
+ghost use mathlib.Core.Path.{_≡_};
+ghost use mathlib.Core.Bool.{true};
+ghost use Prim.Native.Nat.{_-_, _≤_, _<_, _^_};
+ghost use lib.ListN.{length, replicate};
+ghost use Rattle.buckets.specs.Buckets.{buckets};
+ghost use Rattle.grammar.specs.Notation.{apart};
+ghost use Rattle.rules.specs.Names.{clash};
+ghost use Rattle.rules.specs.Rows.{upFrom};
+ghost use Rattle.rules.specs.Rules.{namesOf};
+ghost use Rattle.rows.specs.Marks.{markOf, Marks};
+ghost use Rattle.rows.specs.Index.{Unlisted, Entered};
+
+// A run of that many rows is long.
+const LONG: usize = 32;
+
+// Whether none of the rows that follow the word `head` has a name whose mark is given.
+fn is_unlisted(
+    schema: &[u8],
+    rows: &[u32],
+    marks: &[u32],
+    links: &[u32],
+    head: usize,
+    name: &[u8],
+    mark: u32,
+) -> bool
+    requires { ⌜ Marks (now schema) (now rows) (now marks) × (mark ≡ markOf (now name)) ⌝ }
+    ensures { λ b. ⌜ Unlisted (now (schema .entry)) (now (rows .entry)) (now (links .entry)) head (now (name .entry)) b ⌝ }
+{
+    let mut word = head;
+    let mut left = links.len();
+    while 0 < left {
+        if word == 0 {
+            return true;
+        }
+        let r = word - 1;
+        if is_named(schema, rows, marks, r, name, mark) {
+            return false;
+        }
+        word = next(links, r);
+        left -= 1;
+    }
+    true
+}
+
+// Adds row r to an index unless a row in it has the same name; tells whether none has.
+pub fn add_new(
+    schema: &[u8],
+    rows: &[u32],
+    marks: &[u32],
+    heads: &mut [u32; BUCKETS],
+    links: &mut [u32],
+    r: usize,
+) -> bool
+    requires { ⌜ Marks (now schema) (now rows) (now marks) × (r < length (now links)) × (length (now links) < 2 ^ 32) ⌝ }
+    ensures { λ b. ⌜ Entered (now (schema .entry)) (now (rows .entry)) (now (heads .entry)) (now (links .entry)) r (now (heads .exit)) (now (links .exit)) b ⌝ }
+{
+    let name = name_of(schema, rows, r);
+    let mark = mark_of(name);
+    let head = first(heads, mark);
+    if !is_unlisted(schema, rows, marks, links, head, name, mark) {
+        return false;
+    }
+    add(heads, links, mark, r);
+    true
+}
+
+// Whether no two names of the rows from a up to e clash: each is looked up among those after it.
+fn listed_apart(
+    schema: &[u8],
+    rows: &[u32],
+    marks: &[u32],
+    a: usize,
+    e: usize,
+    heads: &mut [u32; BUCKETS],
+    links: &mut [u32],
+) -> bool
+    requires { ⌜ Marks (now schema) (now rows) (now marks) × (a ≤ e) × (e ≤ length (now links)) × (length (now links) < 2 ^ 32) × (now heads ≡ replicate buckets 0) ⌝ }
+    ensures { λ b. ⌜ b ≡ apart clash (namesOf (now (schema .entry)) (now (rows .entry)) (upFrom a (e - a))) ⌝ }
+{
+    let mut i = e;
+    while a < i {
+        i -= 1;
+        if !add_new(schema, rows, marks, heads, links, i) {
+            return false;
+        }
+    }
+    true
+}
+
+// Whether an index pays for the rows from a up to e, and has the room.
+fn is_long(a: usize, e: usize, room: usize) -> bool
+    ensures { λ b. ⌜ (b ≡ true → (a ≤ e) × (e ≤ room)) ⌝ }
+{
+    if e < LONG {
+        return false;
+    }
+    if e - LONG < a {
+        return false;
+    }
+    e <= room
+}
+
+// Whether no two names of the rows from a up to e clash. The links are scratch.
+pub fn all_apart(
+    schema: &[u8],
+    rows: &[u32],
+    marks: &[u32],
+    links: &mut [u32],
+    a: usize,
+    e: usize,
+) -> bool
+    requires { ⌜ Marks (now schema) (now rows) (now marks) × (length (now links) < 2 ^ 32) ⌝ }
+    ensures { λ b. ⌜ b ≡ apart clash (namesOf (now (schema .entry)) (now (rows .entry)) (upFrom a (e - a))) ⌝ }
+{
+    if is_long(a, e, links.len()) {
+        let mut heads = [0u32; BUCKETS];
+        return listed_apart(schema, rows, marks, a, e, &mut heads, links);
+    }
+    pairs_apart(schema, rows, marks, a, e)
+}

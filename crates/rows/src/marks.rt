@@ -1,0 +1,127 @@
+// Marks: a number for each row that rows of equal names share, so that few names are compared byte by byte.
+use crate::names::name_of;
+use crate::names::same_bytes;
+ghost use mathlib.Core.Path.{_≡_};
+ghost use Prim.Native.Nat.{_-_};
+ghost use mathlib.Core.Bool.{not};
+ghost use lib.ListN.{length, getD};
+ghost use Rattle.grammar.specs.Notation.{all, apart};
+ghost use Rattle.rules.specs.Names.{sameName, clash};
+ghost use Rattle.rules.specs.Rows.{upFrom, nameOf};
+ghost use Rattle.rules.specs.Rules.{namesOf};
+ghost use Rattle.rows.specs.Marks.{markOf, Marks, runsApart};
+
+// The byte that stands k bytes before the end of a name, or the first; 0 of an empty name.
+fn byte_back(name: &[u8], k: usize) -> u8
+    ensures { λ r. ⌜ r ≡ getD (now (name .entry)) (length (now (name .entry)) - k) 0 ⌝ }
+{
+    let n = name.len();
+    if n == 0 {
+        return 0;
+    }
+    if k == 0 {
+        return 0;
+    }
+    if n < k {
+        return name[0];
+    }
+    name[n - k]
+}
+
+// A number that equal names share: of the length and the first byte, and of the last three bytes.
+pub fn mark_of(name: &[u8]) -> u32
+    ensures { λ r. ⌜ r ≡ markOf (now (name .entry)) ⌝ }
+{
+    let n = name.len();
+    let front = ((n + byte_back(name, n) as usize) % 256) as u32;
+    let a = byte_back(name, 1) as u32;
+    let b = byte_back(name, 2) as u32;
+    let c = byte_back(name, 3) as u32;
+    front + 37 * (a + 37 * (b + 37 * c))
+}
+
+// Writes the marks of the first rows, as many as there is room for.
+pub fn put_marks(schema: &[u8], rows: &[u32], marks: &mut [u32])
+    ensures { λ _. ⌜ Marks (now (schema .entry)) (now (rows .entry)) (now (marks .exit)) ⌝ }
+{
+    let mut r = 0;
+    while r < marks.len() {
+        marks[r] = mark_of(name_of(schema, rows, r));
+        r += 1;
+    }
+}
+
+// Whether row r has a name whose mark is given.
+pub fn is_named(
+    schema: &[u8],
+    rows: &[u32],
+    marks: &[u32],
+    r: usize,
+    name: &[u8],
+    mark: u32,
+) -> bool
+    requires { ⌜ Marks (now schema) (now rows) (now marks) × (mark ≡ markOf (now name)) ⌝ }
+    ensures { λ b. ⌜ b ≡ sameName (now (name .entry)) (nameOf (now (schema .entry)) (now (rows .entry)) r) ⌝ }
+{
+    if r < marks.len() {
+        if marks[r] != mark {
+            return false;
+        }
+    }
+    same_bytes(name, name_of(schema, rows, r))
+}
+
+// Whether the name of row a clashes with none of the rows from b up to e.
+pub fn is_fresh(schema: &[u8], rows: &[u32], marks: &[u32], a: usize, b: usize, e: usize) -> bool
+    requires { ⌜ Marks (now schema) (now rows) (now marks) ⌝ }
+    ensures { λ r. ⌜ r ≡ all (λ y. not (clash (nameOf (now (schema .entry)) (now (rows .entry)) a) y)) (namesOf (now (schema .entry)) (now (rows .entry)) (upFrom b (e - b))) ⌝ }
+{
+    let name = name_of(schema, rows, a);
+    let mark = mark_of(name);
+    let mut i = b;
+    while i < e {
+        if is_named(schema, rows, marks, i, name, mark) {
+            return false;
+        }
+        i += 1;
+    }
+    true
+}
+
+// Whether no two names of the rows from a up to e clash: each is compared with those after it.
+pub fn pairs_apart(schema: &[u8], rows: &[u32], marks: &[u32], a: usize, e: usize) -> bool
+    requires { ⌜ Marks (now schema) (now rows) (now marks) ⌝ }
+    ensures { λ r. ⌜ r ≡ apart clash (namesOf (now (schema .entry)) (now (rows .entry)) (upFrom a (e - a))) ⌝ }
+{
+    let mut i = a;
+    while i < e {
+        if !is_fresh(schema, rows, marks, i, i + 1, e) {
+            return false;
+        }
+        i += 1;
+    }
+    true
+}
+
+// Whether no name of the rows from a up to e clashes with one of the rows from b up to f.
+pub fn runs_apart(
+    schema: &[u8],
+    rows: &[u32],
+    marks: &[u32],
+    a: usize,
+    e: usize,
+    b: usize,
+    f: usize,
+) -> bool
+    requires { ⌜ Marks (now schema) (now rows) (now marks) ⌝ }
+    ensures { λ r. ⌜ r ≡ runsApart (now (schema .entry)) (now (rows .entry)) a e b f ⌝ }
+{
+    let mut i = a;
+    while i < e {
+        if !is_fresh(schema, rows, marks, i, b, f) {
+            return false;
+        }
+        i += 1;
+    }
+    true
+}
