@@ -1,12 +1,10 @@
 // The calls for programs in C and Rust, with the paper's numbers.
-pub mod numbers;
-
-use crate::numbers::message_number;
-use crate::numbers::message_records;
-use crate::numbers::message_row;
-use crate::numbers::schema_number;
-use crate::numbers::schema_rows;
 use message::check::check_message;
+use numbers::message_number;
+use numbers::message_records;
+use numbers::message_row;
+use numbers::schema_number;
+use numbers::schema_rows;
 use schema::compile::compile_schema;
 use table::sound::is_sound;
 ghost use mathlib.Core.Path.{_≡_};

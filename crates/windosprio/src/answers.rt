@@ -1,15 +1,15 @@
 // The answer lines, put into lent bytes.
-use gateway::numbers::message_number;
-use gateway::numbers::message_records;
-use gateway::numbers::message_row;
-use gateway::numbers::schema_number;
-use gateway::numbers::schema_rows;
 use input::lent::RECORD_ROOM;
 use input::lent::words_of;
 use lines::ends::line_end;
 use lines::numbers::put_line;
 use lines::numbers::put_pair;
 use message::check::check_message;
+use numbers::message_number;
+use numbers::message_records;
+use numbers::message_row;
+use numbers::schema_number;
+use numbers::schema_rows;
 use rules::RECORD_WORDS;
 use rules::SchemaAnswer;
 ghost use Prim.Native.Nat.{_+_, _≤_};

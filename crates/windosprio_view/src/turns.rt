@@ -1,5 +1,4 @@
 // Standard input, chunk by chunk. What a line says is written before the next is read.
-use gateway::numbers::message_records;
 use input::joins::Joined;
 use input::joins::join_line;
 use input::lent::LINE_ROOM;
@@ -9,6 +8,7 @@ use libc::STDIN_FILENO;
 use libc::STDOUT_FILENO;
 use meanings::heads::put_message_head;
 use message::check::check_message;
+use numbers::message_records;
 use rules::RECORD_WORDS;
 use views::tree::put_tree;
 ghost use Prim.Native.Nat.{_≤_};
