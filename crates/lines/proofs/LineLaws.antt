@@ -7,18 +7,12 @@ use mathlib.Core.Path.{_≡_, refl, sym, ap, _∙_}
 use mathlib.Core.Bool.{Bool, true, false}
 use mathlib.Core.List.{List, [], _∷_, _++_}
 use lib.Dec.{eqb}
-use lib.ListN.{length, take, drop, getD, set, take-append-drop, length-take}
+use lib.ListN.{length, take, drop, getD, set, take-append-drop, length-take, drop-of-length-le}
 use lib.Seq.{take-suc, take-length, drop-cons}
 use borrow.Author.Tests.{eq-eqb, ne-eqb}
 use Rattle.lines.specs.Text.{put}
 use Rattle.lines.specs.Lines.{beforeLF, LineEnd, orNext}
 use Rattle.lines.proofs.TextLaws.{put-one, put-put, put-full}
-
-drop-past : (s : List ℕ) (i : ℕ) → length s ≤ i → drop i s ≡ []
-drop-past [] zero h = refl
-drop-past [] (suc i) h = refl
-drop-past (x ∷ s) zero h = absurd (omega arith)
-drop-past (x ∷ s) (suc i) h = drop-past s i (omega arith)
 
 pub lf-here : (s : List ℕ) (i : ℕ) → i < length s → getD s i 0 ≡ 10 → beforeLF (drop i s) ≡ 0
 unfolding beforeLF
@@ -30,7 +24,7 @@ lf-on s i h e = rw (drop-cons s i 0 h, ne-eqb (getD s i 0) 10 e, add-one i)
 
 pub lf-none : (s : List ℕ) (i : ℕ) → length s ≤ i → beforeLF (drop i s) ≡ 0
 unfolding beforeLF
-lf-none s i h = rw (drop-past s i h)
+lf-none s i h = rw (drop-of-length-le s h)
 
 -- the bytes kept: one more, no more room, no more bytes
 pub keep-on : (more old : List ℕ) (kept : ℕ) {room : List ℕ} (at i : ℕ) → i < length more → at ≡ kept + i → room ≡ put kept (take i more) old → set room at (getD more i 0) ≡ put kept (take (i + 1) more) old

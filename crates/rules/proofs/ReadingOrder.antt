@@ -22,25 +22,7 @@ use Rattle.rules.specs.Readings.{ReadsItems.no-item, ReadsItems.one-item
 use Rattle.rules.specs.Readings.{ReadsArguments.no-data, ReadsArguments.with-data}
 use Rattle.rules.specs.Types.{any-type}
 use Rattle.rules.specs.MessageAnswers.{Readable}
-
-abbrev startsAt : Typed → ℕ
-startsAt t = startOf (t .value)
-
-abbrev endsAt : Typed → ℕ
-endsAt t = endOf (t .value)
-
--- the later one u starts no earlier than t, and comes after it or is inside it
-abbrev pub Follows : Typed → Typed → Type 0
-Follows t u = (startsAt t ≤ startsAt u) × ((endsAt t ≤ startsAt u) ⊎ (endsAt u ≤ endsAt t))
-
--- t is before all of these
-abbrev pub Before : Typed → List Typed → Type 0
-Before t [] = Unit {0}
-Before t (u ∷ us) = Follows t u × Before t us
-
-abbrev pub Nested : List Typed → Type 0
-Nested [] = Unit {0}
-Nested (t ∷ ts) = Before t ts × Nested ts
+use Rattle.rules.specs.Order.{startsAt, endsAt, Before, Nested}
 
 -- all lie from p to q
 abbrev Between : ℕ → ℕ → List Typed → Type 0

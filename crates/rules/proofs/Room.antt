@@ -88,7 +88,7 @@ schema-more-room S room more n h e =
     (sym (y .0), sym (y .1) ∙ padded T room more (z .held) h ∙ ap (λ (l : List ℕ). l ++ replicate (more - room) 0) (sym (z .written)))
 
 -- the words of a reading's records
-records-length : (ts : List Typed) → length (recordsOf ts) ≡ record-words * length ts
+pub records-length : (ts : List Typed) → length (recordsOf ts) ≡ record-words * length ts
 records-length [] = refl
 records-length (t ∷ ts) = let z = records-length ts in omega arith
 

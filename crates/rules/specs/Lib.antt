@@ -1,4 +1,4 @@
--- What a reader must believe, in the paper's order. RawTable, Cells, ReadingOf and Answers serve proofs only.
+-- What a reader must believe, in the paper's order. RawTable, Cells, ReadingOf, Answers and Order serve proofs only.
 pub mod Types
 pub mod Values
 pub mod Definitions
@@ -16,3 +16,4 @@ pub mod RawTable
 pub mod Cells
 pub mod ReadingOf
 pub mod Answers
+pub mod Order

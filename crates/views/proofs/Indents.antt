@@ -17,7 +17,9 @@ use Rattle.rules.specs.Readings.{Typed, recordsOf}
 use Rattle.rules.specs.MessageAnswers.{Readable}
 use Rattle.rules.specs.Answers.{messageResult}
 use Rattle.rules.proofs.Acceptance.{Gives, accepted-gives}
-use Rattle.rules.proofs.ReadingOrder.{Before, Nested, reading-nested}
+use Rattle.rules.specs.Order.{Before, Nested}
+use Rattle.rules.proofs.Room.{records-length}
+use Rattle.rules.proofs.ReadingOrder.{reading-nested}
 use Rattle.viewer.specs.declared.records.Seen.{Seen}
 use Rattle.viewer.specs.declared.records.Seen.the-variants.{Record}
 use Rattle.viewer.specs.Seeing.{firstSeen, seenAt, placeFrom, placeAfter}
@@ -212,10 +214,6 @@ pub record Tells (S T m : List ℕ) (c n : ℕ) (words : List ℕ) : Type 0 wher
   pub count : n ≡ length reading
   pub lines : linesFrom S T m (take (record-words * n) words) n 0 [] ≡ readingLines S T m (take (record-words * n) words) [] reading
   pub nested : Nested reading
-
-records-length : (ts : List Typed) → length (recordsOf ts) ≡ record-words * length ts
-records-length [] = refl
-records-length (t ∷ ts) = let e = records-length ts in omega arith
 
 pub accepted-tree : (S T m : List ℕ) (room c n : ℕ) → messageResult S T m room .answer ≡ Accepted c n → Tells S T m c n (messageResult S T m room .words)
 unfolding linesFrom

@@ -10,6 +10,7 @@ use lib.Dec.{eqb, ltb}
 use lib.ListN.{length, take, getD, replicate}
 use Rattle.grammar.specs.Notation.{text, all}
 use Rattle.grammar.proofs.Booleans.{both}
+use Rattle.rules.proofs.Lists.{and-of}
 use Rattle.rules.specs.Rows.{isStruct, nameOf}
 use Rattle.viewer.specs.declared.records.Seen.{Seen}
 use Rattle.viewer.specs.declared.records.Seen.the-variants.{Record, Nothing}
@@ -19,17 +20,12 @@ use Rattle.views.specs.Backwards.{before}
 use Rattle.views.specs.Nesting.{stillOpen}
 use Rattle.views.specs.Labelling.{keyBefore, keyText, ofAlternate, labelText}
 use Rattle.views.specs.Typing.{builtInNames, rowText, rowName, typeName, typeText}
-use Rattle.views.specs.TreeText.{indentText, valueShown, valueText, leftText, rightText, recordLine, lineAt, openThen, linesOf, linesFrom}
+use Rattle.views.specs.TreeText.{deepest, indentText, valueShown, valueText, leftText, rightText, recordLine, lineAt, openThen, linesOf, linesFrom}
 use Rattle.views.proofs.TypeLaws.{every}
 
 -- what a terminal may have
 abbrev pub clean : ℕ → Bool
 clean b = printable b || eqb b 10
-
-holds-both : (a b : Bool) → a ≡ true → b ≡ true → a && b ≡ true
-holds-both true true p q = refl
-holds-both true false p q = q
-holds-both false b p q = p
 
 or-left : (a b : Bool) → a ≡ true → a || b ≡ true
 or-left true b p = refl
@@ -38,7 +34,7 @@ or-left false false p = p
 
 pub joined : (xs ys : List ℕ) → all clean xs ≡ true → all clean ys ≡ true → all clean (xs ++ ys) ≡ true
 joined [] ys p q = q
-joined (x ∷ xs) ys p q = holds-both (clean x) (all clean (xs ++ ys)) (both (clean x) (all clean xs) p .0) (joined xs ys (both (clean x) (all clean xs) p .1) q)
+joined (x ∷ xs) ys p q = and-of (clean x) (all clean (xs ++ ys)) (both (clean x) (all clean xs) p .0) (joined xs ys (both (clean x) (all clean xs) p .1) q)
 
 -- a byte as it is shown
 abbrev Digit : ℕ → Type 0
@@ -48,10 +44,10 @@ digit : (d : ℕ) → d < 16 → Digit d
 digit d h = every Digit 16 ((((((((((((((((tt, refl), refl), refl), refl), refl), refl), refl), refl), refl), refl), refl), refl), refl), refl), refl), refl) d h
 
 hex-clean : (b : ℕ) → all clean (hexByte b) ≡ true
-hex-clean b = holds-both (clean (hexDigit (b / 16 % 16))) (clean (hexDigit (b % 16)) && true) (digit (b / 16 % 16) (omega arith)) (holds-both (clean (hexDigit (b % 16))) true (digit (b % 16) (omega arith)) refl)
+hex-clean b = and-of (clean (hexDigit (b / 16 % 16))) (clean (hexDigit (b % 16)) && true) (digit (b / 16 % 16) (omega arith)) (and-of (clean (hexDigit (b % 16))) true (digit (b % 16) (omega arith)) refl)
 
 by-printable : (b : ℕ) (t : Bool) → printable b ≡ t → all clean (cond t (b ∷ []) (hexByte b)) ≡ true
-by-printable b true e = holds-both (clean b) true (or-left (printable b) (eqb b 10) e) refl
+by-printable b true e = and-of (clean b) true (or-left (printable b) (eqb b 10) e) refl
 by-printable b false e = hex-clean b
 
 byte-clean : (b : ℕ) → all clean (shownByte b) ≡ true
@@ -121,7 +117,7 @@ spaces-clean (suc n) = spaces-clean n
 module _ (S T m ws : List ℕ) (room : ℕ) where
   left-clean : (n a k : ℕ) → all clean (leftText T m ws n a k) ≡ true
   unfolding leftText indentText
-  left-clean n a k = joined (indentText k) (labelText T m ws n a) (spaces-clean (2 * (1 + min k 80))) (label-clean T m ws n a)
+  left-clean n a k = joined (indentText k) (labelText T m ws n a) (spaces-clean (2 * (1 + min k deepest))) (label-clean T m ws n a)
 
   right-clean : (a e t f : ℕ) → all clean (rightText S T m a e t f) ≡ true
   unfolding rightText valueText

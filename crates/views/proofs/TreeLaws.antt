@@ -21,7 +21,7 @@ use Rattle.views.specs.Backwards.{back, before}
 use Rattle.views.specs.Nesting.{stillOpen, opened, openAfter}
 use Rattle.views.specs.Labelling.{labelText}
 use Rattle.views.specs.Typing.{typeText}
-use Rattle.views.specs.TreeText.{indentText, valueShown, valueText, leftText, rightText, recordLine, lineAt, openThen, linesOf, linesFrom, One, Shown}
+use Rattle.views.specs.TreeText.{deepest, indentText, valueShown, valueText, leftText, rightText, recordLine, lineAt, openThen, linesOf, linesFrom, One, Shown}
 use Rattle.viewer.proofs.SeeingLaws.{after-whole, after-end}
 use Rattle.views.proofs.BackLaws.{back-length}
 
@@ -44,11 +44,11 @@ spaces-on i at {old} {mid} a h =
 pub spaces-all : (i n : ℕ) {at r : ℕ} {old new : List ℕ} → i ≡ n → Puts (replicate i space) at old new r → Puts (replicate n space) at old new r
 spaces-all i n e a = puts-as (ap (λ (k : ℕ). replicate k space) e) a
 
-pub puts-indent : (k : ℕ) {d at r : ℕ} {old new : List ℕ} → d ≡ min k 80 → Puts (replicate (2 * (1 + d)) space) at old new r → Puts (indentText k) at old new r × (r ≤ at + 162)
+pub puts-indent : (k : ℕ) {d at r : ℕ} {old new : List ℕ} → d ≡ min k deepest → Puts (replicate (2 * (1 + d)) space) at old new r → Puts (indentText k) at old new r × (r ≤ at + 162)
 unfolding indentText
 puts-indent k {d} e x = (
   puts-as (ap (λ (i : ℕ). replicate (2 * (1 + i)) space) e) x,
-  omega (arith, e, min-right k 80, x .after, length-replicate (2 * (1 + d)) space),
+  omega (arith, e, min-right k deepest, x .after, length-replicate (2 * (1 + d)) space),
 )
 
 -- the text of a value

@@ -23,6 +23,10 @@ use Rattle.views.specs.Typing.{typeText}
 abbrev pub deepest : ℕ
 deepest = 80
 
+-- no line is longer
+abbrev pub line-room : ℕ
+line-room = 1024
+
 unfoldable pub indentText : ℕ → List ℕ
 indentText k = replicate (2 * (1 + min k deepest)) 32
 
@@ -78,7 +82,7 @@ module _ (S T m ws : List ℕ) (room : ℕ) where
   pub record Tree (from : ℕ) (es : List ℕ) (old new : List ℕ) (next : ℕ) (es′ : List ℕ) (at : ℕ) : Type 0 where
     pub so-far : Shown from es old new next es′ at
     pub within : at ≤ length new
-    pub stops : (seenAt ws next ≡ Nothing) ⊎ (length old < at + 1024)
+    pub stops : (seenAt ws next ≡ Nothing) ⊎ (length old < at + line-room)
 
 -- how many of these values are open at a place: they end after it
 abbrev pub openAt : List Typed → ℕ → ℕ

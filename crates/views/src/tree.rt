@@ -14,7 +14,7 @@ ghost use Prim.Native.Nat.{_+_, _≤_};
 ghost use lib.ListN.{length, replicate};
 ghost use Rattle.lines.specs.Text.{Puts};
 ghost use Rattle.views.specs.Backwards.{before};
-ghost use Rattle.views.specs.TreeText.{indentText, valueText, leftText, rightText, One, Tree};
+ghost use Rattle.views.specs.TreeText.{line-room, indentText, valueText, leftText, rightText, One, Tree};
 
 // More than the longest line.
 const LINE: usize = 1024;
@@ -114,7 +114,7 @@ fn put_next(
     out: &mut [u8],
     at: usize,
 ) -> Progress
-    requires { ⌜ at + 1024 ≤ length (now out) ⌝ }
+    requires { ⌜ at + line-room ≤ length (now out) ⌝ }
     ensures { λ r. ⌜ One (now (schema .entry)) (now (table .entry)) (now (message .entry)) (now (records .entry)) (length (now (ends .entry))) n (before (now (ends .entry)) around) at (now (out .entry)) (now (out .exit)) (r .next) (before (now (ends .exit)) (r .around)) (r .at) ⌝ }
 {
     let step = ask(message, n, records);

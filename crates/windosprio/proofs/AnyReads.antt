@@ -1,12 +1,11 @@
 -- Wherever the system cuts the input into reads, what the program writes is the answers to the whole of it.
 -- The idea: a turn's contract holds whatever follows the chunk; so turn by turn, then chunk by chunk.
-use Prim.Native.Nat.{ℕ, zero, suc, _≤_}
+use Prim.Native.Nat.{ℕ, _≤_}
 use native.Mathlib.Nat.{not-suc-le-zero, le-of-suc-le-suc}
 use native.Mathlib.Omega.{arith}
 use mathlib.Core.Path.{_≡_, refl, sym, ap, _∙_}
-use mathlib.Core.List.{List, [], _∷_, _++_, append-assoc, append-nil}
-use lib.ListN.{length, take, drop}
-use lib.Seq.{take-nil}
+use mathlib.Core.List.{List, [], _∷_, _++_, append-assoc}
+use lib.ListN.{length, take, drop, drop-of-length-le}
 use Rattle.lines.specs.Text.{Puts, put}
 use Rattle.lines.proofs.TextLaws.{put-length}
 use Rattle.windosprio.specs.Program.{lastLine, answersTo}
@@ -25,15 +24,9 @@ written {t} {old} {new} {r} p =
     let h : length t ≤ length old = omega (arith, p .within, ap length (p .words), put-length 0 t old) in
     ap (λ (n : ℕ). take n new) e ∙ ap (take (length t)) (p .words) ∙ put-first t old h
 
-past : (l : List ℕ) (n : ℕ) → length l ≤ n → drop n l ≡ []
-past [] zero h = refl
-past [] (suc n) h = refl
-past (x ∷ l) zero h = absurd (not-suc-le-zero h)
-past (x ∷ l) (suc n) h = past l n (le-of-suc-le-suc h)
-
 module _ (S T : List ℕ) (room : ℕ) where
   turns-answer : {chunk m text m′ : List ℕ} {from : ℕ} → Turns S T room chunk from m text m′ → (rest : List ℕ) → answersTo S T room m (drop from chunk ++ rest) ≡ text ++ answersTo S T room m′ rest
-  turns-answer {chunk} {m} {from = from} (used-up h) rest = ap (λ (l : List ℕ). answersTo S T room m (l ++ rest)) (past chunk from h)
+  turns-answer {chunk} {m} {from = from} (used-up h) rest = ap (λ (l : List ℕ). answersTo S T room m (l ++ rest)) (drop-of-length-le chunk h)
   turns-answer {m′ = m′} (turn {more = more} t ts e) rest =
       let d = t .done in
       d .splits rest ∙ ap (λ (l : List ℕ). d .text ++ l) (turns-answer ts rest) ∙ sym (append-assoc (d .text) more (answersTo S T room m′ rest))

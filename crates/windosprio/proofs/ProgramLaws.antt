@@ -12,6 +12,7 @@ use lib.ListN.{length, take, drop, replicate, length-take, length-drop}
 use lib.Seq.{take-all, take-length, drop-drop, drop-length}
 use borrow.Author.Tests.{leb-true, leb-false, lt-ltb}
 use Rattle.grammar.specs.Limits.{message-bytes}
+use Rattle.grammar.proofs.Booleans.{clash}
 use Rattle.rules.specs.declared.MessageRefusal.{MessageRefusal}
 use Rattle.rules.specs.declared.MessageRefusal.the-variants as M
 use Rattle.rules.specs.declared.MessageAnswer.the-variants as MA
@@ -55,7 +56,7 @@ module _ (S T : List ℕ) (room : ℕ) where
       → messageAnswered S T m room c ts (cond (not good) (some M.UnsoundTable) (cond long (some M.TooLong) x)) ≡ longResult good
   unfolding longResult
   long-answer m true true c ts x e = refl
-  long-answer m true false c ts x e = let y : _≡_ {A = ℕ} 0 1 = cc in absurd (omega arith)
+  long-answer m true false c ts x e = clash e refl
   long-answer m false long c ts x e = refl
 
   too-long : (m : List ℕ) → message-bytes < length m → messageResult S T m room ≡ longResult (sound S T)
