@@ -1,6 +1,7 @@
 // Rows as they are written, in lent words: only whole rows within the room.
 use crate::values::name_size;
 use crate::values::name_start;
+use rules::ROW_WORDS;
 ghost use mathlib.Core.List.{_∷_, []};
 ghost use Rattle.definitions.specs.Written.{RowPut, NamedRowPut};
 
@@ -24,10 +25,10 @@ pub fn put_row(
 )
     ensures { λ _. ⌜ RowPut (now (rows .entry)) (now (rows .exit)) n (kind ∷ start ∷ size ∷ a ∷ b ∷ c ∷ d ∷ 0 ∷ []) ⌝ }
 {
-    if rows.len() / 8 <= n {
+    if rows.len() / ROW_WORDS <= n {
         return;
     }
-    let at = 8 * n;
+    let at = ROW_WORDS * n;
     rows[at] = kind;
     rows[at + 1] = start;
     rows[at + 2] = size;

@@ -2,6 +2,7 @@
 use lookups::values::node_means;
 use rows::names::name_of;
 use rows::rows::word;
+use rules::ROW_WORDS;
 ghost use Rattle.message.specs.Commands.{NamesCommand, FindsCommand};
 
 pub enum Command {
@@ -23,7 +24,7 @@ fn is_named(schema: &[u8], rows: &[u32], m: &[u8], nodes: &[u32], k: usize, r: u
 pub fn find_command(schema: &[u8], rows: &[u32], m: &[u8], nodes: &[u32], k: usize) -> Command
     ensures { λ r. ⌜ FindsCommand (now (schema .entry)) (now (rows .entry)) (now (m .entry)) (now (nodes .entry)) k r ⌝ }
 {
-    let n = rows.len() / 8;
+    let n = rows.len() / ROW_WORDS;
     let mut r = 0;
     while r < n {
         if is_named(schema, rows, m, nodes, k, r) {

@@ -8,6 +8,7 @@ use native.Mathlib.Omega.{arith}
 use lib.Dec.{eqb, ltb}
 use lib.ListN.{length, getD, List·getD-eq-default}
 use borrow.Author.Tests.{ne-eqb, eqb-false, ltb-true, ltb-false}
+use Rattle.grammar.specs.Limits.{row-words}
 use Rattle.grammar.proofs.Lists.{same-true}
 use Rattle.buckets.specs.Buckets.{bucketOf, inBucket}
 use Rattle.buckets.proofs.BucketLaws.{bucket-short, index-walk}
@@ -43,14 +44,14 @@ fit-some true k e z = clash e (rw z)
 fit-some false k e z = clash e (rw z)
 
 -- a row of a kind that may be meant is there
-fit-there : (U : List ℕ) (s : Bool) (r : ℕ) → fitting s (kind U r) ≡ true → 8 * r < length U
-fit-there U s r e = go (ltb (8 * r) (length U)) refl
+fit-there : (U : List ℕ) (s : Bool) (r : ℕ) → fitting s (kind U r) ≡ true → row-words * r < length U
+fit-there U s r e = go (ltb (row-words * r) (length U)) refl
   where
-    go : (b : Bool) → ltb (8 * r) (length U) ≡ b → 8 * r < length U
-    go true p = ltb-true (8 * r) (length U) p
+    go : (b : Bool) → ltb (row-words * r) (length U) ≡ b → row-words * r < length U
+    go true p = ltb-true (row-words * r) (length U) p
     go false p =
-        let l : length U ≤ 8 * r = ltb-false (8 * r) (length U) p in
-        absurd (fit-some s (kind U r) e (List·getD-eq-default U 0 {n = 8 * r + 0} (omega arith)))
+        let l : length U ≤ row-words * r = ltb-false (row-words * r) (length U) p in
+        absurd (fit-some s (kind U r) e (List·getD-eq-default U 0 {n = row-words * r + 0} (omega arith)))
 
 -- heads
 module _ {T U : List ℕ} (h : Heads T U) (r : ℕ) where

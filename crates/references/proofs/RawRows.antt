@@ -9,7 +9,7 @@ use lib.Dec.{eqb}
 use lib.ListN.{length, getD, set}
 use lib.Seq.{getD-append-add, set-getD}
 use borrow.Author.Tests.{eqb-false}
-use Rattle.grammar.specs.Limits.{schema-bytes}
+use Rattle.grammar.specs.Limits.{schema-bytes, row-words}
 use Rattle.rules.specs.Definitions.{Name, TypeText, Data, Definition}
 use Rattle.rules.specs.Definitions.Data.{absent, inline, named}
 use Rattle.rules.specs.Definitions.TypeText.{one}
@@ -25,19 +25,19 @@ use Rattle.references.proofs.SlotLaws.{row-struct, row-member, row-unio
 use Rattle.references.proofs.RawWords.{rawTag, linkRefers, types-word, types-found, data-word}
 
 -- words behind r rows
-module _ (X W : List ℕ) (r : ℕ) (n : length X ≡ 8 * r) where
-  pub word-behind : (i : ℕ) → getD (X ++ W) (8 * r + i) 0 ≡ getD W i 0
+module _ (X W : List ℕ) (r : ℕ) (n : length X ≡ row-words * r) where
+  pub word-behind : (i : ℕ) → getD (X ++ W) (row-words * r + i) 0 ≡ getD W i 0
   word-behind i = rw (← n) (getD-append-add X W i 0)
 
-  pub word-after : (i : ℕ) → getD (X ++ W) (8 * suc r + i) 0 ≡ getD W (8 + i) 0
-  word-after i = let z : 8 * suc r + i ≡ 8 * r + (8 + i) = omega arith in rw z (word-behind (8 + i))
+  pub word-after : (i : ℕ) → getD (X ++ W) (row-words * suc r + i) 0 ≡ getD W (row-words + i) 0
+  word-after i = let z : row-words * suc r + i ≡ row-words * r + (row-words + i) = omega arith in rw z (word-behind (row-words + i))
 
 pub set-behind : (X W : List ℕ) (i v : ℕ) → set (X ++ W) (length X + i) v ≡ X ++ set W i v
 set-behind [] W i v = let z : 0 + i ≡ i = omega arith in rw z
 set-behind (x ∷ X) W i v = let z : suc (length X) + i ≡ suc (length X + i) = omega arith in rw z (ap (λ l. x ∷ l) (set-behind X W i v))
 
 -- an inline struct's owner and the inline struct stand in the words that are left
-pub inline-behind : (X Y W : List ℕ) (r : ℕ) → length X ≡ 8 * r → length Y ≡ 8 * r → Rows.inline (X ++ W) (suc r) ≡ Rows.inline (Y ++ W) (suc r)
+pub inline-behind : (X Y W : List ℕ) (r : ℕ) → length X ≡ row-words * r → length Y ≡ row-words * r → Rows.inline (X ++ W) (suc r) ≡ Rows.inline (Y ++ W) (suc r)
 unfolding Rows.inline
 inline-behind X Y W r n m =
     let a = word-behind X W r n in
@@ -73,7 +73,7 @@ NamedRow (branchRow p) = Unit {0}
 NamedRow (alternativeRow p) = Unit {0}
 NamedRow (commandRow n a t oob) = Unit {0}
 
-module _ (S : List ℕ) (ds : List Definition) (short : length S ≤ schema-bytes) (spans : EveryName (Spans S) ds) (X : List ℕ) (r : ℕ) (n : length X ≡ 8 * r) where
+module _ (S : List ℕ) (ds : List Definition) (short : length S ≤ schema-bytes) (spans : EveryName (Spans S) ds) (X : List ℕ) (r : ℕ) (n : length X ≡ row-words * r) where
   abbrev T : List ℕ
   T = rawFrom 0 ds
 
@@ -85,9 +85,9 @@ module _ (S : List ℕ) (ds : List Definition) (short : length S ≤ schema-byte
 
   -- a word of the row
   put-behind : (s : Bool) (i : ℕ) (W : List ℕ) (w v : ℕ) → getD W i 0 ≡ w → wordRefers S T s w ≡ v
-      → (putAt S T s (8 * r + i) (X ++ W) ≡ X ++ set W i v) × (foundAt S T s (8 * r + i) (X ++ W) ≡ found w v)
+      → (putAt S T s (row-words * r + i) (X ++ W) ≡ X ++ set W i v) × (foundAt S T s (row-words * r + i) (X ++ W) ≡ found w v)
   put-behind s i W w v p q =
-      let z : getD (X ++ W) (8 * r + i) 0 ≡ w = word-behind X W r n i ∙ p in
+      let z : getD (X ++ W) (row-words * r + i) 0 ≡ w = word-behind X W r n i ∙ p in
       (rw (z, q, ← n) (set-behind X W i v), rw (z, q))
 
   -- its link to a base or to data
@@ -126,7 +126,7 @@ module _ (S : List ℕ) (ds : List Definition) (short : length S ≤ schema-byte
   command-behind d t W p q a b i =
       let y = data-behind d W p a i in
       let z = put-behind false 5 (set W 3 (dataLink SL TN rawTag r d)) (typeOf packed packed rawTag t) (typeOf SL TN rawTag t) b (types-word S ds short spans t q) in
-      (ap (putAt S T false (8 * r + 5)) (y .0) ∙ z .0, ap₂ _&&_ (y .1) (ap (foundAt S T false (8 * r + 5)) (y .0) ∙ z .1 ∙ types-found S ds short spans t q))
+      (ap (putAt S T false (row-words * r + 5)) (y .0) ∙ z .0, ap₂ _&&_ (y .1) (ap (foundAt S T false (row-words * r + 5)) (y .0) ∙ z .1 ∙ types-found S ds short spans t q))
 
   pub row-step : (e : Entry) (Y : List ℕ) → EntryNames (Spans S) e → NamedRow e
       → Rows.inline (X ++ (wordsOf packed packed rawTag r e ++ Y)) (suc r) ≡ owns e → Step e Y

@@ -7,7 +7,7 @@ use mathlib.Core.List.{List, [], _∷_, _++_, map, append-assoc, append-nil}
 use native.Mathlib.Omega.{arith}
 use lib.ListN.{length, getD, take, drop, take-append-drop, drop-of-length-le}
 use lib.Seq.{length-take-le, take-suc, drop-cons, take-all}
-use Rattle.grammar.specs.Limits.{schema-bytes}
+use Rattle.grammar.specs.Limits.{schema-bytes, row-words}
 use Rattle.grammar.specs.Notation.{all}
 use Rattle.rules.specs.Definitions.{Name, Member, Data, Body, Definition}
 use Rattle.rules.specs.Definitions.Data.{absent, inline, named}
@@ -56,7 +56,7 @@ module _ (f g : Name → ℕ) (h : ℕ → Name → ℕ) (es : List Entry) (r : 
       let z : 0 + length (take r es) ≡ r = omega arith in
       ap (wordsFrom f g h 0) (sym (take-append-drop r es)) ∙ words-append f g h 0 (take r es) (drop r es) ∙ rw z
 
-  pub length-below : r ≤ length es → length (wordsFrom f g h 0 (take r es)) ≡ 8 * r
+  pub length-below : r ≤ length es → length (wordsFrom f g h 0 (take r es)) ≡ row-words * r
   length-below l = length-words f g h 0 (take r es) ∙ rw (length-take-le r es l)
 
   pub rows-from : r < length es → wordsFrom f g h r (drop r es) ≡ wordsOf f g h r (getD es r blank) ++ wordsFrom f g h (suc r) (drop (suc r) es)

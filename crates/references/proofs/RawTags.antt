@@ -9,7 +9,7 @@ use lib.Dec.{eqb, ltb}
 use lib.ListN.{length, getD, set, take, drop}
 use lib.Seq.{length-take-le}
 use borrow.Author.Tests.{lt-ltb, le-ltb, eqb-false}
-use Rattle.grammar.specs.Limits.{schema-bytes, chain-structs}
+use Rattle.grammar.specs.Limits.{schema-bytes, chain-structs, row-words}
 use Rattle.rules.specs.Definitions.{Name, Data, Definition}
 use Rattle.rules.specs.SchemaTable.{bytesOf, memberOf, structLink, typeNamed, untagged, discriminatorLink, table}
 use Rattle.rules.specs.RawTable.{packed, EveryName, Spans}
@@ -26,7 +26,7 @@ use Rattle.references.proofs.RawWords.{rawTag, packed-name, all-behind}
 use Rattle.references.proofs.RawRows.{set-behind}
 use Rattle.references.proofs.RawSteps.{rows-split, length-below, rows-from}
 
-module _ (S : List ℕ) (ds : List Definition) (short : length S ≤ schema-bytes) (spans : EveryName (Spans S) ds) (few : 8 * length (entries ds) < 2 ^ 32) where
+module _ (S : List ℕ) (ds : List Definition) (short : length S ≤ schema-bytes) (spans : EveryName (Spans S) ds) (few : row-words * length (entries ds) < 2 ^ 32) where
   abbrev SL : Name → ℕ
   SL = structLink S ds
 
@@ -61,12 +61,12 @@ module _ (S : List ℕ) (ds : List Definition) (short : length S ≤ schema-byte
   untagged-alike : (r : ℕ) → Alike (U r) (untagged S ds)
   untagged-alike r = rw (table-words SL TN (λ _ _. 0) 0 ds) (words-alike SL TN (mixed r) (λ _ _. 0) es)
 
-  tag-at : (r : ℕ) (tag : Name) → Spans S tag → getD (U r) (8 * r + 5) 0 ≡ packed tag → tagLink S r (U r) ≡ DL r tag
+  tag-at : (r : ℕ) (tag : Name) → Spans S tag → getD (U r) (row-words * r + 5) 0 ≡ packed tag → tagLink S r (U r) ≡ DL r tag
   unfolding tagLink
   tag-at r tag s p =
       let a = untagged-alike r in
       let b : unionBase (U r) r ≡ unionBase (untagged S ds) r = a .same-word r 3 (omega arith) in
-      let z : memberOf S (U r) (nameIn S (getD (U r) (8 * r + 5) 0)) (members (U r) chain-structs (unionBase (U r) r)) ≡ DL r tag =
+      let z : memberOf S (U r) (nameIn S (getD (U r) (row-words * r + 5) 0)) (members (U r) chain-structs (unionBase (U r) r)) ≡ DL r tag =
       ap (λ w. memberOf S (U r) (nameIn S w) (members (U r) chain-structs (unionBase (U r) r))) p
       ∙ ap₂ (memberOf S (U r)) (packed-name S short tag s) (alike-members a chain-structs (unionBase (U r) r) ∙ ap (members (untagged S ds) chain-structs) b)
       ∙ alike-found a S (bytesOf S tag) (members (untagged S ds) chain-structs (unionBase (untagged S ds) r)) in
@@ -106,13 +106,13 @@ module _ (S : List ℕ) (ds : List Definition) (short : length S ≤ schema-byte
     union n b tag c p =
         let e : Entry = unionRow n b tag c in
         let s : EntryNames (Spans S) e = subst (EntryNames (Spans S)) p (every-at (EntryNames (Spans S)) blank es (entry-names (Spans S) ds spans) r l) in
-        let w : getD (U r) (8 * r + 5) 0 ≡ packed tag =
+        let w : getD (U r) (row-words * r + 5) 0 ≡ packed tag =
         word-is SL TN (mixed r) es r 5 l (omega arith) ∙ ap (λ x. getD (wordsOf SL TN (mixed r) r x) 5 0) p ∙ mixed-above r r tag (omega arith) in
         let v : mixed (suc r) r tag ≡ tagLink S r (U r) = mixed-below (suc r) r tag (omega arith) ∙ sym (tag-at r tag (s .2) w) in
-        let k : length (A r) ≡ 8 * r = length-below SL TN (mixed r) es r (omega arith) in
+        let k : length (A r) ≡ row-words * r = length-below SL TN (mixed r) es r (omega arith) in
         sym (put-tag S (U r) r (kind-there e p) refl v)
-        ∙ join e p (set (U r) (8 * r + 5) (mixed (suc r) r tag))
-        (ap (λ u. set u (8 * r + 5) (mixed (suc r) r tag)) (parts r ∙ ap (λ x. A r ++ (wordsOf SL TN (mixed r) r x ++ B r)) p)
+        ∙ join e p (set (U r) (row-words * r + 5) (mixed (suc r) r tag))
+        (ap (λ u. set u (row-words * r + 5) (mixed (suc r) r tag)) (parts r ∙ ap (λ x. A r ++ (wordsOf SL TN (mixed r) r x ++ B r)) p)
         ∙ ap (λ i. set (A r ++ (wordsOf SL TN (mixed r) r e ++ B r)) (i + 5) (mixed (suc r) r tag)) (sym k)
         ∙ set-behind (A r) (wordsOf SL TN (mixed r) r e ++ B r) 5 (mixed (suc r) r tag)
         ∙ ap (λ w. A r ++ w) (union-words SL TN (mixed r) (mixed (suc r)) r n b tag c (B r)))

@@ -5,7 +5,7 @@ use mathlib.Core.Bool.{Bool}
 use mathlib.Core.List.{List}
 use native.Mathlib.Omega.{arith}
 use lib.ListN.{length}
-use Rattle.grammar.specs.Limits.{schema-bytes}
+use Rattle.grammar.specs.Limits.{schema-bytes, row-words}
 use Rattle.rules.specs.Definitions.{Definition}
 use Rattle.rules.specs.SchemaTable.{structLink, typeNamed, table, allRefer}
 use Rattle.rules.specs.RawTable.{packed, rawFrom, EveryName, Spans}
@@ -28,7 +28,7 @@ module _ (S : List ℕ) (ds : List Definition) (short : length S ≤ schema-byte
 
   raw-resolved : (U : List ℕ) → length (rawFrom 0 ds) < 2 ^ 32 → U ≡ putRows S (rawFrom 0 ds) (rowCount (rawFrom 0 ds)) → putTags S (rowCount U) U ≡ table S ds
   raw-resolved U small p =
-      let n : length (rawFrom 0 ds) ≡ 8 * length (entries ds) = ap length (raw-words S ds short spans bases) ∙ length-words packed packed rawTag 0 (entries ds) in
+      let n : length (rawFrom 0 ds) ≡ row-words * length (entries ds) = ap length (raw-words S ds short spans bases) ∙ length-words packed packed rawTag 0 (entries ds) in
       let q : U ≡ wordsFrom (structLink S ds) (typeNamed S ds) rawTag 0 (entries ds) = p ∙ ap (putRows S (rawFrom 0 ds)) raw-count ∙ rows-resolved S ds short spans bases .0 in
       let k : rowCount U ≡ length (entries ds) = ap rowCount q ∙ rows-are (structLink S ds) (typeNamed S ds) rawTag (entries ds) in
       ap (λ i. putTags S i U) k ∙ ap (putTags S (length (entries ds))) q ∙ tags-resolved S ds short spans (omega arith)

@@ -10,6 +10,7 @@ use lib.Dec.{eqb, ltb}
 use lib.ListN.{length, getD, set, length-set}
 use lib.Seq.{getD-set-other}
 use borrow.Author.Tests.{ne-eqb, lt-ltb}
+use Rattle.grammar.specs.Limits.{row-words}
 use Rattle.rules.specs.Rows.{kind, inline}
 use Rattle.table.specs.Definitions.{DefinitionIndex}
 use Rattle.references.specs.Lookups.{wordRefers, Heads, Refers}
@@ -19,23 +20,23 @@ use Rattle.references.specs.Steps.{putAt, foundAt, putData, foundData, p
 pub heads-own : (T : List ℕ) → Heads T T
 heads-own T = record { same-head = λ r i h. refl }
 
-heads-set : (T U : List ℕ) (r i v : ℕ) → 3 ≤ i → i < 8 → Heads T U → Heads T (set U (8 * r + i) v)
+heads-set : (T U : List ℕ) (r i v : ℕ) → 3 ≤ i → i < row-words → Heads T U → Heads T (set U (row-words * r + i) v)
 heads-set T U r i v a b h = record {
-  same-head = λ j n l. getD-set-other U (8 * r + i) (8 * j + n) v 0 (λ (e : 8 * j + n ≡ 8 * r + i). omega arith) ∙ h .same-head j n l;
+  same-head = λ j n l. getD-set-other U (row-words * r + i) (row-words * j + n) v 0 (λ (e : row-words * j + n ≡ row-words * r + i). omega arith) ∙ h .same-head j n l;
 }
 
 -- a property that putting a word from the fourth on keeps
-module _ (S T : List ℕ) (P : List ℕ → Type 0) (keeps : (U : List ℕ) (r i v : ℕ) → 3 ≤ i → i < 8 → P U → P (set U (8 * r + i) v)) where
+module _ (S T : List ℕ) (P : List ℕ → Type 0) (keeps : (U : List ℕ) (r i v : ℕ) → 3 ≤ i → i < row-words → P U → P (set U (row-words * r + i) v)) where
   kept-cond : (b : Bool) (U W : List ℕ) → P U → P W → P (cond b U W)
   kept-cond true U W p q = p
   kept-cond false U W p q = q
 
-  kept-at : (s : Bool) (r i : ℕ) (U : List ℕ) → 3 ≤ i → i < 8 → P U → P (putAt S T s (8 * r + i) U)
-  kept-at s r i U a b p = keeps U r i (wordRefers S T s (getD U (8 * r + i) 0)) a b p
+  kept-at : (s : Bool) (r i : ℕ) (U : List ℕ) → 3 ≤ i → i < row-words → P U → P (putAt S T s (row-words * r + i) U)
+  kept-at s r i U a b p = keeps U r i (wordRefers S T s (getD U (row-words * r + i) 0)) a b p
 
   pub kept-data : (r : ℕ) (U : List ℕ) → P U → P (putData S T r U)
   unfolding putData
-  kept-data r U p = kept-cond (inline U (suc r)) U (putAt S T true (8 * r + 3) U) p (kept-at true r 3 U (omega arith) (omega arith) p)
+  kept-data r U p = kept-cond (inline U (suc r)) U (putAt S T true (row-words * r + 3) U) p (kept-at true r 3 U (omega arith) (omega arith) p)
 
   kept-command : (r : ℕ) (U : List ℕ) → P U → P (putCommand S T r U)
   unfolding putCommand
@@ -60,7 +61,7 @@ pub heads-rows : (S T : List ℕ) (r : ℕ) → Heads T (putRows S T r)
 heads-rows S T r = kept-rows S T (Heads T) (heads-set T) (heads-own T) r
 
 pub length-rows : (S T : List ℕ) (r : ℕ) → length (putRows S T r) ≡ length T
-length-rows S T r = kept-rows S T (λ U. length U ≡ length T) (λ U j i v a b p. length-set U (8 * j + i) v ∙ p) refl r
+length-rows S T r = kept-rows S T (λ U. length U ≡ length T) (λ U j i v a b p. length-set U (row-words * j + i) v ∙ p) refl r
 
 -- word k
 module _ {S U heads links : List ℕ} {w v : ℕ} (s : Bool) (k : ℕ) (p : w ≡ getD U k 0) (f : Refers S U heads links s w v) where
@@ -83,7 +84,7 @@ module _ {S U heads links : List ℕ} (r : ℕ) {b : Bool} (p : b ≡ inline U (
   unfolding putData foundData
   data-inline e = let i = next-inline U r b true p e in record { same-length = refl; told = λ T j h. (rw i, rw i) }
 
-  pub data-named : b ≡ false → {new : List ℕ} {t : Bool} → Puts S U heads links (λ T. putAt S T true (8 * r + 3)) (λ T. foundAt S T true (8 * r + 3)) new t
+  pub data-named : b ≡ false → {new : List ℕ} {t : Bool} → Puts S U heads links (λ T. putAt S T true (row-words * r + 3)) (λ T. foundAt S T true (row-words * r + 3)) new t
       → Puts S U heads links (λ T. putData S T r) (λ T. foundData S T r) new t
   unfolding putData foundData
   data-named e f =
@@ -93,7 +94,7 @@ module _ {S U heads links : List ℕ} (r : ℕ) {b : Bool} (p : b ≡ inline U (
 -- one after the other
 pub command-both : {S U heads links : List ℕ} (r : ℕ) {mid new : List ℕ} {a b t : Bool}
     → Puts S U heads links (λ T. putData S T r) (λ T. foundData S T r) mid a
-    → Puts S mid heads links (λ T. putAt S T false (8 * r + 5)) (λ T. foundAt S T false (8 * r + 5)) new b → t ≡ (a && b)
+    → Puts S mid heads links (λ T. putAt S T false (row-words * r + 5)) (λ T. foundAt S T false (row-words * r + 5)) new b → t ≡ (a && b)
     → Puts S U heads links (λ T. putCommand S T r) (λ T. foundCommand S T r) new t
 unfolding putCommand foundCommand
 command-both {S} {U} r {mid} f g e = record {
@@ -101,7 +102,7 @@ command-both {S} {U} r {mid} f g e = record {
   told = λ T j h.
       let x = f .told T j h in
       let y = g .told T j (subst (Heads T) (sym (x .0)) (kept-data S T (Heads T) (heads-set T) r U h)) in
-      (y .0 ∙ ap (putAt S T false (8 * r + 5)) (x .0), e ∙ ap₂ _&&_ (x .1) (y .1 ∙ ap (foundAt S T false (8 * r + 5)) (x .0)));
+      (y .0 ∙ ap (putAt S T false (row-words * r + 5)) (x .0), e ∙ ap₂ _&&_ (x .1) (y .1 ∙ ap (foundAt S T false (row-words * r + 5)) (x .0)));
 }
 
 -- row r by its kind
@@ -111,11 +112,11 @@ pub row-by : {S U heads links : List ℕ} {put : List ℕ → List ℕ → List 
 row-by r e f = record { same-length = f .same-length; told = λ T j h. (f .told T j h .0 ∙ sym (e T .0), f .told T j h .1 ∙ sym (e T .1)) }
 
 module _ (S U : List ℕ) (r : ℕ) {k : ℕ} (p : k ≡ kind U r) (T : List ℕ) where
-  pub row-struct : k ≡ 3 → (putRow S T r U ≡ putAt S T true (8 * r + 4) U) × (foundRow S T r U ≡ foundAt S T true (8 * r + 4) U)
+  pub row-struct : k ≡ 3 → (putRow S T r U ≡ putAt S T true (row-words * r + 4) U) × (foundRow S T r U ≡ foundAt S T true (row-words * r + 4) U)
   unfolding putRow foundRow
   row-struct e = (rw (← p, e), rw (← p, e))
 
-  pub row-member : k ≡ 4 → (putRow S T r U ≡ putAt S T false (8 * r + 3) U) × (foundRow S T r U ≡ foundAt S T false (8 * r + 3) U)
+  pub row-member : k ≡ 4 → (putRow S T r U ≡ putAt S T false (row-words * r + 3) U) × (foundRow S T r U ≡ foundAt S T false (row-words * r + 3) U)
   unfolding putRow foundRow
   row-member e = (rw (← p, e), rw (← p, e))
 
@@ -123,11 +124,11 @@ module _ (S U : List ℕ) (r : ℕ) {k : ℕ} (p : k ≡ kind U r) (T : List ℕ
   unfolding putRow foundRow
   row-union e = (rw (← p, e), rw (← p, e))
 
-  pub row-branch : k ≡ 6 → (putRow S T r U ≡ putAt S T true (8 * r + 3) U) × (foundRow S T r U ≡ foundAt S T true (8 * r + 3) U)
+  pub row-branch : k ≡ 6 → (putRow S T r U ≡ putAt S T true (row-words * r + 3) U) × (foundRow S T r U ≡ foundAt S T true (row-words * r + 3) U)
   unfolding putRow foundRow
   row-branch e = (rw (← p, e), rw (← p, e))
 
-  pub row-alternative : k ≡ 8 → (putRow S T r U ≡ putAt S T false (8 * r + 3) U) × (foundRow S T r U ≡ foundAt S T false (8 * r + 3) U)
+  pub row-alternative : k ≡ 8 → (putRow S T r U ≡ putAt S T false (row-words * r + 3) U) × (foundRow S T r U ≡ foundAt S T false (row-words * r + 3) U)
   unfolding putRow foundRow
   row-alternative e = (rw (← p, e), rw (← p, e))
 

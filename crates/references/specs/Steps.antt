@@ -5,6 +5,7 @@ use mathlib.Core.Bool.{Bool, true, false, cond, _&&_}
 use mathlib.Core.List.{List}
 use lib.Dec.{eqb}
 use lib.ListN.{getD, set, length}
+use Rattle.grammar.specs.Limits.{row-words}
 use Rattle.rules.specs.Rows.{kind, inline}
 use Rattle.table.specs.Definitions.{DefinitionIndex}
 use Rattle.references.specs.Lookups.{wordRefers, found, Heads}
@@ -19,35 +20,35 @@ module _ (S T : List ℕ) where
 
   -- the base of union r or the data of command r, unless it is inline
   unfoldable pub putData : ℕ → List ℕ → List ℕ
-  putData r U = cond (inline U (suc r)) U (putAt true (8 * r + 3) U)
+  putData r U = cond (inline U (suc r)) U (putAt true (row-words * r + 3) U)
 
   unfoldable pub foundData : ℕ → List ℕ → Bool
-  foundData r U = cond (inline U (suc r)) true (foundAt true (8 * r + 3) U)
+  foundData r U = cond (inline U (suc r)) true (foundAt true (row-words * r + 3) U)
 
   -- the data and then the return of command r
   unfoldable pub putCommand : ℕ → List ℕ → List ℕ
-  putCommand r U = putAt false (8 * r + 5) (putData r U)
+  putCommand r U = putAt false (row-words * r + 5) (putData r U)
 
   unfoldable pub foundCommand : ℕ → List ℕ → Bool
-  foundCommand r U = foundData r U && foundAt false (8 * r + 5) (putData r U)
+  foundCommand r U = foundData r U && foundAt false (row-words * r + 5) (putData r U)
 
   -- row r by its kind, but for a discriminator
   unfoldable pub putRow : ℕ → List ℕ → List ℕ
   putRow r U =
-      cond (eqb (kind U r) 3) (putAt true (8 * r + 4) U)
-      (cond (eqb (kind U r) 4) (putAt false (8 * r + 3) U)
+      cond (eqb (kind U r) 3) (putAt true (row-words * r + 4) U)
+      (cond (eqb (kind U r) 4) (putAt false (row-words * r + 3) U)
       (cond (eqb (kind U r) 5) (putData r U)
-      (cond (eqb (kind U r) 6) (putAt true (8 * r + 3) U)
-      (cond (eqb (kind U r) 8) (putAt false (8 * r + 3) U)
+      (cond (eqb (kind U r) 6) (putAt true (row-words * r + 3) U)
+      (cond (eqb (kind U r) 8) (putAt false (row-words * r + 3) U)
       (cond (eqb (kind U r) 9) (putCommand r U) U)))))
 
   unfoldable pub foundRow : ℕ → List ℕ → Bool
   foundRow r U =
-      cond (eqb (kind U r) 3) (foundAt true (8 * r + 4) U)
-      (cond (eqb (kind U r) 4) (foundAt false (8 * r + 3) U)
+      cond (eqb (kind U r) 3) (foundAt true (row-words * r + 4) U)
+      (cond (eqb (kind U r) 4) (foundAt false (row-words * r + 3) U)
       (cond (eqb (kind U r) 5) (foundData r U)
-      (cond (eqb (kind U r) 6) (foundAt true (8 * r + 3) U)
-      (cond (eqb (kind U r) 8) (foundAt false (8 * r + 3) U)
+      (cond (eqb (kind U r) 6) (foundAt true (row-words * r + 3) U)
+      (cond (eqb (kind U r) 8) (foundAt false (row-words * r + 3) U)
       (cond (eqb (kind U r) 9) (foundCommand r U) true)))))
 
   -- the rows of T below row r

@@ -9,11 +9,12 @@ use buckets::BUCKETS;
 use table::definitions::index_definitions;
 ghost use Prim.Native.Nat.{_*_, _≤_, _<_, _^_};
 ghost use lib.ListN.{length};
+ghost use Rattle.grammar.specs.Limits.{row-words};
 ghost use Rattle.references.specs.Resolves.{Resolves};
 
 // Resolves raw rows; tells whether every name found its row. The links are scratch, a word for each row.
 pub fn resolve(s: &[u8], rows: &mut [u32], links: &mut [u32]) -> bool
-    requires { ⌜ (length (now rows) < 2 ^ 32) × (length (now rows) ≤ 8 * length (now links)) × (length (now links) < 2 ^ 32) ⌝ }
+    requires { ⌜ (length (now rows) < 2 ^ 32) × (length (now rows) ≤ row-words * length (now links)) × (length (now links) < 2 ^ 32) ⌝ }
     ensures { λ r. ⌜ Resolves (now (s .entry)) (now (rows .entry)) (now (rows .exit)) r ⌝ }
 {
     let mut heads = [0u32; BUCKETS];

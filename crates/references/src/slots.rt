@@ -5,9 +5,10 @@ use rows::rows::is_inline;
 use rows::rows::word;
 use rules::ROW_WORDS;
 ghost use mathlib.Core.Path.{_≡_};
-ghost use Prim.Native.Nat.{_+_, _*_, _<_, _^_};
+ghost use Prim.Native.Nat.{_+_, _*_, _≤_, _<_, _^_};
 ghost use mathlib.Core.Bool.{_&&_};
 ghost use lib.ListN.{length};
+ghost use Rattle.grammar.specs.Limits.{row-words};
 ghost use Rattle.rules.specs.Rows.{rowCount};
 ghost use Rattle.table.specs.Definitions.{DefinitionIndex};
 ghost use Rattle.references.specs.Steps.{putAt, foundAt, putData, foundData, putCommand, foundCommand, putRow, foundRow, putRows, foundRows, Puts};
@@ -44,37 +45,37 @@ fn put(
 
 // The base of union r or the data of command r, unless it is inline.
 fn put_data(s: &[u8], rows: &mut [u32], heads: &[u32; BUCKETS], links: &[u32], r: usize) -> bool
-    requires { ⌜ (length (now rows) < 2 ^ 32) × (8 * r + 7 < length (now rows)) ⌝ }
+    requires { ⌜ (length (now rows) < 2 ^ 32) × (row-words * r + row-words ≤ length (now rows)) ⌝ }
     ensures { λ b. ⌜ Puts (now (s .entry)) (now (rows .entry)) (now (heads .entry)) (now (links .entry)) (λ T. putData (now (s .entry)) T r) (λ T. foundData (now (s .entry)) T r) (now (rows .exit)) b ⌝ }
 {
     if is_inline(rows, r + 1) {
         return true;
     }
-    put(s, rows, heads, links, true, 8 * r + 3)
+    put(s, rows, heads, links, true, ROW_WORDS * r + 3)
 }
 
 // The data and the return of command r.
 fn put_command(s: &[u8], rows: &mut [u32], heads: &[u32; BUCKETS], links: &[u32], r: usize) -> bool
-    requires { ⌜ (length (now rows) < 2 ^ 32) × (8 * r + 7 < length (now rows)) ⌝ }
+    requires { ⌜ (length (now rows) < 2 ^ 32) × (row-words * r + row-words ≤ length (now rows)) ⌝ }
     ensures { λ b. ⌜ Puts (now (s .entry)) (now (rows .entry)) (now (heads .entry)) (now (links .entry)) (λ T. putCommand (now (s .entry)) T r) (λ T. foundCommand (now (s .entry)) T r) (now (rows .exit)) b ⌝ }
 {
     let a = put_data(s, rows, heads, links, r);
-    let b = put(s, rows, heads, links, false, 8 * r + 5);
+    let b = put(s, rows, heads, links, false, ROW_WORDS * r + 5);
     both(a, b)
 }
 
 // The names that row r refers to, but for a discriminator; whether each found its row.
 fn resolve_row(s: &[u8], rows: &mut [u32], heads: &[u32; BUCKETS], links: &[u32], r: usize) -> bool
-    requires { ⌜ (length (now rows) < 2 ^ 32) × (8 * r + 7 < length (now rows)) ⌝ }
+    requires { ⌜ (length (now rows) < 2 ^ 32) × (row-words * r + row-words ≤ length (now rows)) ⌝ }
     ensures { λ b. ⌜ Puts (now (s .entry)) (now (rows .entry)) (now (heads .entry)) (now (links .entry)) (λ T. putRow (now (s .entry)) T r) (λ T. foundRow (now (s .entry)) T r) (now (rows .exit)) b ⌝ }
 {
     let k = word(rows, r, 0);
     match k {
-        3 => put(s, rows, heads, links, true, 8 * r + 4),
-        4 => put(s, rows, heads, links, false, 8 * r + 3),
+        3 => put(s, rows, heads, links, true, ROW_WORDS * r + 4),
+        4 => put(s, rows, heads, links, false, ROW_WORDS * r + 3),
         5 => put_data(s, rows, heads, links, r),
-        6 => put(s, rows, heads, links, true, 8 * r + 3),
-        8 => put(s, rows, heads, links, false, 8 * r + 3),
+        6 => put(s, rows, heads, links, true, ROW_WORDS * r + 3),
+        8 => put(s, rows, heads, links, false, ROW_WORDS * r + 3),
         9 => put_command(s, rows, heads, links, r),
         _ => true,
     }

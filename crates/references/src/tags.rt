@@ -10,8 +10,9 @@ use rules::CHAIN_STRUCTS;
 use rules::ROW_WORDS;
 use table::chains::chain_ends;
 ghost use mathlib.Core.Path.{_≡_};
-ghost use Prim.Native.Nat.{_+_, _*_, _<_, _^_};
+ghost use Prim.Native.Nat.{_+_, _*_, _≤_, _<_, _^_};
 ghost use lib.ListN.{length};
+ghost use Rattle.grammar.specs.Limits.{row-words};
 ghost use Rattle.rules.specs.Rows.{rowCount, children};
 ghost use Rattle.rules.specs.SchemaTable.{memberIn};
 ghost use Rattle.references.specs.Tags as Spec;
@@ -73,12 +74,12 @@ fn tag_link(s: &[u8], rows: &[u32], r: usize) -> u32
 }
 
 fn tag_row(s: &[u8], rows: &mut [u32], r: usize)
-    requires { ⌜ 8 * r + 7 < length (now rows) ⌝ }
+    requires { ⌜ row-words * r + row-words ≤ length (now rows) ⌝ }
     ensures { λ _. ⌜ now (rows .exit) ≡ Spec.putTag (now (s .entry)) r (now (rows .entry)) ⌝ }
 {
     if word(rows, r, 0) == 5 {
         let link = tag_link(s, rows, r);
-        rows[8 * r + 5] = link;
+        rows[ROW_WORDS * r + 5] = link;
     }
 }
 

@@ -8,6 +8,7 @@ use native.Mathlib.Omega.{arith}
 use lib.ListN.{getD}
 use mir.Syntax.{w32, w64}
 use mir.Val.{Fits}
+use Rattle.grammar.specs.Limits.{row-words}
 use Rattle.grammar.specs.Notation.{all}
 use Rattle.rules.specs.Rows.{upFrom, count, branchCount, isEnum, isStruct, isUnion, isAlternate, inline, inlineRows, childCount, children}
 use Rattle.rules.specs.Rules.{any}
@@ -32,13 +33,13 @@ cond-within false x y n h k = k
 module _ (T : List ℕ) (words : (i : ℕ) → Fits w32 (getD T i 0)) (r : ℕ) where
   pub inline-small : inlineRows T r ≤ 2 ^ 32
   unfolding inlineRows
-  inline-small = cond-within (inline T (suc r)) (suc (count T (suc r))) 0 (2 ^ 32) (omega (arith, words (8 * suc r + 3))) (omega arith)
+  inline-small = cond-within (inline T (suc r)) (suc (count T (suc r))) 0 (2 ^ 32) (omega (arith, words (row-words * suc r + 3))) (omega arith)
 
   pub count-small : childCount T r ≤ 2 ^ 32
   unfolding childCount
   count-small =
-      cond-within (isEnum T r || isStruct T r || isAlternate T r) (count T r) (cond (isUnion T r) (branchCount T r) 0) (2 ^ 32) (omega (arith, words (8 * r + 3)))
-      (cond-within (isUnion T r) (branchCount T r) 0 (2 ^ 32) (omega (arith, words (8 * r + 4))) (omega arith))
+      cond-within (isEnum T r || isStruct T r || isAlternate T r) (count T r) (cond (isUnion T r) (branchCount T r) 0) (2 ^ 32) (omega (arith, words (row-words * r + 3)))
+      (cond-within (isUnion T r) (branchCount T r) 0 (2 ^ 32) (omega (arith, words (row-words * r + 4))) (omega arith))
 
   pub end-fits : {a n : ℕ} → r < 2 ^ 39 → a ≡ suc r + inlineRows T r → n ≡ childCount T r → Fits w64 (a + n)
   end-fits h p q = omega (arith, inline-small, count-small)

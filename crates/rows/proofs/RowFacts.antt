@@ -12,6 +12,7 @@ use lib.ListN.{getD}
 use mir.Syntax.{w32}
 use mir.Val.{Fits}
 use borrow.Author.Tests.{eq-eqb, ne-eqb}
+use Rattle.grammar.specs.Limits.{row-words}
 use Rattle.rules.specs.Rows.{upFrom, word, kind, start, size, base, isEnum, isStruct, isUnion, isAlternate, isCommand, count, branchCount, inline, inlineRows, childCount, children}
 use Rattle.rows.specs.Rows.{unnamed}
 use Rattle.rows.proofs.Walks.{so}
@@ -85,7 +86,7 @@ module _ (T : List ℕ) (small : (k : ℕ) → Fits w32 (getD T k 0)) where
   inlineRows-small r = go (inline T (suc r))
     where
       go : (b : Bool) → cond b (suc (count T (suc r))) 0 ≤ 2 ^ 32
-      go true = small (8 * suc r + 3) .fits
+      go true = small (row-words * suc r + 3) .fits
       go false = omega arith
 
   pub childCount-small : (r : ℕ) → childCount T r < 2 ^ 32
@@ -93,6 +94,6 @@ module _ (T : List ℕ) (small : (k : ℕ) → Fits w32 (getD T k 0)) where
   childCount-small r = go (isEnum T r || isStruct T r || isAlternate T r) (isUnion T r)
     where
       go : (a b : Bool) → cond a (count T r) (cond b (branchCount T r) 0) < 2 ^ 32
-      go true b = small (8 * r + 3) .fits
-      go false true = small (8 * r + 4) .fits
+      go true b = small (row-words * r + 3) .fits
+      go false true = small (row-words * r + 4) .fits
       go false false = omega arith

@@ -10,6 +10,7 @@ use native.Mathlib.Omega.{arith}
 use lib.Dec.{eqb, ltb}
 use lib.ListN.{length, getD, List·getD-eq-default}
 use borrow.Author.Tests.{eq-eqb, ne-eqb, ltb-true, ltb-false}
+use Rattle.grammar.specs.Limits.{row-words}
 use Rattle.rules.specs.Definitions.{Name, Data}
 use Rattle.rules.specs.Definitions.Data.{absent, inline, named}
 use Rattle.rules.specs.SchemaTable.{bytesOf}
@@ -77,16 +78,16 @@ module _ (f g : Name → ℕ) (h : ℕ → Name → ℕ) where
 
   module _ (es : List Entry) where
     -- the words of row r, counted from 0, and past the end
-    pub word-is : (r i : ℕ) → r < length es → i < 8 → getD (wordsFrom f g h 0 es) (8 * r + i) 0 ≡ getD (wordsOf f g h r (getD es r blank)) i 0
+    pub word-is : (r i : ℕ) → r < length es → i < row-words → getD (wordsFrom f g h 0 es) (row-words * r + i) 0 ≡ getD (wordsOf f g h r (getD es r blank)) i 0
     word-is r i l k = let z : 0 + r ≡ r = omega arith in word-at f g h 0 es r i l k ∙ rw z
 
-    pub word-past : (r i : ℕ) → length es ≤ r → getD (wordsFrom f g h 0 es) (8 * r + i) 0 ≡ 0
+    pub word-past : (r i : ℕ) → length es ≤ r → getD (wordsFrom f g h 0 es) (row-words * r + i) 0 ≡ 0
     word-past r i l =
-        let n : length (wordsFrom f g h 0 es) ≡ 8 * length es = length-words f g h 0 es in
-        List·getD-eq-default (wordsFrom f g h 0 es) 0 {n = 8 * r + i} (omega arith)
+        let n : length (wordsFrom f g h 0 es) ≡ row-words * length es = length-words f g h 0 es in
+        List·getD-eq-default (wordsFrom f g h 0 es) 0 {n = row-words * r + i} (omega arith)
 
     pub rows-are : rowCount (wordsFrom f g h 0 es) ≡ length es
-    rows-are = let n : length (wordsFrom f g h 0 es) ≡ 8 * length es = length-words f g h 0 es in omega arith
+    rows-are = let n : length (wordsFrom f g h 0 es) ≡ row-words * length es = length-words f g h 0 es in omega arith
 
     module _ (r : ℕ) (l : r < length es) where
       pub kind-is : kind (wordsFrom f g h 0 es) r ≡ entryKind (getD es r blank)

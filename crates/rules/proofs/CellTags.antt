@@ -11,6 +11,7 @@ use lib.Dec.{ltb}
 use lib.ListN.{length, getD, set, take}
 use lib.Seq.{getD-take}
 use borrow.Author.Tests.{ltb-true, ltb-false}
+use Rattle.grammar.specs.Limits.{row-words}
 use Rattle.rules.specs.Definitions.{Name, TypeText, Data, Definition}
 use Rattle.rules.specs.Definitions.TypeText.{nothing, one, listOf}
 use Rattle.rules.specs.Definitions.Data.{absent, inline, named}
@@ -29,7 +30,7 @@ use Rattle.rules.proofs.CellLayout.{table-laid-out}
 
 -- words 1 to 5 of every row are the same
 pub record Alike (U T : List ℕ) : Type 0 where
-  pub same-word : (r i : ℕ) → i < 5 → getD U (8 * r + i) 0 ≡ getD T (8 * r + i) 0
+  pub same-word : (r i : ℕ) → i < 5 → getD U (row-words * r + i) 0 ≡ getD T (row-words * r + i) 0
 
 module _ {U T : List ℕ} (a : Alike U T) where
   pub alike-inline : (r : ℕ) → Rows.inline U r ≡ Rows.inline T r
@@ -156,7 +157,7 @@ module _ (f g : Name → ℕ) (h k : ℕ → Name → ℕ) where
   pub words-alike : (es : List Entry) → Alike (wordsFrom f g h 0 es) (wordsFrom f g k 0 es)
   words-alike es = record { same-word = λ r i l. go r i l (ltb r (length es)) refl }
     where
-      go : (r i : ℕ) → i < 5 → (b : Bool) → ltb r (length es) ≡ b → getD (wordsFrom f g h 0 es) (8 * r + i) 0 ≡ getD (wordsFrom f g k 0 es) (8 * r + i) 0
+      go : (r i : ℕ) → i < 5 → (b : Bool) → ltb r (length es) ≡ b → getD (wordsFrom f g h 0 es) (row-words * r + i) 0 ≡ getD (wordsFrom f g k 0 es) (row-words * r + i) 0
       go r i l true e =
           let m : r < length es = ltb-true r (length es) e in
           word-is f g h es r i m (omega arith) ∙ word-alike r i (getD es r blank) l ∙ sym (word-is f g k es r i m (omega arith))

@@ -8,6 +8,7 @@ use native.Mathlib.Nat.{add-zero}
 use native.Mathlib.Omega.{arith}
 use lib.ListN.{length, getD, length-append, List·getD-append}
 use lib.Seq.{getD-append-add}
+use Rattle.grammar.specs.Limits.{row-words}
 use Rattle.rules.specs.Definitions.{Name, TypeText, Member, Data, Pair, Body, Definition}
 use Rattle.rules.specs.Definitions.TypeText.{nothing, one, listOf}
 use Rattle.rules.specs.Definitions.Data.{absent, inline, named}
@@ -93,33 +94,33 @@ module _ (f g : Name → ℕ) (h : ℕ → Name → ℕ) where
   entry-words r (alternativeRow p) = refl
   entry-words r (commandRow n a t oob) = refl
 
-  pub length-entry : (r : ℕ) (e : Entry) → length (wordsOf f g h r e) ≡ 8
+  pub length-entry : (r : ℕ) (e : Entry) → length (wordsOf f g h r e) ≡ row-words
   length-entry r e = ap length (entry-words r e)
 
-  pub length-words : (r : ℕ) (es : List Entry) → length (wordsFrom f g h r es) ≡ 8 * length es
+  pub length-words : (r : ℕ) (es : List Entry) → length (wordsFrom f g h r es) ≡ row-words * length es
   unfolding wordsFrom
   length-words r [] = refl
   length-words r (e ∷ es) =
-      let k : length (wordsOf f g h r e) ≡ 8 = length-entry r e in
-      let n : length (wordsFrom f g h (suc r) es) ≡ 8 * length es = length-words (suc r) es in
+      let k : length (wordsOf f g h r e) ≡ row-words = length-entry r e in
+      let n : length (wordsFrom f g h (suc r) es) ≡ row-words * length es = length-words (suc r) es in
       length-append (wordsOf f g h r e) (wordsFrom f g h (suc r) es) ∙ omega arith
 
   -- word i of row j, both counted from 0
-  pub word-at : (r : ℕ) (es : List Entry) (j i : ℕ) → j < length es → i < 8
-      → getD (wordsFrom f g h r es) (8 * j + i) 0 ≡ getD (wordsOf f g h (r + j) (getD es j blank)) i 0
+  pub word-at : (r : ℕ) (es : List Entry) (j i : ℕ) → j < length es → i < row-words
+      → getD (wordsFrom f g h r es) (row-words * j + i) 0 ≡ getD (wordsOf f g h (r + j) (getD es j blank)) i 0
   unfolding wordsFrom
   word-at r [] j i l k = absurd (omega arith)
   word-at r (e ∷ es) zero i l k =
-      let n : length (wordsOf f g h r e) ≡ 8 = length-entry r e in
+      let n : length (wordsOf f g h r e) ≡ row-words = length-entry r e in
       let z : i < length (wordsOf f g h r e) = omega arith in
-      let y : 8 * 0 + i ≡ i = omega arith in
+      let y : row-words * 0 + i ≡ i = omega arith in
       rw (y, add-zero r) (List·getD-append (wordsOf f g h r e) (wordsFrom f g h (suc r) es) 0 i z)
   word-at r (e ∷ es) (suc j) i l k =
-      let n : length (wordsOf f g h r e) ≡ 8 = length-entry r e in
-      let y : 8 * suc j + i ≡ length (wordsOf f g h r e) + (8 * j + i) = omega arith in
+      let n : length (wordsOf f g h r e) ≡ row-words = length-entry r e in
+      let y : row-words * suc j + i ≡ length (wordsOf f g h r e) + (row-words * j + i) = omega arith in
       let z : suc r + j ≡ r + suc j = omega arith in
       ap (λ k. getD (wordsOf f g h r e ++ wordsFrom f g h (suc r) es) k 0) y
-      ∙ getD-append-add (wordsOf f g h r e) (wordsFrom f g h (suc r) es) (8 * j + i) 0
+      ∙ getD-append-add (wordsOf f g h r e) (wordsFrom f g h (suc r) es) (row-words * j + i) 0
       ∙ word-at (suc r) es j i (omega arith) k ∙ rw z
 
 -- names of entries

@@ -13,6 +13,7 @@ use table::unions::good_unions;
 use words::copy;
 ghost use Prim.Native.Nat.{_*_, _≤_, _<_, _^_};
 ghost use lib.ListN.{length};
+ghost use Rattle.grammar.specs.Limits.{row-words};
 ghost use Rattle.rows.specs.Marks.{Marks};
 ghost use Rattle.schema.specs.Stages.{Answered, Zero, IsTable, Refers};
 
@@ -61,7 +62,7 @@ pub fn judge(
     found: bool,
     rows: &mut [u32],
 ) -> SchemaAnswer
-    requires { ⌜ (length (now table) < 2 ^ 32) × (length (now table) ≤ 8 * length (now links)) × (length (now links) < 2 ^ 32) × Zero (now rows) × IsTable (now schema) (now table) × Refers (now schema) found ⌝ }
+    requires { ⌜ (length (now table) < 2 ^ 32) × (length (now table) ≤ row-words * length (now links)) × (length (now links) < 2 ^ 32) × Zero (now rows) × IsTable (now schema) (now table) × Refers (now schema) found ⌝ }
     ensures { λ r. ⌜ Answered (now (schema .entry)) 4 (now (rows .entry)) (now (rows .exit)) r ⌝ }
 {
     if !good_names(schema, table) {

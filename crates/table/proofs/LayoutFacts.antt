@@ -12,6 +12,7 @@ use lib.Dec.{eqb}
 use lib.ListN.{getD, List·getD-eq-default}
 use types.Run.{OneOf}
 use borrow.Author.Tests.{eq-eqb, ne-eqb}
+use Rattle.grammar.specs.Limits.{row-words}
 use Rattle.grammar.specs.Notation.{all}
 use Rattle.rules.specs.Rows.{upFrom, rowCount, word, kind, inline, inlineRows, childCount}
 use Rattle.rules.specs.Sound.{childrenFit, definitionAt, laidOut, lastUsed, restZero}
@@ -120,9 +121,9 @@ pub none-used : (k : ℕ) → NoneOf 9 k → 0 ≡ lastUsed [] k
 none-used zero h = refl
 none-used (suc k) h = sym (List·getD-eq-default (0 ∷ 4 ∷ 3 ∷ 5 ∷ 6 ∷ 6 ∷ 4 ∷ 4 ∷ 4 ∷ 7 ∷ []) 0 (above 9 (suc k) h (omega arith)))
 
-pub rest-upTo : (T : List ℕ) (r k i : ℕ) → k ≡ kind T r → i ≡ lastUsed [] k → restZero T r ≡ upTo (λ j. eqb (getD T (8 * r + j) 0) 0) i 8
+pub rest-upTo : (T : List ℕ) (r k i : ℕ) → k ≡ kind T r → i ≡ lastUsed [] k → restZero T r ≡ upTo (λ j. eqb (getD T (row-words * r + j) 0) 0) i row-words
 rest-upTo T r k i p q =
     rw (q, p)
-    (upTo-of (λ j. eqb (getD T (8 * r + j) 0) 0) 8 (λ j. all (λ n. eqb (word T r n) 0) (upFrom (suc j) (8 - j)))
-    (λ j h. let m : 8 - j ≡ suc (8 - suc j) = omega arith in let n : suc j - 1 ≡ j = omega arith in rw (add-one, m, n))
-    (λ j h. let m : 8 - j ≡ 0 = omega arith in rw m) (lastUsed T (kind T r)))
+    (upTo-of (λ j. eqb (getD T (row-words * r + j) 0) 0) row-words (λ j. all (λ n. eqb (word T r n) 0) (upFrom (suc j) (row-words - j)))
+    (λ j h. let m : row-words - j ≡ suc (row-words - suc j) = omega arith in let n : suc j - 1 ≡ j = omega arith in rw (add-one, m, n))
+    (λ j h. let m : row-words - j ≡ 0 = omega arith in rw m) (lastUsed T (kind T r)))

@@ -19,6 +19,7 @@ ghost use mathlib.Core.Bool.{_||_};
 ghost use mathlib.Core.List.{[], _∷_};
 ghost use lib.Dec.{eqb};
 ghost use lib.ListN.{length, replicate};
+ghost use Rattle.grammar.specs.Limits.{row-words};
 ghost use Rattle.buckets.specs.Buckets.{buckets};
 ghost use Rattle.rules.specs.Types.{built-ins};
 ghost use Rattle.rules.specs.Rules.{isDefinition, goodNames, distinctNames};
@@ -153,7 +154,7 @@ fn definitions_apart(
     heads: &mut [u32; BUCKETS],
     links: &mut [u32],
 ) -> bool
-    requires { ⌜ Marks (now schema) (now rows) (now marks) × (length (now rows) ≤ 8 * length (now links)) × (length (now links) < 2 ^ 32) × (now heads ≡ replicate buckets 0) ⌝ }
+    requires { ⌜ Marks (now schema) (now rows) (now marks) × (length (now rows) ≤ row-words * length (now links)) × (length (now links) < 2 ^ 32) × (now heads ≡ replicate buckets 0) ⌝ }
     ensures { λ b. ⌜ b ≡ definitionsClear (now (schema .entry)) (now (rows .entry)) ⌝ }
 {
     let mut r = rows.len() / ROW_WORDS;
@@ -178,7 +179,7 @@ fn index_row(schema: &[u8], rows: &[u32], heads: &mut [u32; BUCKETS], links: &mu
 
 // Adds every definition to an empty index, the last first.
 pub fn index_definitions(schema: &[u8], rows: &[u32], heads: &mut [u32; BUCKETS], links: &mut [u32])
-    requires { ⌜ (length (now rows) ≤ 8 * length (now links)) × (length (now links) < 2 ^ 32) × (now heads ≡ replicate buckets 0) ⌝ }
+    requires { ⌜ (length (now rows) ≤ row-words * length (now links)) × (length (now links) < 2 ^ 32) × (now heads ≡ replicate buckets 0) ⌝ }
     ensures { λ _. ⌜ DefinitionIndex (now (schema .entry)) (now (rows .entry)) (now (heads .exit)) (now (links .exit)) ⌝ }
 {
     let mut r = rows.len() / ROW_WORDS;
@@ -207,7 +208,7 @@ fn children_apart(schema: &[u8], rows: &[u32], marks: &[u32], links: &mut [u32])
 
 // Rule 6. The links are scratch, a word for each row.
 pub fn distinct_names(schema: &[u8], rows: &[u32], marks: &[u32], links: &mut [u32]) -> bool
-    requires { ⌜ (length (now rows) < 2 ^ 32) × Marks (now schema) (now rows) (now marks) × (length (now rows) ≤ 8 * length (now links)) × (length (now links) < 2 ^ 32) ⌝ }
+    requires { ⌜ (length (now rows) < 2 ^ 32) × Marks (now schema) (now rows) (now marks) × (length (now rows) ≤ row-words * length (now links)) × (length (now links) < 2 ^ 32) ⌝ }
     ensures { λ r. ⌜ r ≡ distinctNames (now (schema .entry)) (now (rows .entry)) ⌝ }
 {
     let mut heads = [0u32; BUCKETS];

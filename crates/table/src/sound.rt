@@ -17,6 +17,7 @@ use rules::TABLE_ROWS;
 ghost use mathlib.Core.Path.{_≡_};
 ghost use Prim.Native.Nat.{_*_, _≤_, _<_, _^_};
 ghost use lib.ListN.{length};
+ghost use Rattle.grammar.specs.Limits.{row-words};
 ghost use Rattle.rules.specs.Sound.{sound};
 ghost use Rattle.rows.specs.Marks.{Marks};
 ghost use Rattle.table.specs.RuleParts.{namesWithin, rowsFit, shaped, definitionsFit, keepsRules};
@@ -91,7 +92,7 @@ fn definitions_fit(schema: &[u8], rows: &[u32], marks: &[u32]) -> bool
 
 // Rules 5 to 11, of which 7 is that references fit; with room for a mark and a link of each row lent.
 fn keeps_rules(schema: &[u8], rows: &[u32], marks: &mut [u32], links: &mut [u32]) -> bool
-    requires { ⌜ (length (now rows) < 2 ^ 32) × (length (now rows) ≤ 8 * length (now links)) × (length (now links) < 2 ^ 32) ⌝ }
+    requires { ⌜ (length (now rows) < 2 ^ 32) × (length (now rows) ≤ row-words * length (now links)) × (length (now links) < 2 ^ 32) ⌝ }
     ensures { λ b. ⌜ b ≡ keepsRules (now (schema .entry)) (now (rows .entry)) ⌝ }
 {
     if !good_names(schema, rows) {

@@ -9,6 +9,7 @@ use lib.Dec.{eqb, leb}
 use lib.ListN.{length, take, drop, getD}
 use lib.Seq.{drop-cons}
 use borrow.Author.Tests.{eq-eqb, ne-eqb, lt-leb, le-leb}
+use Rattle.grammar.specs.Limits.{row-words}
 use Rattle.grammar.specs.Lexis.{blank}
 use Rattle.rules.specs.Rows.{isAlternate}
 use Rattle.grammar.specs.Notation.{text}
@@ -96,9 +97,9 @@ module _ (T : List ℕ) (t f : ℕ) where
   pub a-built-in : {w : ℕ} → f ≡ 0 → w ≡ t → w < 16 → false ≡ alternateRef T t f
   a-built-in e p h = rw (eq-eqb f 0 e, lt-leb 16 t (omega (arith, p, h))) refl
 
-  pub a-row : {w k : ℕ} → f ≡ 0 → w ≡ t → 16 ≤ w → k ≡ getD T (8 * (w - 16) + 0) 0 → eqb k 7 ≡ alternateRef T t f
+  pub a-row : {w k : ℕ} → f ≡ 0 → w ≡ t → 16 ≤ w → k ≡ getD T (row-words * (w - 16) + 0) 0 → eqb k 7 ≡ alternateRef T t f
   a-row {w} {k} e p h q =
-      ap (λ (x : ℕ). eqb x 7) (q ∙ ap (λ (x : ℕ). getD T (8 * (x - 16) + 0) 0) p)
+      ap (λ (x : ℕ). eqb x 7) (q ∙ ap (λ (x : ℕ). getD T (row-words * (x - 16) + 0) 0) p)
       ∙ sym (ap (λ (x : Bool). x && leb 16 t && isAlternate T (t - 16)) (eq-eqb f 0 e) ∙ ap (λ (x : Bool). x && isAlternate T (t - 16)) (le-leb 16 t (omega (arith, p, h))))
 
 -- a mark behind blanks

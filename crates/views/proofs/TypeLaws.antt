@@ -8,6 +8,7 @@ use mathlib.Core.List.{List, [], _∷_}
 use lib.Dec.{ltb}
 use lib.ListN.{length, take, drop, getD}
 use borrow.Author.Tests.{lt-ltb, le-ltb, ltb-true, ltb-false, eq-eqb, ne-eqb}
+use Rattle.grammar.specs.Limits.{row-words}
 use Rattle.grammar.specs.Notation.{text}
 use Rattle.rules.specs.Rows.{isStruct, nameOf}
 use Rattle.lines.specs.Text.{Puts}
@@ -45,11 +46,11 @@ Short t = ltb (length (getD builtInNames t [])) 7 ≡ true
 pub built-in-name : (t : ℕ) → t < 16 → Named t
 built-in-name t h = every Named 16 ((((((((((((((((tt, (refl, refl)), (refl, refl)), (refl, refl)), (refl, refl)), (refl, refl)), (refl, refl)), (refl, refl)), (refl, refl)), (refl, refl)), (refl, refl)), (refl, refl)), (refl, refl)), (refl, refl)), (refl, refl)), (refl, refl)), (refl, refl)) t h
 
-pub name-part : (S T : List ℕ) (r : ℕ) {a b c d : ℕ} {n : List ℕ} → a ≡ getD T (8 * r + 1) 0 → b ≡ a → c ≡ getD T (8 * r + 2) 0 → d ≡ c → n ≡ partOf S b (b + d) → n ≡ nameOf S T r
+pub name-part : (S T : List ℕ) (r : ℕ) {a b c d : ℕ} {n : List ℕ} → a ≡ getD T (row-words * r + 1) 0 → b ≡ a → c ≡ getD T (row-words * r + 2) 0 → d ≡ c → n ≡ partOf S b (b + d) → n ≡ nameOf S T r
 unfolding nameOf partOf
 name-part S T r {b = b} {d = d} p q u v e =
     let f : (b + d) - b ≡ d = omega arith in
-    e ∙ ap (λ (k : ℕ). take k (drop b S)) f ∙ ap (λ (k : ℕ). take k (drop b S)) (v ∙ u) ∙ ap (λ (k : ℕ). take (getD T (8 * r + 2) 0) (drop k S)) (q ∙ p)
+    e ∙ ap (λ (k : ℕ). take k (drop b S)) f ∙ ap (λ (k : ℕ). take k (drop b S)) (v ∙ u) ∙ ap (λ (k : ℕ). take (getD T (row-words * r + 2) 0) (drop k S)) (q ∙ p)
 
 pub name-short : (t : ℕ) → t < 16 → length (getD builtInNames t []) < 7
 name-short t h = ltb-true (length (getD builtInNames t [])) 7 (every Short 16 ((((((((((((((((tt, refl), refl), refl), refl), refl), refl), refl), refl), refl), refl), refl), refl), refl), refl), refl), refl) t h)
@@ -77,13 +78,13 @@ module _ (S T : List ℕ) (r : ℕ) {n old new : List ℕ} {at p : ℕ} where
   unfolding rowName
   row-named e h x = puts-as (by-name (isStruct T r) n h ∙ ap (rowText (isStruct T r)) e) x
 
-  pub row-inline : {k : ℕ} → n ≡ nameOf S T r → (length n ≡ 0) → k ≡ getD T (8 * r + 0) 0 → k ≡ 3 → Puts (text "(inline)") at old new p → Puts (rowName S T r) at old new p
+  pub row-inline : {k : ℕ} → n ≡ nameOf S T r → (length n ≡ 0) → k ≡ getD T (row-words * r + 0) 0 → k ≡ 3 → Puts (text "(inline)") at old new p → Puts (rowName S T r) at old new p
   unfolding rowName
-  row-inline e h q s x = puts-as (ap (λ (t : Bool). rowText t []) (sym (eq-eqb (getD T (8 * r + 0) 0) 3 (sym q ∙ s))) ∙ no-name (isStruct T r) n h ∙ ap (rowText (isStruct T r)) e) x
+  row-inline e h q s x = puts-as (ap (λ (t : Bool). rowText t []) (sym (eq-eqb (getD T (row-words * r + 0) 0) 3 (sym q ∙ s))) ∙ no-name (isStruct T r) n h ∙ ap (rowText (isStruct T r)) e) x
 
-  pub row-unknown : {k : ℕ} → n ≡ nameOf S T r → (length n ≡ 0) → k ≡ getD T (8 * r + 0) 0 → (k ≡ 3 → ⊥) → Puts (text "(unknown)") at old new p → Puts (rowName S T r) at old new p
+  pub row-unknown : {k : ℕ} → n ≡ nameOf S T r → (length n ≡ 0) → k ≡ getD T (row-words * r + 0) 0 → (k ≡ 3 → ⊥) → Puts (text "(unknown)") at old new p → Puts (rowName S T r) at old new p
   unfolding rowName
-  row-unknown e h q s x = puts-as (ap (λ (t : Bool). rowText t []) (sym (ne-eqb (getD T (8 * r + 0) 0) 3 (λ y. s (q ∙ y)))) ∙ no-name (isStruct T r) n h ∙ ap (rowText (isStruct T r)) e) x
+  row-unknown e h q s x = puts-as (ap (λ (t : Bool). rowText t []) (sym (ne-eqb (getD T (row-words * r + 0) 0) 3 (λ y. s (q ∙ y)))) ∙ no-name (isStruct T r) n h ∙ ap (rowText (isStruct T r)) e) x
 
 module _ (S T : List ℕ) (t : ℕ) where
   abbrev by-row : Bool → List ℕ

@@ -6,6 +6,7 @@ use native.Mathlib.Omega.{arith}
 use lib.Dec.{eqb}
 use borrow.Author.Needs.{needs}
 use borrow.Author.Tests.{eq-eqb, ne-eqb}
+use Rattle.grammar.specs.Limits.{row-words}
 use Rattle.rules.specs.Rows.{kind}
 use Rattle.rules.specs.Sound.{childrenFit}
 use Rattle.rows.proofs.Walks.{so, upTo, upTo-hit, upTo-on, upTo-end}
@@ -27,7 +28,7 @@ wide-requires : tie.Need-wide-requires Inv-loop μ-loop
 wide-requires c κs = search needs
 
 add-k : tie.Need-add-k Inv-loop μ-loop
-add-k c = omega (arith, c .before .before .shared-slice-known .given (8 * c .before .before .before .args .r + 0))
+add-k c = omega (arith, c .before .before .shared-slice-known .given (row-words * c .before .before .before .args .r + 0))
 
 first-child-requires : tie.Need-first-child-requires Inv-loop μ-loop
 first-child-requires c κs = search needs

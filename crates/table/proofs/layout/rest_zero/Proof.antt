@@ -6,6 +6,7 @@ use lib.Dec.{eqb}
 use lib.ListN.{getD}
 use borrow.Author.Needs.{needs}
 use borrow.Author.Tests.{eq-eqb, ne-eqb}
+use Rattle.grammar.specs.Limits.{row-words}
 use Rattle.rules.specs.Sound.{restZero}
 use Rattle.rows.proofs.Walks.{so, upTo, upTo-hit, upTo-on, upTo-end}
 use Rattle.table.proofs.LayoutFacts.{rest-upTo}
@@ -13,10 +14,10 @@ use Rattle.table.proofs.layout.rest_zero.Statement.{statement}
 use Rattle.table.proofs.layout.rest_zero.Tie as tie
 
 abbrev Inv-loop : tie.InvT-loop
-Inv-loop rows r i₀ i = restZero rows r ≡ upTo (λ j. eqb (getD rows (8 * r + j) 0) 0) i 8
+Inv-loop rows r i₀ i = restZero rows r ≡ upTo (λ j. eqb (getD rows (row-words * r + j) 0) 0) i row-words
 
 abbrev μ-loop : tie.MeasureT-loop
-μ-loop rows r i₀ i = 8 - i
+μ-loop rows r i₀ i = row-words - i
 
 word-requires : tie.Need-word-requires Inv-loop μ-loop
 word-requires c κs = search needs
