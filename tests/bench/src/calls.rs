@@ -9,7 +9,7 @@ use windosprio::calls;
 use crate::inputs::Inputs;
 use crate::line::{measured, Line, Task};
 
-const ROWS: usize = 1_024 * 8;
+pub const ROWS: usize = 1_024 * 8;
 const RECORDS: usize = 4_096 * 4;
 /// How often each batch of schemas, and of messages, is run in each way.
 const SCHEMA_REPETITIONS: usize = 100;
@@ -45,18 +45,7 @@ fn accepted((number, count): (u32, usize)) -> usize {
 /// The table is judged with each message by both; judging it is timed apart in the same run, and taken off.
 fn message_lines(schema: &Schema, messages: &[Vec<u8>]) -> Vec<Line> {
     let Schema { bytes, words, .. } = schema;
-    let (mut records, mut rust_records) = (vec![0; RECORDS], vec![0; RECORDS]);
-    let check = Task {
-        what: "check a message of 200 to 4,000 bytes",
-        product: Box::new(|message: &Vec<u8>| {
-            let (number, _, count) = calls::check(words, bytes, message, &mut records);
-            accepted((number, count))
-        }),
-        rust: Box::new(|message: &Vec<u8>| {
-            let (number, _, count) = check_into(words, bytes, message, &mut rust_records);
-            accepted((number, count as usize))
-        }),
-    };
+    let check = check_task("check a message of 200 to 4,000 bytes", bytes, words);
     let judge = Task {
         what: "- judging its table of about 1,000 rows alone",
         product: Box::new(|_: &Vec<u8>| usize::from(calls::is_sound(bytes, words))),
@@ -64,4 +53,20 @@ fn message_lines(schema: &Schema, messages: &[Vec<u8>]) -> Vec<Line> {
     };
     let [check, judge] = measured(messages, Vec::len, MESSAGE_REPETITIONS, [check, judge]);
     vec![check, judge, check.without("- the rest, by subtraction", judge)]
+}
+
+/// Checks messages against a schema's table.
+pub fn check_task<'a>(what: &'static str, schema: &'a [u8], table: &'a [u32]) -> Task<'a, Vec<u8>> {
+    let (mut records, mut rust_records) = (vec![0; RECORDS], vec![0; RECORDS]);
+    Task {
+        what,
+        product: Box::new(move |message: &Vec<u8>| {
+            let (number, _, count) = calls::check(table, schema, message, &mut records);
+            accepted((number, count))
+        }),
+        rust: Box::new(move |message: &Vec<u8>| {
+            let (number, _, count) = check_into(table, schema, message, &mut rust_records);
+            accepted((number, count as usize))
+        }),
+    }
 }

@@ -9,6 +9,7 @@ mod inputs;
 mod line;
 mod programs;
 mod texts;
+mod wide;
 
 use generate::Random;
 use inputs::Inputs;
@@ -18,9 +19,8 @@ fn main() {
     let mut random = Random::new(1);
     let inputs = Inputs::new(&mut random);
     println!("{}", Line::heading());
-    for line in
-        texts::lines(&mut random, &inputs).into_iter().chain(calls::lines(&inputs)).chain(programs::line(&inputs))
-    {
+    let lines = [texts::lines(&mut random, &inputs), calls::lines(&inputs), wide::lines()].concat();
+    for line in lines.into_iter().chain(programs::line(&inputs)) {
         println!("{line}");
     }
 }
