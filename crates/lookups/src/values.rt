@@ -18,7 +18,7 @@ fn string_kind(kind: u32) -> bool
 }
 
 // Whether the kind is that of a string or a key whose bytes are its code points.
-fn plain_kind(kind: u32) -> bool
+pub fn plain_kind(kind: u32) -> bool
     ensures { λ r. ⌜ r ≡ plainKind kind ⌝ }
 {
     match kind {

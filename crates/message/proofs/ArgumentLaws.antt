@@ -13,6 +13,7 @@ use Rattle.rules.specs.Rows.{arguments}
 use Rattle.rules.specs.Envelope.{mayUse}
 use Rattle.rules.specs.Readings.{Typed}
 use Rattle.rules.specs.ReadingOf.{argumentsReading}
+use Rattle.children.specs.Index.{Filled}
 use Rattle.readings.specs.Records.{putAll, ReadTold, ReadsArgumentsAt}
 use Rattle.readings.specs.declared.readings.Count.{Count}
 use Rattle.readings.specs.declared.readings.Count.the-variants.{Records, Nothing}
@@ -27,9 +28,9 @@ module _ {S T m w : List ℕ} {k c : ℕ} {oob : Bool} (f : CallsRow S T m w k c
   pub not-allowed : {old : List ℕ} → mayUse T c oob ≡ false → Judged S T m 7 old old (Refused M.NotOutOfBand)
   not-allowed e = in-band-only S T m (f .is) (f .row) (used e) refl
 
-  module _ {old new : List ℕ} {r : Count} (e : mayUse T c oob ≡ true) (g : ReadsArgumentsAt S T m w old new k c r) where
+  module _ {ix old new : List ℕ} {r : Count} (e : mayUse T c oob ≡ true) (i : Filled S T ix) (g : ReadsArgumentsAt S T m w ix old new k c r) where
     told : ReadTold old new 0 (argumentsReading S T (arguments T c) (f .says .arguments)) r
-    told = g .told (f .says .arguments) (f .levels) (f .sound-table) (f .holds) (f .few)
+    told = g .told (f .says .arguments) (f .levels) (record { sound-table = f .sound-table; filled = i }) (f .holds) (f .once) (f .few)
 
     pub unread : r ≡ Nothing → Judged S T m 7 old new (Refused M.NoReading)
     unread p = go (argumentsReading S T (arguments T c) (f .says .arguments)) refl told

@@ -8,21 +8,23 @@ use mathlib.Core.List.{List, [], _∷_}
 use mathlib.Core.Option.{Option, none, some}
 use lib.Dec.{eqb}
 use lib.ListN.{length, getD}
-use Rattle.grammar.specs.Limits.{message-bytes, message-levels, record-words}
-use Rattle.grammar.specs.Tree.{Scalar, Json}
+use Rattle.grammar.specs.Limits.{message-levels, record-words}
+use Rattle.grammar.specs.Notation.{text, same, all, apart}
+use Rattle.grammar.specs.Tree.{Scalar, Json, Fields}
 use Rattle.grammar.specs.Tree.Scalar.{null, bool, num, str}
 use Rattle.grammar.specs.Tree.Json.{leaf, arr, obj}
 use Rattle.grammar.specs.Tree.Items.{no-items, item}
-use Rattle.grammar.specs.Tree.Fields.{no-fields}
-use Rattle.grammar.specs.Keys.{keysOnce}
+use Rattle.grammar.specs.Tree.Fields.{no-fields, field}
+use Rattle.grammar.specs.Keys.{keysOf, keysOnce, keysOnceF}
 use Rattle.grammar.specs.Machine.Out.{whole, fault, deep}
 use Rattle.grammar.specs.Machine.Message.{message, readMessage}
 use Rattle.grammar.proofs.Texts.{message-complete, message-broken, message-too-deep}
 use Rattle.rules.specs.Sound.{sound}
 use Rattle.rules.specs.Rows.{rowCount}
-use Rattle.rules.specs.Envelope.{Envelope, envelope}
+use Rattle.rules.specs.Values.{_>>=_, asFields, asString, valueAt, anyOf}
+use Rattle.rules.specs.Envelope.{Envelope, asArguments, asName, envelope}
 use Rattle.rules.specs.Answers.{commandFrom, commandOf}
-use Rattle.rules.proofs.Lists.{clash}
+use Rattle.rules.proofs.Lists.{none-not-some, and-left, and-right}
 use Rattle.strings.specs.Strings.{plainString}
 use Rattle.tokens.specs.Tokens.{scalarNode}
 use Rattle.text.specs.Nodes.{node, next, Holds}
@@ -37,8 +39,56 @@ use Rattle.message.specs.declared.envelope.Envelope as E
 use Rattle.message.specs.declared.envelope.Envelope.the-variants.{Call, Improper}
 use Rattle.message.specs.Commands.{asCommand, FindsCommand}
 use Rattle.message.specs.Envelopes.{SaidAt, EnvelopeTold, ReadsEnvelope}
-use Rattle.message.specs.Stages.{said, TextRead, SaysCall, FoundRow, CallsRow}
+use Rattle.message.specs.Stages.{said, NodesFit, TextRead, SaysCall, FoundRow, CallsRow}
 use Rattle.message.proofs.StageLaws.{said-is}
+
+-- a value under a key, and so the arguments of an envelope, repeats no key where the whole doesn't
+value-once : (k : List ℕ) (fs : Fields) {j : Json} → keysOnceF fs ≡ true → valueAt k fs ≡ some j → keysOnce j ≡ true
+value-once k no-fields h e = absurd (none-not-some e)
+value-once k (field a b key i fs) {j} h e = go (same key k) e (value-once k fs (and-right (keysOnce i) (keysOnceF fs) h))
+  where
+    go : (t : Bool) → cond t (some i) (valueAt k fs) ≡ some j → (valueAt k fs ≡ some j → keysOnce j ≡ true) → keysOnce j ≡ true
+    go true p f = let q : i ≡ j = cc in subst (λ (x : Json). keysOnce x ≡ true) q (and-left (keysOnce i) (keysOnceF fs) h)
+    go false p f = f p
+
+found-some : {A B : Type 0} (o : Option A) {f : A → Option B} {b : B} → (o >>= f) ≡ some b → (a : A) × (o ≡ some a) × (f a ≡ some b)
+found-some none e = absurd (none-not-some e)
+found-some (some a) e = (a, refl, e)
+
+arguments-once : (j : Json) {v : Envelope} → keysOnce j ≡ true → envelope j ≡ some v → keysOnce (v .arguments) ≡ true
+unfolding envelope
+arguments-once j {v} h e = go j h e
+  where
+    proper : (fs : Fields) (o : Option Json) {a : Json} → keysOnceF fs ≡ true → valueAt (text "arguments") fs ≡ o → asArguments o ≡ some a → keysOnce a ≡ true
+    proper fs none {a} h p q = let z : obj 0 0 no-fields ≡ a = cc in subst (λ (x : Json). keysOnce x ≡ true) z refl
+    proper fs (some i) {a} h p q =
+        let z : i ≡ a = let f = found-some (asFields i) q in let y : i ≡ a = cc in y in
+        subst (λ (x : Json). keysOnce x ≡ true) z (value-once (text "arguments") fs h p)
+
+    named : (fs : Fields) (x y : Option Json) → keysOnceF fs ≡ true → asName x y (valueAt (text "arguments") fs) ≡ some v → keysOnce (v .arguments) ≡ true
+    named fs none none h e = absurd (none-not-some e)
+    named fs (some i) none h e =
+        let n = found-some (asString i) e in
+        let a = found-some (asArguments (valueAt (text "arguments") fs)) (n .2) in
+        let z : a .0 ≡ v .arguments = cc in
+        subst (λ (x : Json). keysOnce x ≡ true) z (proper fs (valueAt (text "arguments") fs) h refl (a .1))
+    named fs none (some i) h e =
+        let n = found-some (asString i) e in
+        let a = found-some (asArguments (valueAt (text "arguments") fs)) (n .2) in
+        let z : a .0 ≡ v .arguments = cc in
+        subst (λ (x : Json). keysOnce x ≡ true) z (proper fs (valueAt (text "arguments") fs) h refl (a .1))
+    named fs (some i) (some k) h e = absurd (none-not-some e)
+
+    only : (fs : Fields) (t : Bool) → keysOnceF fs ≡ true
+        → cond t (asName (valueAt (text "execute") fs) (valueAt (text "exec-oob") fs) (valueAt (text "arguments") fs)) none ≡ some v → keysOnce (v .arguments) ≡ true
+    only fs true h e = named fs (valueAt (text "execute") fs) (valueAt (text "exec-oob") fs) h e
+    only fs false h e = absurd (none-not-some e)
+
+    go : (j : Json) → keysOnce j ≡ true → envelope j ≡ some v → keysOnce (v .arguments) ≡ true
+    go (leaf a b x) h e = absurd (none-not-some e)
+    go (arr a b js) h e = absurd (none-not-some e)
+    go (obj a b fs) h e =
+        only fs (all (anyOf (text "execute" ∷ text "exec-oob" ∷ text "arguments" ∷ text "id" ∷ [])) (keysOf fs)) (and-right (apart same (keysOf fs)) (keysOnceF fs) h) e
 
 -- a node that holds a value is there
 scalar-some : (s : List ℕ) (a e : ℕ) (v : Scalar) → 0 < scalarNode s a e v
@@ -70,6 +120,10 @@ node-there m w j l k h = omega (arith, there w (4 * k + 0) (kind-some m w j l k 
 no-arguments : (m : List ℕ) → Holds message m (9 ∷ 0 ∷ 0 ∷ 1 ∷ []) (obj 0 0 no-fields) 1 0
 no-arguments m = (record { has-kind = refl; has-start = refl; has-end = refl }, omega arith, omega arith, refl)
 
+-- words for twice as many nodes as a message of so many bytes can have
+pub nodes-fit : (n : ℕ) {m w : List ℕ} → length w ≡ 4 * n → length m ≤ 2 * n → 4 * n < 2 ^ 32 → NodesFit m w
+nodes-fit n e h k = record { enough = omega arith; whole-nodes = omega arith; short = omega arith; small = omega arith }
+
 -- texts that are none
 pub faulty : {m v w : List ℕ} {x : Text} {e : ℕ} → ReadsMessage m v w x → x ≡ Texts.Fault e → readMessage m ≡ fault e
 faulty {m} {w = w} r p = message-broken (subst (λ (y : Text). MessageTold m w y) p (r .told))
@@ -77,8 +131,8 @@ faulty {m} {w = w} r p = message-broken (subst (λ (y : Text). MessageTold m w y
 pub deeper : {m v w : List ℕ} {x : Text} {e : ℕ} → ReadsMessage m v w x → x ≡ Texts.Deep e → readMessage m ≡ deep e
 deeper {m} {w = w} r p = message-too-deep (subst (λ (y : Text). MessageTold m w y) p (r .told))
 
-pub never : {m v w : List ℕ} {x : Text} → ReadsMessage m v w x → x ≡ Texts.TooLong → length m ≤ message-bytes → ⊥
-never {m} {w = w} r p h = let z : 2 ^ 31 ≤ length m = subst (λ (y : Text). MessageTold m w y) p (r .told) in omega arith
+pub never : {m v w : List ℕ} {x : Text} → ReadsMessage m v w x → x ≡ Texts.TooLong → NodesFit m v → ⊥
+never {m} {w = w} r p h = let z : 2 ^ 31 ≤ length m = subst (λ (y : Text). MessageTold m w y) p (r .told) in omega (arith, h .short)
 
 module _ {S T m w : List ℕ} where
   pub row-absent : {k c : ℕ} {oob : Bool} → FoundRow S T m w k c oob → k ≡ 0 → CallsRow S T m (9 ∷ 0 ∷ 0 ∷ 1 ∷ []) 0 c oob
@@ -89,6 +143,7 @@ module _ {S T m w : List ℕ} where
         levels = 1;
         few = omega arith;
         is = f .is;
+        once = f .once;
         row = f .row;
         band = f .band;
         small = omega arith;
@@ -106,6 +161,7 @@ module _ {S T m w : List ℕ} where
         levels = f .levels;
         few = omega (arith, f .few);
         is = f .is;
+        once = f .once;
         row = f .row;
         band = f .band;
         small = omega (arith, node-there m w (f .says .arguments) (f .levels) k h, f .small);
@@ -143,6 +199,7 @@ module _ {S T m w : List ℕ} where
             levels = s .levels;
             few = s .few;
             is = s .is;
+            once = s .once;
             row = p ∙ ap some y;
             band = bands;
             at = subst (λ (i : ℕ). ((i ≡ 0) × (s .says .arguments ≡ obj 0 0 no-fields)) ⊎ ((0 < i) × Holds message m w (s .says .arguments) (s .levels) i)) args (s .at .arguments-hold);
@@ -171,17 +228,17 @@ module _ {S T m w : List ℕ} where
       go (some d) p = absurd (let z : Unknown ≡ Row d = sym e ∙ found ∙ ap asCommand p in let y : _≡_ {A = ℕ} 0 1 = cc in omega arith)
 
   -- the text
-  pub text-read : {v : List ℕ} {x : Text} {n : ℕ} → sound S T ≡ true → ReadsMessage m v w x → x ≡ Texts.Whole n → length m ≤ message-bytes → length w ≡ 2 * message-bytes → TextRead S T m w n
-  text-read {x = x} {n} q r e h k =
+  pub text-read : {v : List ℕ} {x : Text} {n : ℕ} → sound S T ≡ true → ReadsMessage m v w x → x ≡ Texts.Whole n → NodesFit m v → TextRead S T m w n
+  text-read {x = x} {n} q r e h =
       let t : MessageTold m w (Texts.Whole n) = subst (λ (y : Text). MessageTold m w y) e (r .told) in
-      let f : 4 * n ≤ length w = omega (arith, t .few) in
+      let f : 4 * n ≤ length w = omega (arith, t .few, r .same-length, h .enough, h .whole-nodes) in
       record {
         sound-table = q;
         value = t .tree;
         text = message-complete (t .text);
         holds = t .holds f;
         ends = t .ends f;
-        small = omega arith;
+        small = omega (arith, r .same-length, h .small);
       }
 
   module _ {count : ℕ} (t : TextRead S T m w count) where
@@ -204,8 +261,8 @@ module _ {S T m w : List ℕ} where
         go (some v) p h =
             absurd (let z : Improper ≡ Call (h .name) (v .outOfBand) (h .arguments) = sym e ∙ h .is in let y : _≡_ {A = ℕ} 0 1 = cc in omega arith)
 
-    pub says-call : {r : E.Envelope} {name arguments : ℕ} {oob : Bool} → ReadsEnvelope m w r → r ≡ Call name oob arguments → SaysCall S T m w name oob arguments
-    says-call {r} {name} {arguments} {oob} f e = go (envelope (t .value)) refl (f .told (t .value) message-levels (t .holds))
+    pub says-call : {r : E.Envelope} {name arguments : ℕ} {oob : Bool} → keysOnce (t .value) ≡ true → ReadsEnvelope m w r → r ≡ Call name oob arguments → SaysCall S T m w name oob arguments
+    says-call {r} {name} {arguments} {oob} once f e = go (envelope (t .value)) refl (f .told (t .value) message-levels (t .holds))
       where
         go : (o : Option Envelope) → envelope (t .value) ≡ o → EnvelopeTold m w (message-levels - 1) o r → SaysCall S T m w name oob arguments
         go none p h = absurd (let z : Call name oob arguments ≡ Improper = sym e ∙ h in let y : _≡_ {A = ℕ} 0 1 = cc in omega arith)
@@ -216,6 +273,7 @@ module _ {S T m w : List ℕ} where
               levels = message-levels - 1;
               few = omega arith;
               is = said-is S T m (t .text) ∙ p;
+              once = arguments-once (t .value) once p;
               at = subst (λ (x : E.Envelope). SaidAt m w (message-levels - 1) v x) e h;
               small = t .small;
             }

@@ -1,5 +1,5 @@
 -- Serves contracts: the outcome of a message from one of the paper's numbers on, where no lower one applies.
-use Prim.Native.Nat.{ℕ, _*_, _^_, _≤_, _<_}
+use Prim.Native.Nat.{ℕ, _*_, _^_, _%_, _≤_, _<_}
 use mathlib.Core.Path.{_≡_}
 use mathlib.Core.Bool.{Bool, true}
 use mathlib.Core.Logic.{_⊎_}
@@ -11,6 +11,7 @@ use Rattle.grammar.specs.Tree.{Json}
 use Rattle.grammar.specs.Tree.Json.{obj}
 use Rattle.grammar.specs.Tree.Items.{no-items, item}
 use Rattle.grammar.specs.Tree.Fields.{no-fields}
+use Rattle.grammar.specs.Keys.{keysOnce}
 use Rattle.grammar.specs.Machine.Out.{whole}
 use Rattle.grammar.specs.Machine.Message.{message, readMessage}
 use Rattle.rules.specs.declared.MessageRefusal.{MessageRefusal}
@@ -62,6 +63,17 @@ module _ (S T m : List ℕ) where
   pub record Answered (old new : List ℕ) (r : MessageAnswer) : Type 0 where
     pub told : messageResult S T m (length old) ≡ record { answer = r; words = new }
 
+-- the most bytes of a short message
+abbrev pub short-message : ℕ
+short-message = 4096
+
+-- the nodes of any message text as long as m fit the words w, four a node
+pub record NodesFit (m w : List ℕ) : Type 0 where
+  pub enough : 2 * length m ≤ length w
+  pub whole-nodes : length w % 4 ≡ 0
+  pub short : length m < 2 ^ 31
+  pub small : length w < 2 ^ 32
+
 -- What has been found before a stage: a sound table; and the message's value in the nodes
 pub record TextRead (S T m w : List ℕ) (count : ℕ) : Type 0 where
   pub sound-table : sound S T ≡ true
@@ -71,13 +83,14 @@ pub record TextRead (S T m w : List ℕ) (count : ℕ) : Type 0 where
   pub ends : next w 0 ≡ count
   pub small : length w < 2 ^ 32
 
--- its envelope, by the nodes of the name and of the arguments
+-- its envelope, by the nodes of the name and of the arguments, which repeat no key
 pub record SaysCall (S T m w : List ℕ) (name : ℕ) (oob : Bool) (arguments : ℕ) : Type 0 where
   pub sound-table : sound S T ≡ true
   pub says : Envelope
   pub levels : ℕ
   pub few : levels < message-levels
   pub is : said m ≡ some says
+  pub once : keysOnce (says .arguments) ≡ true
   pub at : SaidAt m w levels says (Call name oob arguments)
   pub small : length w < 2 ^ 32
 
@@ -88,6 +101,7 @@ pub record FoundRow (S T m w : List ℕ) (arguments c : ℕ) (oob : Bool) : Type
   pub levels : ℕ
   pub few : levels < message-levels
   pub is : said m ≡ some says
+  pub once : keysOnce (says .arguments) ≡ true
   pub row : commandOf S T says ≡ some c
   pub band : oob ≡ says .outOfBand
   pub at : ((arguments ≡ 0) × (says .arguments ≡ obj 0 0 no-fields)) ⊎ ((0 < arguments) × Holds message m w (says .arguments) levels arguments)
@@ -100,6 +114,7 @@ pub record CallsRow (S T m w : List ℕ) (k c : ℕ) (oob : Bool) : Type 0 where
   pub levels : ℕ
   pub few : levels ≤ message-levels
   pub is : said m ≡ some says
+  pub once : keysOnce (says .arguments) ≡ true
   pub row : commandOf S T says ≡ some c
   pub band : oob ≡ says .outOfBand
   pub small : k < 2 ^ 32

@@ -3,6 +3,8 @@ use crate::commands::Command;
 use crate::commands::find_command;
 use crate::envelope::Envelope;
 use crate::envelope::read_envelope;
+use children::index::INDEX_WORDS;
+use children::index::fill_index;
 use readings::readings::Count;
 use readings::readings::read_arguments;
 use rows::rows::word;
@@ -22,10 +24,15 @@ ghost use lib.ListN.{length};
 ghost use Rattle.grammar.specs.Limits.{message-bytes};
 ghost use Rattle.rules.specs.Envelope.{mayUse};
 ghost use Rattle.rules.specs.Sound.{sound};
-ghost use Rattle.message.specs.Stages.{TextRead, SaysCall, FoundRow, CallsRow, Judged, Answered};
+ghost use Rattle.message.specs.Stages.{short-message, NodesFit, TextRead, SaysCall, FoundRow, CallsRow, Judged, Answered};
 
 // Words for the nodes of the longest message.
 const NODE_WORDS: usize = 2 * MESSAGE_BYTES;
+
+// A message of up to so many bytes has its nodes in fewer words, which are sooner cleared.
+const SHORT_MESSAGE: usize = 4096;
+
+const SHORT_WORDS: usize = 2 * SHORT_MESSAGE;
 
 // Whether a message may use the command at row c.
 fn may_use(rows: &[u32], c: usize, oob: bool) -> bool
@@ -54,7 +61,9 @@ fn with_command(
     if !may_use(rows, c, oob) {
         return MessageAnswer::Refused(MessageRefusal::NotOutOfBand);
     }
-    match read_arguments(schema, rows, m, nodes, k, c, records) {
+    let mut index = [0u32; INDEX_WORDS];
+    fill_index(schema, rows, &mut index);
+    match read_arguments(schema, rows, m, nodes, &index, k, c, records) {
         Count::Nothing => MessageAnswer::Refused(MessageRefusal::NoReading),
         Count::Records(n) => {
             if records.len() / RECORD_WORDS < n {
@@ -136,18 +145,41 @@ fn with_nodes(
     }
 }
 
-// Numbers 23 and 24. The nodes of a message within the limit fit.
-fn with_text(schema: &[u8], rows: &[u32], m: &[u8], records: &mut [u32]) -> MessageAnswer
-    requires { ⌜ (sound (now schema) (now rows) ≡ true) × (length (now m) ≤ message-bytes) ⌝ }
+// Numbers 23 and 24, with words that the nodes of the message fit.
+fn with_words(
+    schema: &[u8],
+    rows: &[u32],
+    m: &[u8],
+    nodes: &mut [u32],
+    records: &mut [u32],
+) -> MessageAnswer
+    requires { ⌜ (sound (now schema) (now rows) ≡ true) × NodesFit (now m) (now nodes) ⌝ }
     ensures { λ r. ⌜ Judged (now (schema .entry)) (now (rows .entry)) (now (m .entry)) 2 (now (records .entry)) (now (records .exit)) r ⌝ }
 {
-    let mut nodes = [0u32; NODE_WORDS];
-    match read_message(m, &mut nodes) {
-        Text::Whole(count) => with_nodes(schema, rows, m, &nodes, count, records),
+    match read_message(m, nodes) {
+        Text::Whole(count) => with_nodes(schema, rows, m, nodes, count, records),
         Text::Fault(_e) => MessageAnswer::Refused(MessageRefusal::NotText),
         Text::Deep(_e) => MessageAnswer::Refused(MessageRefusal::TooDeep),
         Text::TooLong => MessageAnswer::Refused(MessageRefusal::NotText),
     }
+}
+
+// The same of a short message, whose nodes fit fewer words.
+fn with_short_text(schema: &[u8], rows: &[u32], m: &[u8], records: &mut [u32]) -> MessageAnswer
+    requires { ⌜ (sound (now schema) (now rows) ≡ true) × (length (now m) ≤ short-message) ⌝ }
+    ensures { λ r. ⌜ Judged (now (schema .entry)) (now (rows .entry)) (now (m .entry)) 2 (now (records .entry)) (now (records .exit)) r ⌝ }
+{
+    let mut nodes = [0u32; SHORT_WORDS];
+    with_words(schema, rows, m, &mut nodes, records)
+}
+
+// The same of a longer message.
+fn with_long_text(schema: &[u8], rows: &[u32], m: &[u8], records: &mut [u32]) -> MessageAnswer
+    requires { ⌜ (sound (now schema) (now rows) ≡ true) × (length (now m) ≤ message-bytes) ⌝ }
+    ensures { λ r. ⌜ Judged (now (schema .entry)) (now (rows .entry)) (now (m .entry)) 2 (now (records .entry)) (now (records .exit)) r ⌝ }
+{
+    let mut nodes = [0u32; NODE_WORDS];
+    with_words(schema, rows, m, &mut nodes, records)
 }
 
 // All numbers, from 21 and 22 on.
@@ -160,7 +192,10 @@ fn judge(schema: &[u8], rows: &[u32], m: &[u8], records: &mut [u32]) -> MessageA
     if MESSAGE_BYTES < m.len() {
         return MessageAnswer::Refused(MessageRefusal::TooLong);
     }
-    with_text(schema, rows, m, records)
+    if m.len() <= SHORT_MESSAGE {
+        return with_short_text(schema, rows, m, records);
+    }
+    with_long_text(schema, rows, m, records)
 }
 
 // Reads a message against a table and its schema: the command's row and the records of its arguments, or why it is refused.

@@ -76,27 +76,27 @@ by-link S T c link t p n e j =
     let y : first-row + (link - 1) ≡ t = omega arith in
     ap (λ (x : ℕ). argumentsReading S T x j) (sym p ∙ s) ∙ ap (λ (x : ℕ). readingOf S T j x 0) y
 
-module _ (S T m w : List ℕ) {c link : ℕ} (p : link ≡ arguments T c) {k : ℕ} where
+module _ (S T m w : List ℕ) {ix : List ℕ} {c link : ℕ} (p : link ≡ arguments T c) {k : ℕ} where
   -- a command without data
   module _ (z : link ≡ 0) {b : Bool} (g : IsEmpty w k b) where
-    pub arguments-none : b ≡ false → (old : List ℕ) → ReadsArgumentsAt S T m w old old k c Nothing
+    pub arguments-none : b ≡ false → (old : List ℕ) → ReadsArgumentsAt S T m w ix old old k c Nothing
     arguments-none e old = record {
-      told = λ j l o h q. told-nothing old old 0 (argumentsReading S T (arguments T c) j) refl (rw (← p, z, ← g .told m j l h, e));
+      told = λ j l o h once q. told-nothing old old 0 (argumentsReading S T (arguments T c) j) refl (rw (← p, z, ← g .told m j l h, e));
     }
 
-    pub arguments-empty : b ≡ true → {old new : List ℕ} → new ≡ putRecord old 0 (node w k 1 ∷ node w k 2 ∷ 0 ∷ 0 ∷ []) → ReadsArgumentsAt S T m w old new k c (Records 1)
+    pub arguments-empty : b ≡ true → {old new : List ℕ} → new ≡ putRecord old 0 (node w k 1 ∷ node w k 2 ∷ 0 ∷ 0 ∷ []) → ReadsArgumentsAt S T m w ix old new k c (Records 1)
     unfolding putAll
     arguments-empty e {old} {new} r = record {
-      told = λ j l o h q. rw (← p, z, ← g .told m j l h, e) (r ∙ node-record m w old j l k 0 0 0 h, refl);
+      told = λ j l o h once q. rw (← p, z, ← g .told m j l h, e) (r ∙ node-record m w old j l k 0 0 0 h, refl);
     }
 
   -- one with data
   module _ (n : link ≡ 0 → ⊥) where
-    pub arguments-past : {y : ℕ} → y ≡ link → table-rows < y → (old : List ℕ) → ReadsArgumentsAt S T m w old old k c Nothing
+    pub arguments-past : {y : ℕ} → y ≡ link → table-rows < y → (old : List ℕ) → ReadsArgumentsAt S T m w ix old old k c Nothing
     arguments-past q u old = record {
-      told = λ j l o h x. told-nothing old old 0 (argumentsReading S T (arguments T c) j) refl
-          (by-link S T c link (link + 15) p n refl j ∙ read-nothing S T (link + 15) (omega arith) (no-row S T o (link + 15 - 16) (omega arith)) j);
+      told = λ j l o h once x. told-nothing old old 0 (argumentsReading S T (arguments T c) j) refl
+          (by-link S T c link (link + 15) p n refl j ∙ read-nothing S T (link + 15) (omega arith) (no-row S T (o .sound-table) (link + 15 - 16) (omega arith)) j);
     }
 
-    pub arguments-value : {t : ℕ} {old new : List ℕ} {r : Count} → ReadsValue S T m w old new k t 0 32 0 r → t ≡ link + 15 → ReadsArgumentsAt S T m w old new k c r
-    arguments-value {t} d e = record { told = λ j l o h q. rw (by-link S T c link t p n e j) (d .reads .told j l o h q) }
+    pub arguments-value : {t : ℕ} {old new : List ℕ} {r : Count} → ReadsValue S T m w ix old new k t 0 32 0 r → t ≡ link + 15 → ReadsArgumentsAt S T m w ix old new k c r
+    arguments-value {t} d e = record { told = λ j l o h once q. rw (by-link S T c link t p n e j) (d .reads .told j l o h once q) }

@@ -1,9 +1,5 @@
--- Laws that the functions cite: built-ins, members, what is mandatory, objects, types and shapes.
+-- Laws that the functions cite: built-ins, types and shapes.
 pub mod BuiltInLaws
-pub mod MemberLaws
-pub mod MandatoryLaws
-pub mod SoundMembers
-pub mod ObjectLaws
 pub mod TypeLaws
 pub mod ShapeLaws
 -- The records of a reading, and the readers that call each other.

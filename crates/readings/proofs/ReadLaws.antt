@@ -9,11 +9,14 @@ use native.Mathlib.Omega.{arith}
 use lib.ListN.{length}
 use Rattle.grammar.specs.Tree.{Json}
 use Rattle.grammar.specs.Tree.Json.{arr, obj}
+use Rattle.grammar.specs.Notation.{same, apart}
+use Rattle.grammar.specs.Keys.{keysOf, keysOnce, keysOnceF}
 use Rattle.grammar.specs.Machine.Message.{message}
-use Rattle.rules.specs.Sound.{sound}
+use Rattle.rules.proofs.Lists.{and-right}
 use Rattle.rules.specs.Readings.{Typed, typed}
 use Rattle.rules.specs.ReadingOf as Reading
 use Rattle.rules.specs.ReadingOf.{under, target, ended, plainReading, itemsReading, fieldsReading, readingOf}
+use Rattle.children.specs.Index.{Given}
 use Rattle.text.specs.Nodes.{node, next, Holds, HoldsItems, HoldsFields}
 use Rattle.readings.specs.Parts.{viaAs, TypeFor, AsElements, AsMembers, ShapeTold, ShapeAt}
 use Rattle.readings.specs.Records.{putRecord, ReadTold}
@@ -31,32 +34,32 @@ module _ (S T m w : List ℕ) {k t f : ℕ} {x : Via} (g : TypeFor T w k t f x) 
   reading-by : (v : Reading.Via) → viaAs x ≡ v → (j : Json) (l : ℕ) → Holds message m w j l k → readingOf S T j t f ≡ ended v (typed j t f) (plainReading S T j (target v t) f)
   reading-by v e j l h = ap (λ (y : Reading.Via). ended y (typed j t f) (plainReading S T j (target y t) f)) (sym (g .told S m j l h) ∙ e)
 
-  pub value-missing : x ≡ Missing → (old : List ℕ) {left n : ℕ} → ReadsValue S T m w old old k t f left n Nothing
+  pub value-missing : x ≡ Missing → {ix : List ℕ} (old : List ℕ) {left n : ℕ} → ReadsValue S T m w ix old old k t f left n Nothing
   value-missing e old {left} {n} = record {
     within = tt;
-    reads = record { told = λ j l o h q. told-nothing old old n (readingOf S T j t f) refl (reading-by Reading.Via.missing (ap viaAs e) j l h) };
+    reads = record { told = λ j l o h once q. told-nothing old old n (readingOf S T j t f) refl (reading-by Reading.Via.missing (ap viaAs e) j l h) };
   }
 
-  pub value-direct : x ≡ Direct → {old new : List ℕ} {left n : ℕ} {r : Count} → ReadsPlain S T m w old new k t f left n r → ReadsValue S T m w old new k t f left n r
-  value-direct e {old} {new} {left} {n} {r} d = record {
+  pub value-direct : x ≡ Direct → {ix old new : List ℕ} {left n : ℕ} {r : Count} → ReadsPlain S T m w ix old new k t f left n r → ReadsValue S T m w ix old new k t f left n r
+  value-direct e {old = old} {new} {left} {n} {r} d = record {
     within = d .within;
-    reads = record { told = λ j l o h q. rw (reading-by Reading.Via.direct (ap viaAs e) j l h) (d .told j l o h q) };
+    reads = record { told = λ j l o h once q. rw (reading-by Reading.Via.direct (ap viaAs e) j l h) (d .told j l o h once q) };
   }
 
-  pub value-alternative : {u : ℕ} → x ≡ Alternative u → {old mid new : List ℕ} {left n : ℕ} {r : Count} → mid ≡ putRecord old n (node w k 1 ∷ node w k 2 ∷ t ∷ f ∷ [])
-      → ReadsPlain S T m w mid new k u f left (n + 1) r → ReadsValue S T m w old new k t f left n r
-  value-alternative {u} e {old} {mid} {new} {left} {n} {r} p d = record {
+  pub value-alternative : {u : ℕ} → x ≡ Alternative u → {ix old mid new : List ℕ} {left n : ℕ} {r : Count} → mid ≡ putRecord old n (node w k 1 ∷ node w k 2 ∷ t ∷ f ∷ [])
+      → ReadsPlain S T m w ix mid new k u f left (n + 1) r → ReadsValue S T m w ix old new k t f left n r
+  value-alternative {u} e {old = old} {mid} {new} {left} {n} {r} p d = record {
     within = d .within;
     reads = record {
-      told = λ j l o h q. rw (reading-by (Reading.Via.alternative u) (ap viaAs e) j l h)
-          (told-under old mid new n (typed j t f) (plainReading S T j u f) r (p ∙ node-record m w old j l k t f n h) (d .told j l o h q));
+      told = λ j l o h once q. rw (reading-by (Reading.Via.alternative u) (ap viaAs e) j l h)
+          (told-under old mid new n (typed j t f) (plainReading S T j u f) r (p ∙ node-record m w old j l k t f n h) (d .told j l o h once q));
     };
   }
 
 -- by which shape: the record is written first
-module _ {S T m w : List ℕ} {k t f : ℕ} {x : Shape} (g : ShapeAt S T m w k t f x) where
-  shape-is : (y : Shape) → x ≡ y → (j : Json) (l : ℕ) → sound S T ≡ true → Holds message m w j l k → ShapeTold S T j t f y
-  shape-is y e j l o h = rw e at (g .told j l o h)
+module _ {S T m w ix : List ℕ} {k t f : ℕ} {x : Shape} (g : ShapeAt S T m w ix k t f x) where
+  shape-is : (y : Shape) → x ≡ y → (j : Json) (l : ℕ) → Given S T ix → Holds message m w j l k → keysOnce j ≡ true → ShapeTold S T j t f y
+  shape-is y e j l o h once = rw e at (g .told j l o h once)
 
   module _ (old mid : List ℕ) (n : ℕ) (p : mid ≡ putRecord old n (node w k 1 ∷ node w k 2 ∷ t ∷ f ∷ [])) where
     kept : length mid ≡ length old
@@ -67,47 +70,51 @@ module _ {S T m w : List ℕ} {k t f : ℕ} {x : Shape} (g : ShapeAt S T m w k t
         → plainReading S T j t f ≡ under (typed j t f) o → ReadTold mid new c o r → ReadTold old new n (plainReading S T j t f) r
     inside new c r o j l z h e d = rw e (told-under old mid new n (typed j t f) o r (p ∙ node-record m w old j l k t f n h) (rw z at d))
 
-    pub plain-misfit : x ≡ Misfit → {left : ℕ} → ReadsPlain S T m w old mid k t f left n Nothing
-    plain-misfit e = record { within = tt; told = λ j l o h q. told-nothing old mid n (plainReading S T j t f) kept (shape-is Misfit e j l o h) }
+    pub plain-misfit : x ≡ Misfit → {left : ℕ} → ReadsPlain S T m w ix old mid k t f left n Nothing
+    plain-misfit e = record { within = tt; told = λ j l o h once q. told-nothing old mid n (plainReading S T j t f) kept (shape-is Misfit e j l o h once) }
 
     module _ {c : ℕ} (z : c ≡ n + 1) where
-      pub plain-alone : x ≡ Alone → n ≤ 2 * k + 1 → {left : ℕ} → ReadsPlain S T m w old mid k t f left n (Records c)
+      pub plain-alone : x ≡ Alone → n ≤ 2 * k + 1 → {left : ℕ} → ReadsPlain S T m w ix old mid k t f left n (Records c)
       plain-alone e u = record {
         within = omega arith;
-        told = λ j l o h q. inside mid c (Records c) (some []) j l z h (shape-is Alone e j l o h) (told-empty mid c);
+        told = λ j l o h once q. inside mid c (Records c) (some []) j l z h (shape-is Alone e j l o h once) (told-empty mid c);
       }
 
-      pub plain-elements : x ≡ Elements → {new : List ℕ} {left : ℕ} {r : Count} → (left ≡ 0 → ⊥) → ReadsItems S T m w mid new k t (left - 1) c r
-          → ReadsPlain S T m w old new k t f left n r
+      pub plain-elements : x ≡ Elements → {new : List ℕ} {left : ℕ} {r : Count} → (left ≡ 0 → ⊥) → ReadsItems S T m w ix mid new k t (left - 1) c r
+          → ReadsPlain S T m w ix old new k t f left n r
       plain-elements e {new} {left} {r} u d = record {
         within = d .within;
-        told = λ j l o h q. go j l o h q (shape-is Elements e j l o h);
+        told = λ j l o h once q. go j l o h once q (shape-is Elements e j l o h once);
       }
         where
-          go : (j : Json) (l : ℕ) → sound S T ≡ true → Holds message m w j l k → l ≤ left → AsElements S T j t f → ReadTold old new n (plainReading S T j t f) r
-          go j l o h q a = inside new c r (itemsReading S T (a .items) t) j l z h (a .reading) (d .reads .told (a .items) (l - 1) o (held (rw (a .is-array) at h)) (omega arith))
+          go : (j : Json) (l : ℕ) → Given S T ix → Holds message m w j l k → keysOnce j ≡ true → l ≤ left → AsElements S T j t f → ReadTold old new n (plainReading S T j t f) r
+          go j l o h once q a = inside new c r (itemsReading S T (a .items) t) j l z h (a .reading)
+              (d .reads .told (a .items) (l - 1) o (held (rw (a .is-array) at h)) (rw (a .is-array) at once) (omega arith))
             where
               held : Holds message m w (arr (a .start) (a .end) (a .items)) l k → HoldsItems message m w (a .items) (l - 1) (suc k) (next w k)
               held y = y .3
 
-      pub plain-members : {b y : ℕ} → x ≡ Members b y → {new : List ℕ} {left : ℕ} {r : Count} → (left ≡ 0 → ⊥) → ReadsFields S T m w mid new k b y (left - 1) c r
-          → ReadsPlain S T m w old new k t f left n r
+      pub plain-members : {b y : ℕ} → x ≡ Members b y → {new : List ℕ} {left : ℕ} {r : Count} → (left ≡ 0 → ⊥) → ReadsFields S T m w ix mid new k b y (left - 1) c r
+          → ReadsPlain S T m w ix old new k t f left n r
       plain-members {b} {y} e {new} {left} {r} u d = record {
         within = d .within;
-        told = λ j l o h q. go j l o h q (shape-is (Members b y) e j l o h);
+        told = λ j l o h once q. go j l o h once q (shape-is (Members b y) e j l o h once);
       }
         where
-          go : (j : Json) (l : ℕ) → sound S T ≡ true → Holds message m w j l k → l ≤ left → AsMembers S T j t f b y → ReadTold old new n (plainReading S T j t f) r
-          go j l o h q a =
+          go : (j : Json) (l : ℕ) → Given S T ix → Holds message m w j l k → keysOnce j ≡ true → l ≤ left → AsMembers S T j t f b y → ReadTold old new n (plainReading S T j t f) r
+          go j l o h once q a =
               inside new c r (fieldsReading S T (a .fields) (a .structs .base ++ a .structs .branch)) j l z h (a .reading)
-              (d .reads .told (a .fields) (l - 1) o (held (rw (a .is-object) at h)) (omega arith) (a .structs .base) (a .structs .branch) (a .structs .base-is) (a .structs .branch-is))
+              (d .reads .told (a .fields) (l - 1) o (held (rw (a .is-object) at h)) (inner (rw (a .is-object) at once)) (omega arith) (a .structs .base) (a .structs .branch) (a .structs .base-is) (a .structs .branch-is))
             where
               held : Holds message m w (obj (a .start) (a .end) (a .fields)) l k → HoldsFields message m w (a .fields) (l - 1) (suc k) (next w k)
               held v = v .3
 
+              inner : keysOnce (obj (a .start) (a .end) (a .fields)) ≡ true → keysOnceF (a .fields) ≡ true
+              inner v = and-right (apart same (keysOf (a .fields))) (keysOnceF (a .fields)) v
+
     -- no level is left for what is inside
-    pub plain-flat-array : x ≡ Elements → {left : ℕ} → left ≡ 0 → ReadsPlain S T m w old mid k t f left n Nothing
-    plain-flat-array e {left} z = record { within = tt; told = λ j l o h q. absurd (go j l h q (shape-is Elements e j l o h)) }
+    pub plain-flat-array : x ≡ Elements → {left : ℕ} → left ≡ 0 → ReadsPlain S T m w ix old mid k t f left n Nothing
+    plain-flat-array e {left} z = record { within = tt; told = λ j l o h once q. absurd (go j l h q (shape-is Elements e j l o h once)) }
       where
         go : (j : Json) (l : ℕ) → Holds message m w j l k → l ≤ left → AsElements S T j t f → ⊥
         go j l h q a = levels (rw (a .is-array) at h)
@@ -115,8 +122,8 @@ module _ {S T m w : List ℕ} {k t f : ℕ} {x : Shape} (g : ShapeAt S T m w k t
             levels : Holds message m w (arr (a .start) (a .end) (a .items)) l k → ⊥
             levels v = omega (arith, v .2)
 
-    pub plain-flat-object : {b y : ℕ} → x ≡ Members b y → {left : ℕ} → left ≡ 0 → ReadsPlain S T m w old mid k t f left n Nothing
-    plain-flat-object {b} {y} e {left} z = record { within = tt; told = λ j l o h q. absurd (go j l h q (shape-is (Members b y) e j l o h)) }
+    pub plain-flat-object : {b y : ℕ} → x ≡ Members b y → {left : ℕ} → left ≡ 0 → ReadsPlain S T m w ix old mid k t f left n Nothing
+    plain-flat-object {b} {y} e {left} z = record { within = tt; told = λ j l o h once q. absurd (go j l h q (shape-is (Members b y) e j l o h once)) }
       where
         go : (j : Json) (l : ℕ) → Holds message m w j l k → l ≤ left → AsMembers S T j t f b y → ⊥
         go j l h q a = levels (rw (a .is-object) at h)

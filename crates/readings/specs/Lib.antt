@@ -1,5 +1,4 @@
 -- What the contracts of the readers of arguments cite. Records says what is read; the others serve the inner functions.
 pub mod Records
-pub mod Members
 pub mod Parts
 pub mod Readers

@@ -8,16 +8,17 @@ use lib.ListN.{getD}
 use Rattle.grammar.specs.Tree.{Scalar, Json, Items, Fields, Kind, kindOf}
 use Rattle.grammar.specs.Tree.Scalar.{num}
 use Rattle.grammar.specs.Tree.Json.{leaf, arr, obj}
+use Rattle.grammar.specs.Keys.{keysOnce}
 use Rattle.grammar.specs.Machine.Message.{message}
 use Rattle.rules.specs.Types as Types
 use Rattle.rules.specs.Types.{column, takes, ranges, numberFits, builtInTakes}
 use Rattle.rules.specs.Rows.{children}
-use Rattle.rules.specs.Sound.{sound}
 use Rattle.rules.specs.Readings.{typed}
 use Rattle.rules.specs.ReadingOf as Reading
 use Rattle.rules.specs.ReadingOf.{under, ofKind, fromAlternatives, scalarFits, via, plainReading, itemsReading, fieldsReading}
 use Rattle.text.specs.Nodes.{Holds}
-use Rattle.readings.specs.Members.{FieldsAt, TwoStructs}
+use Rattle.children.specs.Index.{Given}
+use Rattle.members.specs.Members.{FieldsAt, TwoStructs}
 use Rattle.readings.specs.declared.builtins.Range.{Range}
 use Rattle.readings.specs.declared.builtins.Range.the-variants.{From, Any}
 use Rattle.readings.specs.declared.types.Via.{Via}
@@ -56,8 +57,8 @@ pub record TypeFor (T w : List ℕ) (k t f : ℕ) (x : Via) : Type 0 where
   pub told : (S m : List ℕ) (j : Json) (l : ℕ) → Holds message m w j l k → viaAs x ≡ via S T (kindOf j) t f
 
 -- scalars
-pub record ScalarFits (S T m w : List ℕ) (k t : ℕ) (b : Bool) : Type 0 where
-  pub told : (a e l : ℕ) (v : Scalar) → Holds message m w (leaf a e v) l k → b ≡ scalarFits S T t v
+pub record ScalarFits (S T m w ix : List ℕ) (k t : ℕ) (b : Bool) : Type 0 where
+  pub told : (a e l : ℕ) (v : Scalar) → Given S T ix → Holds message m w (leaf a e v) l k → b ≡ scalarFits S T t v
 
 -- what a value is read as
 pub record AsElements (S T : List ℕ) (j : Json) (t f : ℕ) : Type 0 where
@@ -81,14 +82,14 @@ ShapeTold S T j t f Elements = AsElements S T j t f
 ShapeTold S T j t f (Members b c) = AsMembers S T j t f b c
 ShapeTold S T j t f Misfit = plainReading S T j t f ≡ none
 
-pub record ScalarShape (S T m w : List ℕ) (k t f : ℕ) (x : Shape) : Type 0 where
-  pub told : (a e l : ℕ) (v : Scalar) → Holds message m w (leaf a e v) l k → ShapeTold S T (leaf a e v) t f x
+pub record ScalarShape (S T m w ix : List ℕ) (k t f : ℕ) (x : Shape) : Type 0 where
+  pub told : (a e l : ℕ) (v : Scalar) → Given S T ix → Holds message m w (leaf a e v) l k → ShapeTold S T (leaf a e v) t f x
 
 pub record ArrayShape (t f : ℕ) (x : Shape) : Type 0 where
   pub told : (S T : List ℕ) (a e : ℕ) (js : Items) → ShapeTold S T (arr a e js) t f x
 
-pub record ObjectShape (S T m w : List ℕ) (k t f : ℕ) (x : Shape) : Type 0 where
-  pub told : (a e : ℕ) (fs : Fields) → sound S T ≡ true → FieldsAt m w k fs → ShapeTold S T (obj a e fs) t f x
+pub record ObjectShape (S T m w ix : List ℕ) (k t f : ℕ) (x : Shape) : Type 0 where
+  pub told : (a e : ℕ) (fs : Fields) → Given S T ix → FieldsAt m w k fs → ShapeTold S T (obj a e fs) t f x
 
-pub record ShapeAt (S T m w : List ℕ) (k t f : ℕ) (x : Shape) : Type 0 where
-  pub told : (j : Json) (l : ℕ) → sound S T ≡ true → Holds message m w j l k → ShapeTold S T j t f x
+pub record ShapeAt (S T m w ix : List ℕ) (k t f : ℕ) (x : Shape) : Type 0 where
+  pub told : (j : Json) (l : ℕ) → Given S T ix → Holds message m w j l k → keysOnce j ≡ true → ShapeTold S T j t f x

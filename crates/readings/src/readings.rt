@@ -1,11 +1,11 @@
 // Readings: a value reader and a member reader that call each other, the levels left falling.
-use crate::members::field_member;
 use crate::records::put_record;
 use crate::shapes::Shape;
 use crate::shapes::shape_at;
-use crate::types::FIRST_REFERENCE;
 use crate::types::Via;
 use crate::types::type_for;
+use members::chains::field_member;
+use members::objects::FIRST_REFERENCE;
 use rows::rows::wide;
 use rows::rows::word;
 use rules::TABLE_ROWS;
@@ -45,6 +45,7 @@ fn read_value(
     rows: &[u32],
     m: &[u8],
     nodes: &[u32],
+    index: &[u32],
     k: usize,
     t: u32,
     array: u32,
@@ -53,14 +54,26 @@ fn read_value(
     n: usize,
 ) -> Count
     requires { ⌜ (k < 2 ^ 32) × (n ≤ 2 * k) ⌝ }
-    ensures { λ r. ⌜ ReadsValue (now (schema .entry)) (now (rows .entry)) (now (m .entry)) (now (nodes .entry)) (now (records .entry)) (now (records .exit)) k t array left n r ⌝ }
+    ensures { λ r. ⌜ ReadsValue (now (schema .entry)) (now (rows .entry)) (now (m .entry)) (now (nodes .entry)) (now (index .entry)) (now (records .entry)) (now (records .exit)) k t array left n r ⌝ }
 {
     match type_for(rows, nodes, k, t, array) {
         Via::Missing => Count::Nothing,
-        Via::Direct => read_plain(schema, rows, m, nodes, k, t, array, left, records, n),
+        Via::Direct => read_plain(schema, rows, m, nodes, index, k, t, array, left, records, n),
         Via::Alternative(u) => {
             put_node_record(nodes, k, t, array, records, n);
-            read_plain(schema, rows, m, nodes, k, u, array, left, records, n + 1)
+            read_plain(
+                schema,
+                rows,
+                m,
+                nodes,
+                index,
+                k,
+                u,
+                array,
+                left,
+                records,
+                n + 1,
+            )
         }
     }
 }
@@ -71,6 +84,7 @@ fn read_plain(
     rows: &[u32],
     m: &[u8],
     nodes: &[u32],
+    index: &[u32],
     k: usize,
     t: u32,
     array: u32,
@@ -79,9 +93,9 @@ fn read_plain(
     n: usize,
 ) -> Count
     requires { ⌜ (k < 2 ^ 32) × (n ≤ 2 * k + 1) ⌝ }
-    ensures { λ r. ⌜ ReadsPlain (now (schema .entry)) (now (rows .entry)) (now (m .entry)) (now (nodes .entry)) (now (records .entry)) (now (records .exit)) k t array left n r ⌝ }
+    ensures { λ r. ⌜ ReadsPlain (now (schema .entry)) (now (rows .entry)) (now (m .entry)) (now (nodes .entry)) (now (index .entry)) (now (records .entry)) (now (records .exit)) k t array left n r ⌝ }
 {
-    let shape = shape_at(schema, rows, m, nodes, k, t, array);
+    let shape = shape_at(schema, rows, m, nodes, index, k, t, array);
     let c = n + 1;
     put_node_record(nodes, k, t, array, records, n);
     match shape {
@@ -91,7 +105,7 @@ fn read_plain(
             if left == 0 {
                 return Count::Nothing;
             }
-            read_items(schema, rows, m, nodes, k, t, left - 1, records, c)
+            read_items(schema, rows, m, nodes, index, k, t, left - 1, records, c)
         }
         Shape::Members(base, branch) => {
             if left == 0 {
@@ -102,6 +116,7 @@ fn read_plain(
                 rows,
                 m,
                 nodes,
+                index,
                 k,
                 base,
                 branch,
@@ -119,6 +134,7 @@ fn read_items(
     rows: &[u32],
     m: &[u8],
     nodes: &[u32],
+    index: &[u32],
     k: usize,
     t: u32,
     left: usize,
@@ -126,13 +142,13 @@ fn read_items(
     n: usize,
 ) -> Count
     requires { ⌜ (k < 2 ^ 32) × (n ≤ 2 * suc k) ⌝ }
-    ensures { λ r. ⌜ ReadsItems (now (schema .entry)) (now (rows .entry)) (now (m .entry)) (now (nodes .entry)) (now (records .entry)) (now (records .exit)) k t left n r ⌝ }
+    ensures { λ r. ⌜ ReadsItems (now (schema .entry)) (now (rows .entry)) (now (m .entry)) (now (nodes .entry)) (now (index .entry)) (now (records .entry)) (now (records .exit)) k t left n r ⌝ }
 {
     let end = node_number(nodes, k, 3);
     let mut i = k + 1;
     let mut c = n;
     while i < end {
-        let v = read_value(schema, rows, m, nodes, i, t, 0, left, records, c);
+        let v = read_value(schema, rows, m, nodes, index, i, t, 0, left, records, c);
         let Count::Records(d) = v else {
             return Count::Nothing;
         };
@@ -155,6 +171,7 @@ fn read_fields(
     rows: &[u32],
     m: &[u8],
     nodes: &[u32],
+    index: &[u32],
     k: usize,
     base: u32,
     branch: u32,
@@ -163,13 +180,13 @@ fn read_fields(
     n: usize,
 ) -> Count
     requires { ⌜ (k < 2 ^ 32) × (n ≤ 2 * suc k) ⌝ }
-    ensures { λ r. ⌜ ReadsFields (now (schema .entry)) (now (rows .entry)) (now (m .entry)) (now (nodes .entry)) (now (records .entry)) (now (records .exit)) k base branch left n r ⌝ }
+    ensures { λ r. ⌜ ReadsFields (now (schema .entry)) (now (rows .entry)) (now (m .entry)) (now (nodes .entry)) (now (index .entry)) (now (records .entry)) (now (records .exit)) k base branch left n r ⌝ }
 {
     let end = node_number(nodes, k, 3);
     let mut a = k + 1;
     let mut c = n;
     while a < end {
-        let link = field_member(schema, rows, m, nodes, a, base, branch);
+        let link = field_member(schema, rows, m, nodes, index, a, base, branch);
         if link == 0 {
             return Count::Nothing;
         }
@@ -179,6 +196,7 @@ fn read_fields(
             rows,
             m,
             nodes,
+            index,
             at,
             word(rows, link - 1, 3),
             word(rows, link - 1, 4),
@@ -219,12 +237,13 @@ pub fn read_arguments(
     rows: &[u32],
     m: &[u8],
     nodes: &[u32],
+    index: &[u32],
     k: usize,
     c: usize,
     records: &mut [u32],
 ) -> Count
     requires { ⌜ k < 2 ^ 32 ⌝ }
-    ensures { λ r. ⌜ ReadsArgumentsAt (now (schema .entry)) (now (rows .entry)) (now (m .entry)) (now (nodes .entry)) (now (records .entry)) (now (records .exit)) k c r ⌝ }
+    ensures { λ r. ⌜ ReadsArgumentsAt (now (schema .entry)) (now (rows .entry)) (now (m .entry)) (now (nodes .entry)) (now (index .entry)) (now (records .entry)) (now (records .exit)) k c r ⌝ }
 {
     let link = word(rows, c, 3);
     if link == 0 {
@@ -238,5 +257,17 @@ pub fn read_arguments(
         return Count::Nothing;
     }
     let t = link - 1 + FIRST_REFERENCE;
-    read_value(schema, rows, m, nodes, k, t, 0, MESSAGE_LEVELS, records, 0)
+    read_value(
+        schema,
+        rows,
+        m,
+        nodes,
+        index,
+        k,
+        t,
+        0,
+        MESSAGE_LEVELS,
+        records,
+        0,
+    )
 }

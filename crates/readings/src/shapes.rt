@@ -1,10 +1,10 @@
 // What a value is read as at a type that is no alternate.
 use crate::builtins::built_in_takes;
-use crate::members::Structs;
-use crate::members::child_meant;
-use crate::members::object_at;
-use crate::types::FIRST_REFERENCE;
+use children::children::child_meant;
 use lookups::values::is_string;
+use members::objects::FIRST_REFERENCE;
+use members::objects::Structs;
+use members::objects::object_at;
 use rows::rows::wide;
 use rows::rows::word;
 use text::nodes::node_word;
@@ -22,8 +22,16 @@ pub enum Shape {
 }
 
 // Whether the scalar at node k fits the type reference t.
-fn scalar_fits(schema: &[u8], rows: &[u32], m: &[u8], nodes: &[u32], k: usize, t: u32) -> bool
-    ensures { λ b. ⌜ ScalarFits (now (schema .entry)) (now (rows .entry)) (now (m .entry)) (now (nodes .entry)) k t b ⌝ }
+fn scalar_fits(
+    schema: &[u8],
+    rows: &[u32],
+    m: &[u8],
+    nodes: &[u32],
+    index: &[u32],
+    k: usize,
+    t: u32,
+) -> bool
+    ensures { λ b. ⌜ ScalarFits (now (schema .entry)) (now (rows .entry)) (now (m .entry)) (now (nodes .entry)) (now (index .entry)) k t b ⌝ }
 {
     if t < FIRST_REFERENCE {
         return built_in_takes(m, nodes, k, wide(t));
@@ -35,7 +43,7 @@ fn scalar_fits(schema: &[u8], rows: &[u32], m: &[u8], nodes: &[u32], k: usize, t
     if !is_string(nodes, k) {
         return false;
     }
-    child_meant(schema, rows, m, nodes, r, k) != 0
+    child_meant(schema, rows, m, nodes, index, r, k) != 0
 }
 
 // A scalar, at node k.
@@ -44,16 +52,17 @@ fn scalar_shape(
     rows: &[u32],
     m: &[u8],
     nodes: &[u32],
+    index: &[u32],
     k: usize,
     t: u32,
     array: u32,
 ) -> Shape
-    ensures { λ x. ⌜ ScalarShape (now (schema .entry)) (now (rows .entry)) (now (m .entry)) (now (nodes .entry)) k t array x ⌝ }
+    ensures { λ x. ⌜ ScalarShape (now (schema .entry)) (now (rows .entry)) (now (m .entry)) (now (nodes .entry)) (now (index .entry)) k t array x ⌝ }
 {
     if array != 0 {
         return Shape::Misfit;
     }
-    if !scalar_fits(schema, rows, m, nodes, k, t) {
+    if !scalar_fits(schema, rows, m, nodes, index, k, t) {
         return Shape::Misfit;
     }
     Shape::Alone
@@ -81,11 +90,12 @@ fn object_shape(
     rows: &[u32],
     m: &[u8],
     nodes: &[u32],
+    index: &[u32],
     k: usize,
     t: u32,
     array: u32,
 ) -> Shape
-    ensures { λ x. ⌜ ObjectShape (now (schema .entry)) (now (rows .entry)) (now (m .entry)) (now (nodes .entry)) k t array x ⌝ }
+    ensures { λ x. ⌜ ObjectShape (now (schema .entry)) (now (rows .entry)) (now (m .entry)) (now (nodes .entry)) (now (index .entry)) k t array x ⌝ }
 {
     if array != 0 {
         return Shape::Misfit;
@@ -93,7 +103,7 @@ fn object_shape(
     if t == ANY {
         return Shape::Alone;
     }
-    match object_at(schema, rows, m, nodes, k, t) {
+    match object_at(schema, rows, m, nodes, index, k, t) {
         Structs::Two(base, branch) => Shape::Members(base, branch),
         Structs::Neither => Shape::Misfit,
     }
@@ -105,15 +115,16 @@ pub fn shape_at(
     rows: &[u32],
     m: &[u8],
     nodes: &[u32],
+    index: &[u32],
     k: usize,
     t: u32,
     array: u32,
 ) -> Shape
-    ensures { λ x. ⌜ ShapeAt (now (schema .entry)) (now (rows .entry)) (now (m .entry)) (now (nodes .entry)) k t array x ⌝ }
+    ensures { λ x. ⌜ ShapeAt (now (schema .entry)) (now (rows .entry)) (now (m .entry)) (now (nodes .entry)) (now (index .entry)) k t array x ⌝ }
 {
     match node_word(nodes, k, 0) {
         8 => array_shape(t, array),
-        9 => object_shape(schema, rows, m, nodes, k, t, array),
-        _ => scalar_shape(schema, rows, m, nodes, k, t, array),
+        9 => object_shape(schema, rows, m, nodes, index, k, t, array),
+        _ => scalar_shape(schema, rows, m, nodes, index, k, t, array),
     }
 }

@@ -1,17 +1,14 @@
 // By which type a value is read: the one given, or one alternative of an alternate.
 use crate::builtins::column;
+use members::objects::FIRST_REFERENCE;
 use rows::rows::child_count;
 use rows::rows::first_child;
 use rows::rows::wide;
 use rows::rows::word;
-use rules::FIRST_ROW;
 use table::alternates::type_kind;
 use text::nodes::node_word;
 ghost use Prim.Native.Nat.{_<_, _^_};
 ghost use Rattle.readings.specs.Parts.{AlternativeOf, TypeFor};
-
-// A type reference, a word of a row, from here on is to a row.
-pub const FIRST_REFERENCE: u32 = FIRST_ROW as u32;
 
 pub enum Via {
     Direct,

@@ -135,7 +135,7 @@ free-from : (j b n : ℕ) → j < b → Free itself j (upFrom b n)
 free-from j b zero h = tt
 free-from j b (suc n) h = ((λ e. omega arith), free-from j (suc b) n (omega arith))
 
-length-from : (b n : ℕ) → length (upFrom b n) ≡ n
+pub length-from : (b n : ℕ) → length (upFrom b n) ≡ n
 length-from b zero = refl
 length-from b (suc n) = ap suc (length-from (suc b) n)
 

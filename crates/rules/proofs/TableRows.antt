@@ -42,7 +42,7 @@ module _ (T : List ℕ) where
   inline-struct zero e = absurd (clash e refl)
   inline-struct (suc r) e = eqb-true (kind T (suc r)) 3 (search (and-left, and-right))
 
-  no-inline : (r : ℕ) → kind T r ≡ 3 → inlineRows T r ≡ 0
+  pub no-inline : (r : ℕ) → kind T r ≡ 3 → inlineRows T r ≡ 0
   unfolding inline inlineRows
   no-inline r e = rw e refl
 
@@ -50,7 +50,7 @@ module _ (T : List ℕ) where
   unfolding children childCount
   struct-children r e = rw (no-inline r e) (rw (e, add-zero (suc r)))
 
-  inline-rows : (r : ℕ) (b : Bool) → inline T (suc r) ≡ b → inlineRows T r ≡ cond b (suc (count T (suc r))) 0
+  pub inline-rows : (r : ℕ) (b : Bool) → inline T (suc r) ≡ b → inlineRows T r ≡ cond b (suc (count T (suc r))) 0
   unfolding inlineRows
   inline-rows r b e = rw e
 

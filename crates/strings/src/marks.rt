@@ -7,7 +7,7 @@ ghost use Rattle.strings.specs.Strings.{dialect};
 ghost use Rattle.strings.specs.Marks.{markMore, BytesMark, CodesMark, MeansMark};
 
 // A mark with one more code point. Places count, but it is no secret: who chooses the strings can make marks equal.
-fn mix(mark: u32, c: u32) -> u32
+pub fn mix(mark: u32, c: u32) -> u32
     ensures { λ r. ⌜ r ≡ markMore mark c ⌝ }
 {
     mark % 0x4000000 * 61 + c % 0x200000

@@ -23,7 +23,7 @@ enum-known-name : tie.Need-enum-known-name
 enum-known-name c = search needs
 
 with-name-requires : tie.Need-with-name-requires
-with-name-requires c κs = says-call (c .before .before .before .before .before .before .before .before .before .before .before .before .pre) (c .before .before .before .before .read-envelope .ensures) (c .before .before .name .given .1)
+with-name-requires c κs = says-call (c .before .before .before .before .before .before .before .before .before .before .before .before .pre) (granted (keys-are (c .before .before .before .before .before .before .before .before .before .before .before .before .pre) (c .before .before .before .before .before .before .keys-once .ensures)) (c .before .before .before .before .before .if1 .left)) (c .before .before .before .before .read-envelope .ensures) (c .before .before .name .given .1)
 
 returns-2 : tie.Need-returns-2
 returns-2 c = no-envelope (c .before .before .before .before .before .before .before .before .before .before .args .schema .now) (c .before .before .before .before .before .before .before .before .before .before .args .rows .now) (c .before .before .before .before .before .before .before .before .before .before .args .m .now) (c .before .before .before .before .before .before .before .before .before .before .pre .text) (granted (keys-are (c .before .before .before .before .before .before .before .before .before .before .pre) (c .before .before .before .before .keys-once .ensures)) (c .before .before .before .if1 .left)) (improper (c .before .before .before .before .before .before .before .before .before .before .pre) (c .before .before .read-envelope .ensures) (c .enum-told .given .1)) refl
@@ -32,7 +32,10 @@ same-length : tie.Need-same-length
 same-length c = search needs
 
 returns-3 : tie.Need-returns-3
-returns-3 c = envelope-on (c .before .before .before .before .before .before .before .before .before .before .before .before .before .before .before .args .schema .now) (c .before .before .before .before .before .before .before .before .before .before .before .before .before .before .before .args .rows .now) (c .before .before .before .before .before .before .before .before .before .before .before .before .before .before .before .args .m .now) (c .before .before .before .before .before .before .before .before .before .before .before .before .before .before .before .pre .text) (granted (keys-are (c .before .before .before .before .before .before .before .before .before .before .before .before .before .before .before .pre) (c .before .before .before .before .before .before .before .before .before .keys-once .ensures)) (c .before .before .before .before .before .before .before .before .if1 .left)) (call-says (c .before .before .before .before .before .before .before .before .before .before .before .before .before .before .before .pre) (says-call (c .before .before .before .before .before .before .before .before .before .before .before .before .before .before .before .pre) (c .before .before .before .before .before .before .before .read-envelope .ensures) (c .before .before .before .before .before .name .given .1))) (c .before .before .with-name .ensures)
+returns-3 c =
+    let once = granted (keys-are (c .before .before .before .before .before .before .before .before .before .before .before .before .before .before .before .pre) (c .before .before .before .before .before .before .before .before .before .keys-once .ensures)) (c .before .before .before .before .before .before .before .before .if1 .left) in
+    envelope-on (c .before .before .before .before .before .before .before .before .before .before .before .before .before .before .before .args .schema .now) (c .before .before .before .before .before .before .before .before .before .before .before .before .before .before .before .args .rows .now) (c .before .before .before .before .before .before .before .before .before .before .before .before .before .before .before .args .m .now) (c .before .before .before .before .before .before .before .before .before .before .before .before .before .before .before .pre .text) once
+    (call-says (c .before .before .before .before .before .before .before .before .before .before .before .before .before .before .before .pre) (says-call (c .before .before .before .before .before .before .before .before .before .before .before .before .before .before .before .pre) once (c .before .before .before .before .before .before .before .read-envelope .ensures) (c .before .before .before .before .before .name .given .1))) (c .before .before .with-name .ensures)
 
 pub with-nodes-spec : {M : Type 1} → statement M
 with-nodes-spec =

@@ -21,7 +21,7 @@ use Rattle.readings.proofs.readings.+read_fields+read_items+read_plain+
 use Rattle.readings.proofs.readings.read_value.Reads as read-value
 use Rattle.readings.proofs.readings.read_value.Kinds as read-value-kinds
 use Rattle.readings.proofs.readings.+read_fields+read_items+read_plain+read_value.Lts-read_value as read-value-lts
-use Rattle.readings.proofs.members.field_member.Reads as field-member-reads
+use Rattle.members.proofs.chains.field_member.Reads as field-member-reads
 use Rattle.readings.proofs.readings.put_node_record.Reads as put-node-record-reads
 use Rattle.readings.proofs.shapes.shape_at.Reads as shape-at-reads
 use Rattle.readings.proofs.types.type_for.Reads as type-for-reads
@@ -30,55 +30,55 @@ use Rattle.text.proofs.nodes.node_number.Reads as node-number-reads
 use Rattle.readings.proofs.readings.+read_fields+read_items+read_plain+read_value.{statement}
 use Rattle.readings.proofs.readings.+read_fields+read_items+read_plain+read_value.Tie.{close}
 
-abbrev μ-read-fields : Measures 5 read-fields-kinds.ps ℕ
-μ-read-fields κs a = 3 * (a .1 .1 .1 .1 .1 .1 .1 .0) + 2
+abbrev μ-read-fields : Measures 6 read-fields-kinds.ps ℕ
+μ-read-fields κs a = 3 * (a .1 .1 .1 .1 .1 .1 .1 .1 .0) + 2
 
-abbrev μ-read-items : Measures 5 read-items-kinds.ps ℕ
-μ-read-items κs a = 3 * (a .1 .1 .1 .1 .1 .1 .0) + 2
+abbrev μ-read-items : Measures 6 read-items-kinds.ps ℕ
+μ-read-items κs a = 3 * (a .1 .1 .1 .1 .1 .1 .1 .0) + 2
 
-abbrev μ-read-plain : Measures 5 read-plain-kinds.ps ℕ
-μ-read-plain κs a = 3 * (a .1 .1 .1 .1 .1 .1 .1 .0)
+abbrev μ-read-plain : Measures 6 read-plain-kinds.ps ℕ
+μ-read-plain κs a = 3 * (a .1 .1 .1 .1 .1 .1 .1 .1 .0)
 
-abbrev μ-read-value : Measures 5 read-value-kinds.ps ℕ
-μ-read-value κs a = 3 * (a .1 .1 .1 .1 .1 .1 .1 .0) + 1
+abbrev μ-read-value : Measures 6 read-value-kinds.ps ℕ
+μ-read-value κs a = 3 * (a .1 .1 .1 .1 .1 .1 .1 .1 .0) + 1
 
-abbrev read-fields-at : ℕ → In 5 read-fields-kinds.ps
+abbrev read-fields-at : ℕ → In 6 read-fields-kinds.ps
 read-fields-at t =
-    and 5 read-fields-kinds.ps (is 5 read-fields-kinds.ps μ-read-fields t) read-fields.Pre
+    and 6 read-fields-kinds.ps (is 6 read-fields-kinds.ps μ-read-fields t) read-fields.Pre
 
-abbrev read-fields-below : ℕ → In 5 read-fields-kinds.ps
+abbrev read-fields-below : ℕ → In 6 read-fields-kinds.ps
 read-fields-below t =
-    and 5 read-fields-kinds.ps (falls 5 read-fields-kinds.ps _<_ μ-read-fields t) read-fields.Pre
+    and 6 read-fields-kinds.ps (falls 6 read-fields-kinds.ps _<_ μ-read-fields t) read-fields.Pre
 
-abbrev read-items-at : ℕ → In 5 read-items-kinds.ps
+abbrev read-items-at : ℕ → In 6 read-items-kinds.ps
 read-items-at t =
-    and 5 read-items-kinds.ps (is 5 read-items-kinds.ps μ-read-items t) read-items.Pre
+    and 6 read-items-kinds.ps (is 6 read-items-kinds.ps μ-read-items t) read-items.Pre
 
-abbrev read-items-below : ℕ → In 5 read-items-kinds.ps
+abbrev read-items-below : ℕ → In 6 read-items-kinds.ps
 read-items-below t =
-    and 5 read-items-kinds.ps (falls 5 read-items-kinds.ps _<_ μ-read-items t) read-items.Pre
+    and 6 read-items-kinds.ps (falls 6 read-items-kinds.ps _<_ μ-read-items t) read-items.Pre
 
-abbrev read-plain-at : ℕ → In 5 read-plain-kinds.ps
+abbrev read-plain-at : ℕ → In 6 read-plain-kinds.ps
 read-plain-at t =
-    and 5 read-plain-kinds.ps (is 5 read-plain-kinds.ps μ-read-plain t) read-plain.Pre
+    and 6 read-plain-kinds.ps (is 6 read-plain-kinds.ps μ-read-plain t) read-plain.Pre
 
-abbrev read-plain-below : ℕ → In 5 read-plain-kinds.ps
+abbrev read-plain-below : ℕ → In 6 read-plain-kinds.ps
 read-plain-below t =
-    and 5 read-plain-kinds.ps (falls 5 read-plain-kinds.ps _<_ μ-read-plain t) read-plain.Pre
+    and 6 read-plain-kinds.ps (falls 6 read-plain-kinds.ps _<_ μ-read-plain t) read-plain.Pre
 
-abbrev read-value-at : ℕ → In 5 read-value-kinds.ps
+abbrev read-value-at : ℕ → In 6 read-value-kinds.ps
 read-value-at t =
-    and 5 read-value-kinds.ps (is 5 read-value-kinds.ps μ-read-value t) read-value.Pre
+    and 6 read-value-kinds.ps (is 6 read-value-kinds.ps μ-read-value t) read-value.Pre
 
-abbrev read-value-below : ℕ → In 5 read-value-kinds.ps
+abbrev read-value-below : ℕ → In 6 read-value-kinds.ps
 read-value-below t =
-    and 5 read-value-kinds.ps (falls 5 read-value-kinds.ps _<_ μ-read-value t) read-value.Pre
+    and 6 read-value-kinds.ps (falls 6 read-value-kinds.ps _<_ μ-read-value t) read-value.Pre
 
 abbrev read-fields-Inv-loop : read-fields-lts.InvT-loop
-read-fields-Inv-loop schema rows m nodes k base branch left records₀ n end a₀ c₀ records a c = FieldsSoFar schema rows m nodes records₀ records k end base branch left n a c
+read-fields-Inv-loop schema rows m nodes index k base branch left records₀ n end a₀ c₀ records a c = FieldsSoFar schema rows m nodes index records₀ records k end base branch left n a c
 
 abbrev read-fields-μ-loop : read-fields-lts.MeasureT-loop
-read-fields-μ-loop schema rows m nodes k base branch left records₀ n end a₀ c₀ records a c = end - a
+read-fields-μ-loop schema rows m nodes index k base branch left records₀ n end a₀ c₀ records a c = end - a
 
 abbrev read-fields-calls : ℕ → read-fields-lts.Claims
 read-fields-calls t = (node-number-reads.Asked, node-number-reads.Learnt, field-member-reads.Asked, field-member-reads.Learnt, word-reads.Asked, word-reads.Learnt, read-value-below t, read-value.Post)
@@ -99,7 +99,7 @@ read-fields-add-a : (t : ℕ) → read-fields-lts.Need-add-a (read-fields-calls 
 read-fields-add-a t c = search needs
 
 read-fields-loop-holds : (t : ℕ) → read-fields-lts.Need-loop-holds (read-fields-calls t) (read-fields-at t) read-fields.Post read-fields-Inv-loop read-fields-μ-loop
-read-fields-loop-holds t c = fields-start _ _ _ _ _ (c .before .before .before .before .before .before .pre .1 .1)
+read-fields-loop-holds t c = fields-start _ _ _ _ _ _ (c .before .before .before .before .before .before .before .pre .1 .1)
 
 read-fields-field-member-requires : (t : ℕ) → read-fields-lts.Need-field-member-requires (read-fields-calls t) (read-fields-at t) read-fields.Post read-fields-Inv-loop read-fields-μ-loop
 read-fields-field-member-requires t c κs = search needs
@@ -130,7 +130,7 @@ read-fields-word-requires-2 t c κs = search needs
 read-fields-read-value-requires : (t : ℕ) → read-fields-lts.Need-read-value-requires (read-fields-calls t) (read-fields-at t) read-fields.Post read-fields-Inv-loop read-fields-μ-loop
 read-fields-read-value-requires t c κs =
     let d = c .before .before .before .before .before .before .before .before .before in
-    let b = d .shared-slice-known4 .given (4 * (d .before .before .before .before .args .k) + 3) in
+    let b = d .before .shared-slice-known4 .given (4 * (d .before .before .before .before .before .args .k) + 3) in
     search needs
 
 read-fields-enum-known-v : (t : ℕ) → read-fields-lts.Need-enum-known-v (read-fields-calls t) (read-fields-at t) read-fields.Post read-fields-Inv-loop read-fields-μ-loop
@@ -187,10 +187,10 @@ read-fields-returns-5 : (t : ℕ) → read-fields-lts.Need-returns-5 (read-field
 read-fields-returns-5 t c = fields-done (c .before .before .loop .inv) (c .before .before .before .node-number .ensures) (c .if3 .left)
 
 abbrev read-items-Inv-loop : read-items-lts.InvT-loop
-read-items-Inv-loop schema rows m nodes k t left records₀ n end i₀ c₀ records i c = ItemsSoFar schema rows m nodes records₀ records k end t left n i c
+read-items-Inv-loop schema rows m nodes index k t left records₀ n end i₀ c₀ records i c = ItemsSoFar schema rows m nodes index records₀ records k end t left n i c
 
 abbrev read-items-μ-loop : read-items-lts.MeasureT-loop
-read-items-μ-loop schema rows m nodes k t left records₀ n end i₀ c₀ records i c = end - i
+read-items-μ-loop schema rows m nodes index k t left records₀ n end i₀ c₀ records i c = end - i
 
 read-items-node-number-requires : (t : ℕ) → read-items-lts.Need-node-number-requires (read-items-calls t) (read-items-at t) read-items.Post read-items-Inv-loop read-items-μ-loop
 read-items-node-number-requires t c κs = search needs
@@ -199,12 +199,12 @@ read-items-add-i : (t : ℕ) → read-items-lts.Need-add-i (read-items-calls t) 
 read-items-add-i t c = search needs
 
 read-items-loop-holds : (t : ℕ) → read-items-lts.Need-loop-holds (read-items-calls t) (read-items-at t) read-items.Post read-items-Inv-loop read-items-μ-loop
-read-items-loop-holds t c = items-start _ _ _ _ _ (c .before .before .before .before .before .before .pre .1 .1)
+read-items-loop-holds t c = items-start _ _ _ _ _ _ (c .before .before .before .before .before .before .before .pre .1 .1)
 
 read-items-read-value-requires : (t : ℕ) → read-items-lts.Need-read-value-requires (read-items-calls t) (read-items-at t) read-items.Post read-items-Inv-loop read-items-μ-loop
 read-items-read-value-requires t c κs =
     let d = c .before .before .before .before .before in
-    let b = d .shared-slice-known4 .given (4 * (d .before .before .before .before .args .k) + 3) in
+    let b = d .before .shared-slice-known4 .given (4 * (d .before .before .before .before .before .args .k) + 3) in
     search needs
 
 read-items-enum-known-v : (t : ℕ) → read-items-lts.Need-enum-known-v (read-items-calls t) (read-items-at t) read-items.Post read-items-Inv-loop read-items-μ-loop
@@ -320,7 +320,7 @@ read-plain-returns-4 : (t : ℕ) → read-plain-lts.Need-returns-4 (read-plain-c
 read-plain-returns-4 t c =
     let d = c .before .before .before .before in
     let f = d .before .before .before .before .before .before .before .before in
-    plain-alone (d .before .before .shape-at .ensures) _ _ _ (d .put-node-record .ensures) refl (c .enum-told2 .given .1) (f .pre .1 .1)
+    plain-alone (d .before .before .shape-at .ensures) _ _ _ (d .put-node-record .ensures) refl (c .enum-told2 .given .1) (f .before .pre .1 .1)
 
 read-plain-same-length-5 : (t : ℕ) → read-plain-lts.Need-same-length-5 (read-plain-calls t) (read-plain-at t) read-plain.Post
 read-plain-same-length-5 t c = search needs

@@ -1,0 +1,124 @@
+-- An index as it is filled, row by row and list by list.
+-- The idea: every row in the index is below the next one to come, which is therefore on no chain; what is listed stays so.
+use Prim.{tt}
+use Prim.Native.Nat.{ℕ, suc, _+_, _≤_, _<_}
+use native.Mathlib.Nat.{eq-or-lt-of-le}
+use native.Mathlib.Numerals.{add-one}
+use native.Mathlib.Omega.{arith}
+use mathlib.Core.Path.{_≡_, refl, sym, ap, _∙_, subst, subst₂}
+use mathlib.Core.Bool.{Bool, true, false}
+use mathlib.Core.Logic.{_⊎_, ⊎-elim}
+use mathlib.Core.List.{List, [], _∷_, List·Memᴰ, List·Memᴰ·head, List·Memᴰ·tail, List·Memᴰ·cases-cons}
+use lib.Dec.{eqb}
+use lib.ListN.{length}
+use borrow.Author.Tests.{eqb-true, eqb-false}
+use Rattle.grammar.specs.Limits.{table-rows}
+use Rattle.buckets.specs.Buckets.{All, Indexed}
+use Rattle.buckets.proofs.BucketLaws.{index-added}
+use Rattle.strings.specs.Marks.{markMore, markOf}
+use Rattle.rules.specs.Rows.{childCount, children, nameOf}
+use Rattle.rules.proofs.Lists.{clash, upFrom-bounds}
+use Rattle.children.specs.Index.{index-words, linksOf, isLong, Child, childAt, rowOf, childMark, Chained, Owned}
+use Rattle.children.specs.Filling.{Put, Counted, Grown, RunAdded, firstChild, pastChildren, ListAdded}
+use Rattle.children.proofs.PartLaws.{heads-wide, links-wide, put-room, put-counts, put-added, counted-room, counted-heads, counted-links, counted-here, counted-other}
+
+all-weaker : {A : Type 0} (P Q : A → Type 0) → ((y : A) → P y → Q y) → (ys : List A) → All P ys → All Q ys
+all-weaker P Q f [] a = tt
+all-weaker P Q f (y ∷ ys) a = (f y (a .0), all-weaker P Q f ys (a .1))
+
+module _ {S T ix : List ℕ} {items : List Child} {n : ℕ} (v : Chained S T ix items n) where
+  pub chained-wider : {k : ℕ} → n ≤ k → Chained S T ix items k
+  chained-wider {k} h = record {
+    words = v .words;
+    chains = v .chains;
+    below = all-weaker (λ y. rowOf y < n) (λ y. rowOf y < k) (λ y (l : rowOf y < n). omega arith) items (v .below);
+    few = omega (arith, v .few);
+  }
+
+  -- a count was stored
+  chained-counted : {r : ℕ} {ix′ : List ℕ} → Counted T ix r ix′ → Chained S T ix′ items n
+  chained-counted p = record {
+    words = counted-room p ∙ v .words;
+    chains = subst₂ (λ (a b : List ℕ). Indexed rowOf (childMark S T) a b items) (sym (counted-heads p)) (sym (counted-links p)) (v .chains);
+    below = v .below;
+    few = v .few;
+  }
+
+  -- row n came
+  chained-more : (r : ℕ) {mark : ℕ} {ix′ : List ℕ} → n < table-rows → mark ≡ childMark S T (childAt n r) → Put ix mark n ix′ → Chained S T ix′ (childAt n r ∷ items) (suc n)
+  chained-more r h q p =
+      let room : n < length (linksOf ix) = omega (arith, links-wide ix (v .words)) in
+      record {
+        words = put-room h p ∙ v .words;
+        chains =
+            index-added rowOf (childMark S T) (v .chains) (childAt n r) (heads-wide ix (v .words)) room refl (sym q)
+            (all-weaker (λ y. rowOf y < n) (λ y. rowOf y ≡ n → ⊥) (λ y (l : rowOf y < n) e. omega arith) items (v .below)) (put-added h p);
+        below = (omega arith, all-weaker (λ y. rowOf y < n) (λ y. rowOf y < suc n) (λ y (l : rowOf y < n). omega arith) items (v .below));
+        few = omega (arith, v .few);
+      }
+
+-- the children of row r, from the first on
+pub run-start : {S T ix : List ℕ} {r a : ℕ} → RunAdded S T ix r a a ix
+run-start = record {
+  room = refl;
+  counts = λ x. refl;
+  told = λ items v. record { more = items; chained = v; kept = λ y m. m; come = λ x h k. absurd (omega arith) };
+}
+
+module _ {S T ix ix₁ : List ℕ} {r a c : ℕ} (v : RunAdded S T ix r a c ix₁) where
+  pub run-more : {name ix₂ : List ℕ} {n mark : ℕ} → c < table-rows → name ≡ nameOf S T c → n ≡ markOf name → mark ≡ markMore n r → Put ix₁ mark c ix₂
+      → RunAdded S T ix r a (c + 1) ix₂
+  run-more {name} {ix₂} {n} {mark} h qn qm q p = record {
+    room = put-room h p ∙ v .room;
+    counts = λ x. put-counts h p x ∙ v .counts x;
+    told = λ items w.
+        let g = v .told items w in
+        record {
+          more = childAt c r ∷ g .more;
+          chained = subst (Chained S T ix₂ (childAt c r ∷ g .more)) (sym (add-one c)) (chained-more (g .chained) r h (q ∙ ap (λ (x : ℕ). markMore x r) (qm ∙ ap markOf qn)) p);
+          kept = λ y m. List·Memᴰ·tail (g .kept y m);
+          come = λ x l k.
+              let z : x ≤ c = omega arith in
+              ⊎-elim (λ (e : x ≡ c). List·Memᴰ·head (ap (λ i. childAt i r) e)) (λ (e : x < c). List·Memᴰ·tail (g .come x l e)) (eq-or-lt-of-le z);
+        };
+  }
+
+  pub run-end : {k : ℕ} → a ≡ firstChild T r → k ≡ childCount T r → c ≤ a + k → a + k ≤ c → RunAdded S T ix r (firstChild T r) (pastChildren T r) ix₁
+  run-end p q h l = let e : c ≡ pastChildren T r = omega arith in subst₂ (λ (x y : ℕ). RunAdded S T ix r x y ix₁) p e v
+
+-- the list of row r
+module _ {S T ix : List ℕ} {r : ℕ} where
+  pub list-short : {b : Bool} → b ≡ isLong T r → b ≡ false → ListAdded S T ix r ix
+  list-short p q = record {
+    room = refl;
+    told = λ n owners l h. record {
+      items = l .items;
+      chained = chained-wider (l .chained) (omega arith);
+      owned = λ x m t. ⊎-elim (λ (e : x ≡ r). absurd (clash t (ap (isLong T) e ∙ sym p ∙ q))) (λ m′. l .owned x m′ t) (List·Memᴰ·cases-cons m);
+    };
+  }
+
+  module _ {ix₁ ix₂ : List ℕ} (words : length ix ≡ index-words) (small : pastChildren T r ≤ table-rows)
+      (v : RunAdded S T ix r (firstChild T r) (pastChildren T r) ix₁) (p : Counted T ix₁ r ix₂) where
+    own : {items : List Child} (g : Grown S T ix₁ r (firstChild T r) (pastChildren T r) items) → Owned T ix₂ (g .more) r
+    unfolding children
+    own g = record {
+      listed = λ c m. let b = upFrom-bounds (childCount T r) (firstChild T r) c m in g .come c (b .0) (b .1);
+      counted = counted-here p (v .room ∙ words) (omega arith);
+    }
+
+    other : {items : List Child} (g : Grown S T ix₁ r (firstChild T r) (pastChildren T r) items) (x : ℕ) → (x ≡ r → ⊥) → Owned T ix items x → Owned T ix₂ (g .more) x
+    other g x n o = record { listed = λ c m. g .kept (childAt c x) (o .listed c m); counted = counted-other p x n ∙ v .counts x ∙ o .counted }
+
+    pub list-long : ListAdded S T ix r ix₂
+    list-long = record {
+      room = counted-room p ∙ v .room;
+      told = λ n owners l h.
+          let g = v .told (l .items) (chained-wider (l .chained) h) in
+          record { items = g .more; chained = chained-counted (g .chained) p; owned = λ x m t. go (l .items) g x (λ m′. l .owned x m′ t) (List·Memᴰ·cases-cons m) (eqb x r) refl };
+    }
+      where
+        go : {owners : List ℕ} (items : List Child) (g : Grown S T ix₁ r (firstChild T r) (pastChildren T r) items) (x : ℕ) → (List·Memᴰ x owners → Owned T ix items x)
+            → (x ≡ r) ⊎ List·Memᴰ x owners → (b : Bool) → eqb x r ≡ b → Owned T ix₂ (g .more) x
+        go items g x old m true e = subst (Owned T ix₂ (g .more)) (sym (eqb-true x r e)) (own g)
+        go items g x old m false e = other g x (eqb-false x r e) (⊎-elim (λ q. absurd (eqb-false x r e q)) old m)

@@ -1,0 +1,69 @@
+-- Marks: a name's, reckoned byte by byte, and that of what the node of a key or a string means; and the bytes of a plain one.
+use Prim.Native.Nat.{ℕ, _+_, _-_, _≤_, _<_}
+use native.Mathlib.Numerals.{add-one}
+use mathlib.Core.Path.{_≡_, refl, sym, ap, ap₂, _∙_, subst₂}
+use mathlib.Core.Bool.{Bool, true, false, cond}
+use mathlib.Core.List.{List}
+use lib.ListN.{length, getD, take, drop, drop-of-length-le}
+use lib.Seq.{drop-cons}
+use Rattle.grammar.specs.Tree.Scalar.{str}
+use Rattle.grammar.specs.Machine.Message.{message}
+use Rattle.strings.specs.Strings.{plainString, Means}
+use Rattle.strings.specs.Meanings.{inside}
+use Rattle.strings.proofs.Comparisons.{plain-means}
+use Rattle.strings.specs.Marks.{markMore, markFrom, markOf, MeansMark}
+use Rattle.tokens.specs.Tokens.{scalarNode, keyNode}
+use Rattle.text.specs.Nodes.{node, Node}
+use Rattle.lookups.specs.Lookups.{plainKind}
+use Rattle.children.specs.Children.{MeaningAt, InnerBytes}
+use Rattle.children.specs.Children.MeaningAt.{a-key, a-string}
+use Rattle.children.specs.Lookup.{MeaningMark}
+
+-- the bytes from place i on are left
+pub record BytesLeft (name : List ℕ) (mark i : ℕ) : Type 0 where
+  pub left : markOf name ≡ markFrom mark (drop i name)
+
+pub bytes-start : (name : List ℕ) → BytesLeft name 0 0
+unfolding markOf
+bytes-start name = record { left = refl }
+
+module _ {name : List ℕ} {mark i : ℕ} (v : BytesLeft name mark i) where
+  pub bytes-more : i < length name → {b x : ℕ} → b ≡ getD name i 0 → x ≡ markMore mark b → BytesLeft name x (i + 1)
+  bytes-more h q e = record { left = v .left ∙ rw (drop-cons name i 0 h, e, q, add-one i) }
+
+  pub bytes-end : length name ≤ i → mark ≡ markOf name
+  bytes-end h = sym (v .left ∙ ap (markFrom mark) (drop-of-length-le name h))
+
+-- what the words of a node say of the key or string there
+pub record Token (m w : List ℕ) (k : ℕ) (cs : List ℕ) : Type 0 where
+  pub means : Means message m (node w k 1) (node w k 2) cs
+  pub plain : plainKind (node w k 0) ≡ true → plainString m (node w k 1) (node w k 2) ≡ true
+
+plain-token : (b : Bool) → (plainKind (cond b 6 7) ≡ true → b ≡ true) × (plainKind (cond b 10 11) ≡ true → b ≡ true)
+plain-token true = (λ _. refl, λ _. refl)
+plain-token false = (λ q. q, λ q. q)
+
+token : {m w : List ℕ} {k : ℕ} {cs : List ℕ} → MeaningAt m w k cs → Token m w k cs
+token {m} {w} {k} {cs} = elim [
+  | a-key u ↦ at (u .start) (u .end) (keyNode m (u .start) (u .end)) (u .node-is) (u .means) (plain-token (plainString m (u .start) (u .end)) .1)
+  | a-string i j l u ↦ at i j (scalarNode m i j (str cs)) (u .0) (u .2) (plain-token (plainString m i j) .0)
+]
+  where
+    at : (i j n : ℕ) → Node w k n i j → Means message m i j cs → (plainKind n ≡ true → plainString m i j ≡ true) → Token m w k cs
+    at i j n u v p = record {
+      means = subst₂ (λ (y z : ℕ). Means message m y z cs) (sym (u .has-start)) (sym (u .has-end)) v;
+      plain = λ t. subst₂ (λ (y z : ℕ). plainString m y z ≡ true) (sym (u .has-start)) (sym (u .has-end)) (p (sym (ap plainKind (u .has-kind)) ∙ t));
+    }
+
+module _ {m w : List ℕ} {k a e : ℕ} (pa : a ≡ node w k 1) (pe : e ≡ node w k 2) where
+  pub token-mark : {kind x : ℕ} {plain : Bool} → kind ≡ node w k 0 → plain ≡ plainKind kind → MeansMark message m a e plain x → MeaningMark m w k x
+  token-mark {x = x} {plain} pk pp h = record {
+    told = λ cs u. let t = token u in
+        subst₂ (λ (y z : ℕ). MeansMark message m y z plain x) pa pe h .told cs (t .means) (λ q. t .plain (sym (pp ∙ ap plainKind pk) ∙ q));
+  }
+
+  pub token-bytes : {n i : ℕ} {bytes : List ℕ} → i ≡ a + 1 → n ≡ e - a - 2 → bytes ≡ take n (drop i m) → InnerBytes m w k bytes
+  token-bytes q p h = record {
+    told = λ cs u t. let v = token u in
+        h ∙ ap₂ (λ (y z : ℕ). take y (drop z m)) p q ∙ ap₂ (λ (y z : ℕ). inside m y z) pa pe ∙ sym (plain-means false (v .means) (v .plain t));
+  }

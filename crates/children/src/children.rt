@@ -1,0 +1,156 @@
+// The values, members and branches of a row, as keys and strings of a message ask for them.
+use crate::index::is_long;
+use crate::lookup::indexed_child;
+use crate::lookup::indexed_mandatory;
+use lookups::values::node_means;
+use lookups::values::plain_kind;
+use rows::names::name_of;
+use rows::names::part_of;
+use rows::names::same_bytes;
+use rows::rows::child_count;
+use rows::rows::first_child;
+use rows::rows::wide;
+use rows::rows::word;
+use text::nodes::node_number;
+use text::nodes::node_word;
+ghost use mathlib.Core.Path.{_≡_};
+ghost use mathlib.Core.List.{[], _∷_};
+ghost use Prim.Native.Nat.{_-_, _<_, _^_};
+ghost use Rattle.rules.specs.Rows.{children};
+ghost use Rattle.children.specs.Counts.{mandatoryIn};
+ghost use Rattle.children.specs.Children.{InnerBytes, RowNamed, ChildNamed, ChildScanned, ChildMeant, OwnMandatory};
+
+// The link of the first child of row r that the key or string at node k means; 0 if there is none.
+fn scanned_child(schema: &[u8], rows: &[u32], m: &[u8], nodes: &[u32], r: usize, k: usize) -> usize
+    requires { ⌜ r < 2 ^ 39 ⌝ }
+    ensures { λ x. ⌜ ChildScanned (now (schema .entry)) (now (rows .entry)) (now (m .entry)) (now (nodes .entry)) r k x ⌝ }
+{
+    let a = first_child(rows, r);
+    let e = a + child_count(rows, r);
+    let mut c = a;
+    while c < e {
+        let next = c + 1;
+        if node_means(m, false, nodes, k, name_of(schema, rows, c)) {
+            return next;
+        }
+        c = next;
+    }
+    0
+}
+
+// Whether row c of a sound table has a name: most differ in size.
+fn is_named(schema: &[u8], rows: &[u32], c: usize, name: &[u8]) -> bool
+    ensures { λ b. ⌜ RowNamed (now (schema .entry)) (now (rows .entry)) (now (name .entry)) c b ⌝ }
+{
+    if wide(word(rows, c, 2)) != name.len() {
+        return false;
+    }
+    same_bytes(name, name_of(schema, rows, c))
+}
+
+// The link of the first child of row r with a name; 0 if there is none.
+fn named_child(schema: &[u8], rows: &[u32], r: usize, name: &[u8]) -> usize
+    requires { ⌜ r < 2 ^ 39 ⌝ }
+    ensures { λ x. ⌜ ChildNamed (now (schema .entry)) (now (rows .entry)) (now (name .entry)) r x ⌝ }
+{
+    let a = first_child(rows, r);
+    let e = a + child_count(rows, r);
+    let mut c = a;
+    while c < e {
+        let next = c + 1;
+        if is_named(schema, rows, c, name) {
+            return next;
+        }
+        c = next;
+    }
+    0
+}
+
+// How many bytes stand between the quotes of a token from a to e.
+fn inner_size(a: usize, e: usize) -> usize
+    ensures { λ n. ⌜ n ≡ e - a - 2 ⌝ }
+{
+    if e <= a {
+        return 0;
+    }
+    if e - a < 2 {
+        return 0;
+    }
+    e - a - 2
+}
+
+// The bytes between the quotes of the key or string at node k.
+fn inner_bytes<'a>(m: &'a [u8], nodes: &[u32], k: usize) -> &'a [u8]
+    ensures { λ w. ⌜ InnerBytes (now (m .entry)) (now (nodes .entry)) k (now w) ⌝ }
+{
+    let a = node_number(nodes, k, 1);
+    let e = node_number(nodes, k, 2);
+    part_of(m, a + 1, inner_size(a, e))
+}
+
+// The same as `scanned_child`; the bytes of a plain key or string are compared as they are.
+fn short_child(schema: &[u8], rows: &[u32], m: &[u8], nodes: &[u32], r: usize, k: usize) -> usize
+    requires { ⌜ r < 2 ^ 39 ⌝ }
+    ensures { λ x. ⌜ ChildScanned (now (schema .entry)) (now (rows .entry)) (now (m .entry)) (now (nodes .entry)) r k x ⌝ }
+{
+    if plain_kind(node_word(nodes, k, 0)) {
+        return named_child(schema, rows, r, inner_bytes(m, nodes, k));
+    }
+    scanned_child(schema, rows, m, nodes, r, k)
+}
+
+// The same, where a long list is looked up in the index of a sound table.
+pub fn child_meant(
+    schema: &[u8],
+    rows: &[u32],
+    m: &[u8],
+    nodes: &[u32],
+    index: &[u32],
+    r: usize,
+    k: usize,
+) -> usize
+    requires { ⌜ r < 2 ^ 39 ⌝ }
+    ensures { λ x. ⌜ ChildMeant (now (schema .entry)) (now (rows .entry)) (now (m .entry)) (now (nodes .entry)) (now (index .entry)) r k x ⌝ }
+{
+    if is_long(rows, r) {
+        return indexed_child(schema, rows, m, nodes, index, r, k);
+    }
+    short_child(schema, rows, m, nodes, r, k)
+}
+
+// 1 if member c is mandatory, else 0.
+pub fn mandatory_one(rows: &[u32], c: usize) -> usize
+    ensures { λ x. ⌜ x ≡ mandatoryIn (now (rows .entry)) (c ∷ []) ⌝ }
+{
+    if word(rows, c, 5) == 0 {
+        return 1;
+    }
+    0
+}
+
+// How many children of row r are mandatory, where each is looked at.
+pub fn scanned_mandatory(rows: &[u32], r: usize) -> usize
+    requires { ⌜ r < 2 ^ 39 ⌝ }
+    ensures { λ x. ⌜ x ≡ mandatoryIn (now (rows .entry)) (children (now (rows .entry)) r) ⌝ }
+{
+    let a = first_child(rows, r);
+    let e = a + child_count(rows, r);
+    let mut n = 0;
+    let mut c = a;
+    while c < e {
+        n += mandatory_one(rows, c);
+        c += 1;
+    }
+    n
+}
+
+// The same, where a long list is counted in the index of a sound table.
+pub fn own_mandatory(rows: &[u32], index: &[u32], r: usize) -> usize
+    requires { ⌜ r < 2 ^ 39 ⌝ }
+    ensures { λ x. ⌜ OwnMandatory (now (rows .entry)) (now (index .entry)) r x ⌝ }
+{
+    if is_long(rows, r) {
+        return indexed_mandatory(index, r);
+    }
+    scanned_mandatory(rows, r)
+}

@@ -1,0 +1,102 @@
+// An index of long lists of children by their row and name, over lent words: heads of buckets, a link for each row, a count for each row.
+use crate::children::scanned_mandatory;
+use crate::marks::name_mark;
+use crate::marks::owner_mark;
+use buckets::BUCKETS;
+use rows::names::name_of;
+use rows::rows::child_count;
+use rows::rows::first_child;
+use rows::rows::is_inline;
+use rules::ROW_WORDS;
+use rules::TABLE_ROWS;
+ghost use mathlib.Core.Path.{_≡_};
+ghost use mathlib.Core.Bool.{true};
+ghost use Prim.Native.Nat.{_+_, _≤_, _<_};
+ghost use lib.ListN.{length, replicate};
+ghost use Rattle.grammar.specs.Limits.{table-rows};
+ghost use Rattle.rules.specs.Rows.{inline};
+ghost use Rattle.rules.specs.Sound.{sound};
+ghost use Rattle.children.specs.Index.{index-words, isLong, Filled};
+ghost use Rattle.children.specs.Filling.{Put, Counted, RunAdded, firstChild, pastChildren, ListAdded, InlineAdded};
+
+pub const INDEX_WORDS: usize = BUCKETS + TABLE_ROWS + TABLE_ROWS;
+
+// Where the counts begin.
+pub const COUNTS: usize = BUCKETS + TABLE_ROWS;
+
+// A list of more children than these is long.
+const SHORT_LIST: usize = 16;
+
+pub fn is_long(rows: &[u32], r: usize) -> bool
+    ensures { λ b. ⌜ b ≡ isLong (now (rows .entry)) r ⌝ }
+{
+    SHORT_LIST < child_count(rows, r)
+}
+
+// Puts row c first in the bucket of a mark.
+fn put_child(index: &mut [u32], mark: u32, c: usize)
+    requires { ⌜ (length (now index) ≡ index-words) × (c < table-rows) ⌝ }
+    ensures { λ _. ⌜ Put (now (index .entry)) mark c (now (index .exit)) ⌝ }
+{
+    let h = mark as usize % BUCKETS;
+    index[BUCKETS + c] = index[h];
+    index[h] = (c + 1) as u32;
+}
+
+// Puts the children of row r into the index.
+fn add_children(schema: &[u8], rows: &[u32], index: &mut [u32], r: usize)
+    requires { ⌜ (length (now index) ≡ index-words) × (pastChildren (now rows) r ≤ table-rows) ⌝ }
+    ensures { λ _. ⌜ RunAdded (now (schema .entry)) (now (rows .entry)) (now (index .entry)) r (firstChild (now (rows .entry)) r) (pastChildren (now (rows .entry)) r) (now (index .exit)) ⌝ }
+{
+    let a = first_child(rows, r);
+    let e = a + child_count(rows, r);
+    let mut c = a;
+    while c < e {
+        let mark = owner_mark(name_mark(name_of(schema, rows, c)), r);
+        put_child(index, mark, c);
+        c += 1;
+    }
+}
+
+// Counts the mandatory children of row r.
+fn put_count(rows: &[u32], index: &mut [u32], r: usize)
+    requires { ⌜ (length (now index) ≡ index-words) × (pastChildren (now rows) r ≤ table-rows) ⌝ }
+    ensures { λ _. ⌜ Counted (now (rows .entry)) (now (index .entry)) r (now (index .exit)) ⌝ }
+{
+    index[COUNTS + r] = scanned_mandatory(rows, r) as u32;
+}
+
+// Puts the list of row r into the index if it is long.
+fn add_list(schema: &[u8], rows: &[u32], index: &mut [u32], r: usize)
+    requires { ⌜ (length (now index) ≡ index-words) × (pastChildren (now rows) r ≤ table-rows) ⌝ }
+    ensures { λ _. ⌜ ListAdded (now (schema .entry)) (now (rows .entry)) (now (index .entry)) r (now (index .exit)) ⌝ }
+{
+    if is_long(rows, r) {
+        add_children(schema, rows, index, r);
+        put_count(rows, index, r);
+    }
+}
+
+// Puts the list of row r's inline struct into the index if there is one and it is long.
+fn add_inline(schema: &[u8], rows: &[u32], index: &mut [u32], r: usize)
+    requires { ⌜ (length (now index) ≡ index-words) × (pastChildren (now rows) r ≤ table-rows) ⌝ }
+    ensures { λ _. ⌜ InlineAdded (now (schema .entry)) (now (rows .entry)) (now (index .entry)) r (now (index .exit)) ⌝ }
+{
+    if is_inline(rows, r + 1) {
+        add_list(schema, rows, index, r + 1);
+    }
+}
+
+// Fills the index of a sound table: the rows are looked at definition by definition.
+pub fn fill_index(schema: &[u8], rows: &[u32], index: &mut [u32])
+    requires { ⌜ (sound (now schema) (now rows) ≡ true) × (now index ≡ replicate index-words 0) ⌝ }
+    ensures { λ _. ⌜ Filled (now (schema .entry)) (now (rows .entry)) (now (index .exit)) ⌝ }
+{
+    let n = rows.len() / ROW_WORDS;
+    let mut r = 0;
+    while r < n {
+        add_inline(schema, rows, index, r);
+        add_list(schema, rows, index, r);
+        r = first_child(rows, r) + child_count(rows, r);
+    }
+}

@@ -1,0 +1,5 @@
+// Children of rows, as the keys and strings of a message ask for them: short lists are looked through, long ones have an index.
+pub mod children;
+pub mod index;
+mod lookup;
+mod marks;

@@ -1,0 +1,106 @@
+// The structs whose members an object has at a type.
+use crate::mandatory::both_there;
+use children::children::child_meant;
+use lookups::values::is_string;
+use lookups::values::value_at;
+use rows::names::name_of;
+use rows::rows::wide;
+use rows::rows::word;
+use rules::FIRST_ROW;
+ghost use mathlib.Core.Path.{_≡_};
+ghost use Prim.Native.Nat.{_-_, _<_, _^_};
+ghost use Rattle.members.specs.Members.{StructsAt, BranchOf, ObjectAt};
+
+// A type reference, a word of a row, from here on is to a row.
+pub const FIRST_REFERENCE: u32 = FIRST_ROW as u32;
+
+// The row that a link is to; 0 for none.
+fn row_of(link: u32) -> usize
+    ensures { λ r. ⌜ r ≡ link - 1 ⌝ }
+{
+    if link == 0 {
+        return 0;
+    }
+    wide(link - 1)
+}
+
+// The structs whose members an object has: one, or a union's base and its branch's; links, 0 for none.
+pub enum Structs {
+    Two(u32, u32),
+    Neither,
+}
+
+// The base of the union at row r and the branch that the object at node k chooses, wherever its discriminator stands.
+fn branch_of(
+    schema: &[u8],
+    rows: &[u32],
+    m: &[u8],
+    nodes: &[u32],
+    index: &[u32],
+    r: usize,
+    k: usize,
+) -> Structs
+    requires { ⌜ r < 2 ^ 39 ⌝ }
+    ensures { λ x. ⌜ BranchOf (now (schema .entry)) (now (rows .entry)) (now (m .entry)) (now (nodes .entry)) (now (index .entry)) r k x ⌝ }
+{
+    let tag = row_of(word(rows, r, 5));
+    let v = value_at(m, false, nodes, k, name_of(schema, rows, tag));
+    if v == 0 {
+        return Structs::Neither;
+    }
+    if !is_string(nodes, v) {
+        return Structs::Neither;
+    }
+    let b = child_meant(schema, rows, m, nodes, index, r, v);
+    let base = word(rows, r, 3);
+    if b == 0 {
+        return Structs::Two(base, 0);
+    }
+    Structs::Two(base, word(rows, b - 1, 3))
+}
+
+// The structs for the object at node k at the type reference t.
+fn structs_at(
+    schema: &[u8],
+    rows: &[u32],
+    m: &[u8],
+    nodes: &[u32],
+    index: &[u32],
+    k: usize,
+    t: u32,
+) -> Structs
+    ensures { λ x. ⌜ StructsAt (now (schema .entry)) (now (rows .entry)) (now (m .entry)) (now (nodes .entry)) (now (index .entry)) k t x ⌝ }
+{
+    if t < FIRST_REFERENCE {
+        return Structs::Neither;
+    }
+    let row = t - FIRST_REFERENCE;
+    let r = wide(row);
+    match word(rows, r, 0) {
+        3 => Structs::Two(row + 1, 0),
+        5 => branch_of(schema, rows, m, nodes, index, r, k),
+        _ => Structs::Neither,
+    }
+}
+
+// The same, where every mandatory member is there.
+pub fn object_at(
+    schema: &[u8],
+    rows: &[u32],
+    m: &[u8],
+    nodes: &[u32],
+    index: &[u32],
+    k: usize,
+    t: u32,
+) -> Structs
+    ensures { λ x. ⌜ ObjectAt (now (schema .entry)) (now (rows .entry)) (now (m .entry)) (now (nodes .entry)) (now (index .entry)) k t x ⌝ }
+{
+    let s = structs_at(schema, rows, m, nodes, index, k, t);
+    let Structs::Two(base, branch) = s else {
+        return Structs::Neither;
+    };
+    if !both_there(schema, rows, m, nodes, index, base, branch, k) {
+        return Structs::Neither;
+    }
+    Structs::Two(base, branch)
+}
