@@ -1,6 +1,7 @@
 //! The message call: number, command row, count and every word lent.
 
 mod edges;
+mod lists;
 
 use generate::messages::{MessageCase, Messages};
 use generate::shrink::{smallest, smallest_table};
@@ -25,7 +26,9 @@ const RECORD: usize = 4;
 pub fn run(options: &Options, tally: &mut Tally) -> Check {
     tally.must_reach("message numbers", [0].into_iter().chain(21..=30));
     tally.must_reach("records lent", KINDS);
-    edges::compare(tally).map_err(|reason| format!("{reason}\nin a fixed message"))?;
+    edges::compare(tally)
+        .and_then(|_| lists::compare(tally))
+        .map_err(|reason| format!("{reason}\nin a fixed message"))?;
     for_each_round(options.rounds_or(DEFAULT_ROUNDS), |random, round| {
         let large = round % ROUNDS_A_LARGE_ONE == ROUNDS_A_LARGE_ONE - 1;
         let schema = if large { schemas::large(random) } else { schemas::valid(random) };

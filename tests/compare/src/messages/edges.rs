@@ -26,7 +26,7 @@ pub fn compare(tally: &mut Tally) -> Check {
     check_tables(call, tally)
 }
 
-fn check(call: Call, number: u32, tally: &mut Tally) -> Check {
+pub(super) fn check(call: Call, number: u32, tally: &mut Tally) -> Check {
     for seed in 0..3 {
         let answer = compare_call(call, seed, tally)?;
         check_expected("by the paper", call.message, answer.number, number)?;
