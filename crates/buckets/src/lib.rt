@@ -7,7 +7,7 @@ ghost use Rattle.buckets.specs.Buckets.{bucketOf, Added};
 
 pub const BUCKETS: usize = 512;
 
-fn bucket_of(mark: u32) -> usize
+pub fn bucket_of(mark: u32) -> usize
     ensures { λ r. ⌜ r ≡ bucketOf mark ⌝ }
 {
     mark as usize % BUCKETS

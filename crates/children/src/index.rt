@@ -3,6 +3,7 @@ use crate::children::scanned_mandatory;
 use crate::marks::name_mark;
 use crate::marks::owner_mark;
 use buckets::BUCKETS;
+use buckets::bucket_of;
 use rows::names::name_of;
 use rows::rows::child_count;
 use rows::rows::first_child;
@@ -38,7 +39,7 @@ fn put_child(index: &mut [u32], mark: u32, c: usize)
     requires { ⌜ (length (now index) ≡ index-words) × (c < table-rows) ⌝ }
     ensures { λ _. ⌜ Put (now (index .entry)) mark c (now (index .exit)) ⌝ }
 {
-    let h = mark as usize % BUCKETS;
+    let h = bucket_of(mark);
     index[BUCKETS + c] = index[h];
     index[h] = (c + 1) as u32;
 }

@@ -4,6 +4,7 @@ use crate::index::INDEX_WORDS;
 use crate::marks::meaning_mark;
 use crate::marks::owner_mark;
 use buckets::BUCKETS;
+use buckets::bucket_of;
 use buckets::next;
 use lookups::values::node_means;
 use rows::names::name_of;
@@ -86,7 +87,7 @@ pub fn indexed_child(
         return 0;
     }
     let mark = owner_mark(meaning_mark(m, nodes, k), r);
-    let h = mark as usize % BUCKETS;
+    let h = bucket_of(mark);
     let head = wide(index[h]);
     let a = first_child(rows, r);
     let e = a + child_count(rows, r);

@@ -122,7 +122,7 @@ no-arguments m = (record { has-kind = refl; has-start = refl; has-end = refl }, 
 
 -- words for twice as many nodes as a message of so many bytes can have
 pub nodes-fit : (n : ℕ) {m w : List ℕ} → length w ≡ 4 * n → length m ≤ 2 * n → 4 * n < 2 ^ 32 → NodesFit m w
-nodes-fit n e h k = record { enough = omega arith; whole-nodes = omega arith; short = omega arith; small = omega arith }
+nodes-fit n e h k = record { enough = omega arith; whole-nodes = omega arith; small = omega arith }
 
 -- texts that are none
 pub faulty : {m v w : List ℕ} {x : Text} {e : ℕ} → ReadsMessage m v w x → x ≡ Texts.Fault e → readMessage m ≡ fault e
@@ -132,7 +132,7 @@ pub deeper : {m v w : List ℕ} {x : Text} {e : ℕ} → ReadsMessage m v w x �
 deeper {m} {w = w} r p = message-too-deep (subst (λ (y : Text). MessageTold m w y) p (r .told))
 
 pub never : {m v w : List ℕ} {x : Text} → ReadsMessage m v w x → x ≡ Texts.TooLong → NodesFit m v → ⊥
-never {m} {w = w} r p h = let z : 2 ^ 31 ≤ length m = subst (λ (y : Text). MessageTold m w y) p (r .told) in omega (arith, h .short)
+never {m} {w = w} r p h = let z : 2 ^ 31 ≤ length m = subst (λ (y : Text). MessageTold m w y) p (r .told) in omega (arith, h .enough, h .small)
 
 module _ {S T m w : List ℕ} where
   pub row-absent : {k c : ℕ} {oob : Bool} → FoundRow S T m w k c oob → k ≡ 0 → CallsRow S T m (9 ∷ 0 ∷ 0 ∷ 1 ∷ []) 0 c oob

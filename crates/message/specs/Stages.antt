@@ -71,7 +71,6 @@ short-message = 4096
 pub record NodesFit (m w : List ℕ) : Type 0 where
   pub enough : 2 * length m ≤ length w
   pub whole-nodes : length w % 4 ≡ 0
-  pub short : length m < 2 ^ 31
   pub small : length w < 2 ^ 32
 
 -- What has been found before a stage: a sound table; and the message's value in the nodes

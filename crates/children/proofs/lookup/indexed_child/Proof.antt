@@ -1,8 +1,11 @@
 -- `lookup::indexed_child` meets its contract: the chain of the bucket of what is meant, over the rows of the list.
-use borrow.Author.Needs.{needs}
+use mathlib.Core.Path.{ap, _∙_}
+use Prim.Native.Nat.{ℕ}
+use lib.ListN.{getD}
 use Rattle.children.proofs.LookupLaws.{child-indexed}
 use Rattle.children.specs.Index.{linksOf}
 use Rattle.rows.proofs.ChildLaws.{end-fits}
+use borrow.Author.Needs.{needs}
 use Rattle.children.proofs.lookup.indexed_child.Statement.{statement}
 use Rattle.children.proofs.lookup.indexed_child.Tie as tie
 
@@ -15,8 +18,8 @@ meaning-mark-requires c κs = search needs
 owner-mark-requires : tie.Need-owner-mark-requires
 owner-mark-requires c κs = search needs
 
-cast-h : tie.Need-cast-h
-cast-h c = search needs
+bucket-of-requires : tie.Need-bucket-of-requires
+bucket-of-requires c κs = search needs
 
 mul-wide : tie.Need-mul-wide
 mul-wide c = search needs
@@ -34,7 +37,7 @@ child-count-requires : tie.Need-child-count-requires
 child-count-requires c κs = search needs
 
 add-e : tie.Need-add-e
-add-e c = end-fits _ (c .before .before .before .before .before .before .before .before .before .before .shared-slice-known2 .given) _ (c .before .before .before .before .before .before .before .before .before .before .before .before .pre) (c .before .first-child .ensures) (c .child-count .ensures)
+add-e c = end-fits _ (c .before .before .before .before .before .before .before .before .before .before .before .shared-slice-known2 .given) _ (c .before .before .before .before .before .before .before .before .before .before .before .before .before .pre) (c .before .first-child .ensures) (c .child-count .ensures)
 
 sub-listed-child : tie.Need-sub-listed-child
 sub-listed-child c = search needs
@@ -50,7 +53,10 @@ listed-child-requires c κs = search needs
 
 returns-2 : tie.Need-returns-2
 unfolding linksOf
-returns-2 c = child-indexed (c .before .before .before .before .before .before .before .meaning-mark .ensures) (c .before .before .before .before .before .before .owner-mark .ensures) (c .before .before .before .before .wide .ensures) (c .before .before .before .first-child .ensures) (c .before .before .child-count .ensures) (c .listed-child .ensures)
+returns-2 c =
+    let i = c .before .before .before .before .before .before .before .before .before .before .before .before .before .before .before .args .index .now in
+    child-indexed (c .before .before .before .before .before .before .before .before .meaning-mark .ensures) (c .before .before .before .before .before .before .before .owner-mark .ensures) (c .before .before .before .before .wide .ensures ∙ ap (λ (h : ℕ). getD i h 0) (c .before .before .before .before .before .before .bucket-of .ensures)) (c .before .before .before .first-child .ensures)
+    (c .before .before .child-count .ensures) (c .listed-child .ensures)
 
 pub indexed-child-spec : {M : Type 1} → statement M
 indexed-child-spec =
@@ -59,7 +65,7 @@ indexed-child-spec =
     returns
     meaning-mark-requires
     owner-mark-requires
-    cast-h
+    bucket-of-requires
     mul-wide
     shared-slice-read-wide
     wide-requires
