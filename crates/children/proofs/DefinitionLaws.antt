@@ -3,7 +3,6 @@
 use Prim.{tt}
 use Prim.Native.Nat.{ℕ, zero, suc, _+_, _%_, _≤_, _<_}
 use native.Mathlib.Nat.{eq-or-lt-of-le}
-use native.Mathlib.Numerals.{add-one}
 use native.Mathlib.Omega.{arith}
 use mathlib.Core.Path.{_≡_, refl, sym, ap, _∙_, subst}
 use mathlib.Core.Bool.{Bool, true, false}
@@ -15,14 +14,15 @@ use borrow.Author.Tests.{ne-eqb, eqb-true, eqb-false, ltb-true, ltb-false, leb-t
 use Rattle.grammar.specs.Limits.{table-rows}
 use Rattle.buckets.specs.Buckets.{buckets}
 use Rattle.buckets.proofs.BucketLaws.{index-empty}
-use Rattle.rules.specs.Rows.{rowCount, kind, count, inline, inlineRows, childCount, children}
+use Rattle.rules.specs.Rows.{rowCount, kind, next, owns, firstChild, childCount, children, pastChildren}
 use Rattle.rules.specs.Sound.{sound, definitionAt, laidOut}
-use Rattle.rules.proofs.Lists.{clash, and-left, and-right, in-upFrom}
-use Rattle.rules.proofs.TableRows.{no-children, inline-struct, no-inline, inline-rows}
+use Rattle.rules.proofs.Lists.{clash, and-left, and-right}
+use Rattle.rules.proofs.TableRows.{next-above, next-only, no-children, owned-struct, first-plain, struct-plain, owner-first, first-above, past-children-least, in-children}
+use Rattle.rows.specs.Rows.{Follows}
 use Rattle.rules.proofs.SoundFacts.{SoundFacts, sound-facts}
 use Rattle.table.proofs.LayoutFacts.{Left, left-all, left-stuck, left-on, left-none}
 use Rattle.children.specs.Index.{index-words, short-list, headsOf, linksOf, isLong, rowOf, childMark, Filled}
-use Rattle.children.specs.Filling.{firstChild, pastChildren, Listing, ListAdded, InlineAdded}
+use Rattle.children.specs.Filling.{Listing, ListAdded, InlineAdded}
 use Rattle.children.proofs.FillLaws.{chained-wider}
 
 -- rows that have no children
@@ -35,28 +35,19 @@ module _ (T : List ℕ) where
   unfolding isLong
   long-odd r t e = let l : short-list < childCount T r = ltb-true short-list (childCount T r) t in omega (arith, none-even r e)
 
-  struct-count : (r : ℕ) → kind T r ≡ 3 → childCount T r ≡ count T r
-  unfolding childCount
-  struct-count r k = rw k refl
-
-  -- the children of an inline struct end where those of its owner begin
-  pub inline-past : (r : ℕ) → inline T (suc r) ≡ true → pastChildren T (suc r) ≡ firstChild T r
-  inline-past r e = let k : kind T (suc r) ≡ 3 = inline-struct T (suc r) e in omega (arith, no-inline T (suc r) k, struct-count (suc r) k, inline-rows T r true e)
-
-  -- the row after row r was asked
-  tested : (r : ℕ) {b : Bool} → b ≡ inline T (r + 1) → inline T (suc r) ≡ b
-  tested r p = ap (inline T) (sym (add-one r)) ∙ sym p
-
-  pub inline-fits : (r : ℕ) {b : Bool} → b ≡ inline T (r + 1) → b ≡ true → pastChildren T r ≤ table-rows → pastChildren T (r + 1) ≤ table-rows
-  inline-fits r p t h = rw add-one (omega (arith, inline-past r (tested r p ∙ t)))
+  -- an inline struct's rows lie within its owner's
+  pub inline-fits : (r : ℕ) {b : Bool} {s : ℕ} → b ≡ owns T r → b ≡ true → Follows T r s → pastChildren T r ≤ table-rows → pastChildren T s ≤ table-rows
+  inline-fits r p t f h =
+      let z : firstChild T r ≡ pastChildren T (next T r) = owner-first T r (sym p ∙ t) in
+      rw (f .is) (omega (arith, past-children-least T r))
 
 -- the list of an inline struct
-module _ {S T ix : List ℕ} {r : ℕ} {b : Bool} (p : b ≡ inline T (r + 1)) where
-  pub inline-list : b ≡ true → {ix′ : List ℕ} → ListAdded S T ix (r + 1) ix′ → InlineAdded S T ix r ix′
-  inline-list t {ix′} a = record { room = a .room; there = λ e. subst (λ (k : ℕ). ListAdded S T ix k ix′) (add-one r) a; none = λ e. absurd (clash (tested T r p ∙ t) e) }
+module _ {S T ix : List ℕ} {r : ℕ} {b : Bool} (p : b ≡ owns T r) where
+  pub inline-list : b ≡ true → {s : ℕ} {ix′ : List ℕ} → Follows T r s → ListAdded S T ix s ix′ → InlineAdded S T ix r ix′
+  inline-list t {ix′ = ix′} f a = record { room = a .room; there = λ e. subst (λ (k : ℕ). ListAdded S T ix k ix′) (f .is) a; none = λ e. absurd (clash (sym p ∙ t) e) }
 
   pub inline-none : b ≡ false → InlineAdded S T ix r ix
-  inline-none t = record { room = refl; there = λ e. absurd (clash e (tested T r p ∙ t)); none = λ e. refl }
+  inline-none t = record { room = refl; there = λ e. absurd (clash e (sym p ∙ t)); none = λ e. refl }
 
 module _ (S T : List ℕ) (s : sound S T ≡ true) where
   facts : SoundFacts S T
@@ -75,11 +66,10 @@ module _ (S T : List ℕ) (s : sound S T ≡ true) where
 
   -- a child's list is not long
   child-short : (r c : ℕ) → firstChild T r ≤ c → c < pastChildren T r → isLong T c ≡ true → ⊥
-  unfolding children
   child-short r c h k t = go (eqb (kind T r % 2) 0) refl
     where
       m : List·Memᴰ c (children T r)
-      m = in-upFrom (childCount T r) (firstChild T r) c h k
+      m = in-children T r c h k
 
       go : (b : Bool) → eqb (kind T r % 2) 0 ≡ b → ⊥
       go true e = let z : kind T r % 2 ≡ 0 = eqb-true (kind T r % 2) 0 e in elim (subst (List·Memᴰ c) (no-children T r (omega arith)) m) [ ]
@@ -145,18 +135,23 @@ module _ {S T ix : List ℕ} (s : sound S T ≡ true) {r : ℕ} (v : Filling S T
         go false e = let l : pastChildren T r ≤ rowCount T = ltb-false (rowCount T) (pastChildren T r) e in omega (arith, few-rows S T s)
 
     -- a long row within a definition, after its own, is its inline struct's
-    inner-long : (x : ℕ) → r < x → x < pastChildren T r → isLong T x ≡ true → (inline T (suc r) ≡ true) × (x ≡ suc r)
-    inner-long x y l t = go (ltb x (firstChild T r)) refl (inline T (suc r)) refl
+    inner-long : (x : ℕ) → r < x → x < pastChildren T r → isLong T x ≡ true → (owns T r ≡ true) × (x ≡ next T r)
+    inner-long x y l t = own (ltb x (next T r)) refl (ltb x (firstChild T r)) refl
       where
-        go : (b : Bool) → ltb x (firstChild T r) ≡ b → (i : Bool) → inline T (suc r) ≡ i → (inline T (suc r) ≡ true) × (x ≡ suc r)
-        go false q i e = absurd (child-short S T s r x (ltb-false x (firstChild T r) q) l t)
-        go true q false e = let k : x < firstChild T r = ltb-true x (firstChild T r) q in absurd (omega (arith, inline-rows T r false e))
-        go true q true e =
-            let k : x < firstChild T r = ltb-true x (firstChild T r) q in
-            let z : inlineRows T (suc r) ≡ 0 = no-inline T (suc r) (inline-struct T (suc r) e) in
-            ⊎-elim (λ (p : suc r ≡ x). (e, sym p)) (λ (p : suc r < x). absurd (child-short S T s (suc r) x (omega arith) (omega (arith, inline-past T r e)) t)) (eq-or-lt-of-le y)
+        inner : next T r ≤ x → x < firstChild T r → (o : Bool) → owns T r ≡ o → (b : Bool) → ltb x (next T (next T r)) ≡ b → (owns T r ≡ true) × (x ≡ next T r)
+        inner p k false e b q = absurd (omega (arith, first-plain T r e))
+        inner p k true e true q = (e, sym (next-only T (next T r) x p (ltb-true x (next T (next T r)) q)))
+        inner p k true e false q =
+            let z : firstChild T (next T r) ≡ next T (next T r) = first-plain T (next T r) (struct-plain T (next T r) (owned-struct T r e)) in
+            let w : firstChild T r ≡ pastChildren T (next T r) = owner-first T r e in
+            absurd (child-short S T s (next T r) x (omega (arith, ltb-false x (next T (next T r)) q)) (omega arith) t)
 
-    all-met : (owners : List ℕ) → List·Memᴰ r owners → (inline T (suc r) ≡ true → List·Memᴰ (suc r) owners)
+        own : (b : Bool) → ltb x (next T r) ≡ b → (c : Bool) → ltb x (firstChild T r) ≡ c → (owns T r ≡ true) × (x ≡ next T r)
+        own true q c e = let z : r ≡ x = next-only T r x (omega arith) (ltb-true x (next T r) q) in absurd (omega arith)
+        own false q true e = inner (ltb-false x (next T r) q) (ltb-true x (firstChild T r) e) (owns T r) refl (ltb x (next T (next T r))) refl
+        own false q false e = absurd (child-short S T s r x (ltb-false x (firstChild T r) e) l t)
+
+    all-met : (owners : List ℕ) → List·Memᴰ r owners → (owns T r ≡ true → List·Memᴰ (next T r) owners)
         → ((x : ℕ) → List·Memᴰ x (v .owners) → List·Memᴰ x owners) → (x : ℕ) → x < pastChildren T r → isLong T x ≡ true → List·Memᴰ x owners
     all-met owners own inner old x l t = go (ltb x r) refl
       where
@@ -167,27 +162,27 @@ module _ {S T ix : List ℕ} (s : sound S T ≡ true) {r : ℕ} (v : Filling S T
             (λ (y : r < x). let p = inner-long x y l t in subst (λ (z : ℕ). List·Memᴰ z owners) (sym (p .1)) (inner (p .0))) (eq-or-lt-of-le (ltb-false x r q))
 
     module _ {ix₁ ix₂ : List ℕ} (i : InlineAdded S T ix r ix₁) (a : ListAdded S T ix₁ r ix₂) where
-      with-inline : inline T (suc r) ≡ true → Filling S T ix₂ (pastChildren T r)
+      with-inline : owns T r ≡ true → Filling S T ix₂ (pastChildren T r)
       with-inline e =
-          let p : pastChildren T (suc r) ≡ firstChild T r = inline-past T r e in
+          let p : firstChild T r ≡ pastChildren T (next T r) = owner-first T r e in
           record {
             left = left-past;
-            owners = r ∷ suc r ∷ v .owners;
-            listing = a .told (pastChildren T (suc r)) (suc r ∷ v .owners) (i .there e .told r (v .owners) (v .listing) (omega arith)) (omega arith);
-            all-long = all-met (r ∷ suc r ∷ v .owners) (List·Memᴰ·head refl) (λ _. List·Memᴰ·tail (List·Memᴰ·head refl)) (λ x m. List·Memᴰ·tail (List·Memᴰ·tail m));
+            owners = r ∷ next T r ∷ v .owners;
+            listing = a .told (pastChildren T (next T r)) (next T r ∷ v .owners) (i .there e .told r (v .owners) (v .listing) (omega (arith, next-above T r, first-above T (next T r)))) (omega arith);
+            all-long = all-met (r ∷ next T r ∷ v .owners) (List·Memᴰ·head refl) (λ _. List·Memᴰ·tail (List·Memᴰ·head refl)) (λ x m. List·Memᴰ·tail (List·Memᴰ·tail m));
           }
 
-      without-inline : inline T (suc r) ≡ false → Filling S T ix₂ (pastChildren T r)
+      without-inline : owns T r ≡ false → Filling S T ix₂ (pastChildren T r)
       without-inline e = record {
         left = left-past;
         owners = r ∷ v .owners;
-        listing = a .told r (v .owners) (subst (λ (w : List ℕ). Listing S T w r (v .owners)) (sym (i .none e)) (v .listing)) (omega arith);
+        listing = a .told r (v .owners) (subst (λ (w : List ℕ). Listing S T w r (v .owners)) (sym (i .none e)) (v .listing)) (omega (arith, first-above T r));
         all-long = all-met (r ∷ v .owners) (List·Memᴰ·head refl) (λ q. absurd (clash q e)) (λ x m. List·Memᴰ·tail m);
       }
 
-      pub filling-on : {next : ℕ} → next ≡ pastChildren T r → Filling S T ix₂ next
-      filling-on p = subst (Filling S T ix₂) (sym p) (go (inline T (suc r)) refl)
+      pub filling-on : {e : ℕ} → e ≡ pastChildren T r → Filling S T ix₂ e
+      filling-on p = subst (Filling S T ix₂) (sym p) (go (owns T r) refl)
         where
-          go : (b : Bool) → inline T (suc r) ≡ b → Filling S T ix₂ (pastChildren T r)
+          go : (b : Bool) → owns T r ≡ b → Filling S T ix₂ (pastChildren T r)
           go true e = with-inline e
           go false e = without-inline e

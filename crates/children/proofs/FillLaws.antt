@@ -1,25 +1,27 @@
 -- An index as it is filled, row by row and list by list.
 -- The idea: every row in the index is below the next one to come, which is therefore on no chain; what is listed stays so.
 use Prim.{tt}
-use Prim.Native.Nat.{ℕ, suc, _+_, _≤_, _<_}
-use native.Mathlib.Nat.{eq-or-lt-of-le}
-use native.Mathlib.Numerals.{add-one}
+use Prim.Native.Nat.{ℕ, suc, _-_, _≤_, _<_}
 use native.Mathlib.Omega.{arith}
 use mathlib.Core.Path.{_≡_, refl, sym, ap, _∙_, subst, subst₂}
 use mathlib.Core.Bool.{Bool, true, false}
-use mathlib.Core.Logic.{_⊎_, ⊎-elim}
+use mathlib.Core.Logic.{_⊎_, inl, inr, ⊎-elim}
 use mathlib.Core.List.{List, [], _∷_, List·Memᴰ, List·Memᴰ·head, List·Memᴰ·tail, List·Memᴰ·cases-cons}
 use lib.Dec.{eqb}
-use lib.ListN.{length}
+use lib.ListN.{length, getD}
 use borrow.Author.Tests.{eqb-true, eqb-false}
 use Rattle.grammar.specs.Limits.{table-rows}
 use Rattle.buckets.specs.Buckets.{All, Indexed}
 use Rattle.buckets.proofs.BucketLaws.{index-added}
 use Rattle.strings.specs.Marks.{markMore, markOf}
-use Rattle.rules.specs.Rows.{childCount, children, nameOf}
-use Rattle.rules.proofs.Lists.{clash, upFrom-bounds}
-use Rattle.children.specs.Index.{index-words, linksOf, isLong, Child, childAt, rowOf, childMark, Chained, Owned}
-use Rattle.children.specs.Filling.{Put, Counted, Grown, RunAdded, firstChild, pastChildren, ListAdded}
+use Rattle.rules.specs.Rows.{next, walk, past, firstChild, childCount, children, pastChildren, nameOf}
+use Rattle.rules.proofs.Lists.{clash}
+use Rattle.rules.proofs.TableRows.{next-above, past-children-above, past-children-least}
+use Rattle.rows.specs.Rows.{Follows, First, Counted as Sized}
+use Rattle.rows.proofs.LoopLaws.{walk-at, walk-over, past-next, past-within, past-over}
+use Rattle.rows.proofs.ChildLaws.{children-walk, children-past}
+use Rattle.children.specs.Index.{index-words, countPlace, linksOf, isLong, Child, childAt, rowOf, childMark, Chained, Owned}
+use Rattle.children.specs.Filling.{Put, Counted, Grown, ChildrenAdded, ListAdded}
 use Rattle.children.proofs.PartLaws.{heads-wide, links-wide, put-room, put-counts, put-added, counted-room, counted-heads, counted-links, counted-here, counted-other}
 
 all-weaker : {A : Type 0} (P Q : A → Type 0) → ((y : A) → P y → Q y) → (ys : List A) → All P ys → All Q ys
@@ -57,34 +59,69 @@ module _ {S T ix : List ℕ} {items : List Child} {n : ℕ} (v : Chained S T ix 
         few = omega (arith, v .few);
       }
 
--- the children of row r, from the first on
-pub run-start : {S T ix : List ℕ} {r a : ℕ} → RunAdded S T ix r a a ix
-run-start = record {
+-- the children of row r, from the first on: those but the n rows from c on came
+pub record Growing (S T ix : List ℕ) (r c n : ℕ) (items : List Child) : Type 0 where
+  pub more : List Child
+  pub chained : Chained S T ix more c
+  pub kept : (y : Child) → List·Memᴰ y items → List·Memᴰ y more
+  pub come : (x : ℕ) → List·Memᴰ x (children T r) → List·Memᴰ x (walk T c n) ⊎ List·Memᴰ (childAt x r) more
+
+pub record RunAdded (S T ix : List ℕ) (r c n : ℕ) (ix′ : List ℕ) : Type 0 where
+  pub room : length ix′ ≡ length ix
+  pub ends : past T c n ≡ pastChildren T r
+  pub counts : (x : ℕ) → getD ix′ (countPlace x) 0 ≡ getD ix (countPlace x) 0
+  pub told : (items : List Child) → Chained S T ix items (firstChild T r) → Growing S T ix′ r c n items
+
+pub run-start : {S T ix : List ℕ} {r a n : ℕ} → First T r a → Sized T r n → RunAdded S T ix r a n ix
+run-start {S} {T} {ix} p q = record {
   room = refl;
+  ends = children-past p q refl;
   counts = λ x. refl;
-  told = λ items v. record { more = items; chained = v; kept = λ y m. m; come = λ x h k. absurd (omega arith) };
+  told = λ items v. record {
+    more = items;
+    chained = subst (Chained S T ix items) (sym (p .is)) v;
+    kept = λ y m. m;
+    come = λ x m. inl (subst (List·Memᴰ x) (children-walk p q) m);
+  };
 }
 
-module _ {S T ix ix₁ : List ℕ} {r a c : ℕ} (v : RunAdded S T ix r a c ix₁) where
-  pub run-more : {name ix₂ : List ℕ} {n mark : ℕ} → c < table-rows → name ≡ nameOf S T c → n ≡ markOf name → mark ≡ markMore n r → Put ix₁ mark c ix₂
-      → RunAdded S T ix r a (c + 1) ix₂
-  run-more {name} {ix₂} {n} {mark} h qn qm q p = record {
-    room = put-room h p ∙ v .room;
-    counts = λ x. put-counts h p x ∙ v .counts x;
+module _ {S T ix ix₁ : List ℕ} {r c n : ℕ} (v : RunAdded S T ix r c n ix₁) where
+  pub run-within : 0 < n → pastChildren T r ≤ table-rows → c < table-rows
+  run-within h k = omega (arith, past-within T c n h, v .ends)
+
+  pub run-more : {name ix₂ : List ℕ} {k mark c′ : ℕ} → 0 < n → pastChildren T r ≤ table-rows → name ≡ nameOf S T c → k ≡ markOf name → mark ≡ markMore k r → Put ix₁ mark c ix₂
+      → Follows T c c′ → RunAdded S T ix r c′ (n - 1) ix₂
+  run-more {name} {ix₂} {k} {mark} {c′} l w qn qm q p f =
+      let h : c < table-rows = run-within l w in
+      record {
+        room = put-room h p ∙ v .room;
+        ends = sym (past-next l f) ∙ v .ends;
+        counts = λ x. put-counts h p x ∙ v .counts x;
+        told = λ items w.
+            let g = v .told items w in
+            record {
+              more = childAt c r ∷ g .more;
+              chained = chained-wider (chained-more (g .chained) r h (q ∙ ap (λ (x : ℕ). markMore x r) (qm ∙ ap markOf qn)) p) (omega (arith, f .is, next-above T c));
+              kept = λ y m. List·Memᴰ·tail (g .kept y m);
+              come = λ x m. ⊎-elim
+                  (λ i. ⊎-elim (λ (e : x ≡ c). inr (List·Memᴰ·head (ap (λ i. childAt i r) e))) inl (List·Memᴰ·cases-cons (subst (List·Memᴰ x) (walk-at T l (f .is)) i)))
+                  (λ i. inr (List·Memᴰ·tail i)) (g .come x m);
+            };
+      }
+
+  pub run-end : n ≤ 0 → ChildrenAdded S T ix r ix₁
+  run-end h = record {
+    room = v .room;
+    counts = v .counts;
     told = λ items w.
         let g = v .told items w in
         record {
-          more = childAt c r ∷ g .more;
-          chained = subst (Chained S T ix₂ (childAt c r ∷ g .more)) (sym (add-one c)) (chained-more (g .chained) r h (q ∙ ap (λ (x : ℕ). markMore x r) (qm ∙ ap markOf qn)) p);
-          kept = λ y m. List·Memᴰ·tail (g .kept y m);
-          come = λ x l k.
-              let z : x ≤ c = omega arith in
-              ⊎-elim (λ (e : x ≡ c). List·Memᴰ·head (ap (λ i. childAt i r) e)) (λ (e : x < c). List·Memᴰ·tail (g .come x l e)) (eq-or-lt-of-le z);
+          more = g .more;
+          chained = subst (Chained S T ix₁ (g .more)) (sym (past-over T c h) ∙ v .ends) (g .chained);
+          kept = g .kept;
+          come = λ x m. ⊎-elim (λ i. elim (subst (List·Memᴰ x) (walk-over T c h) i) [ ]) (λ i. i) (g .come x m);
         };
   }
-
-  pub run-end : {k : ℕ} → a ≡ firstChild T r → k ≡ childCount T r → c ≤ a + k → a + k ≤ c → RunAdded S T ix r (firstChild T r) (pastChildren T r) ix₁
-  run-end p q h l = let e : c ≡ pastChildren T r = omega arith in subst₂ (λ (x y : ℕ). RunAdded S T ix r x y ix₁) p e v
 
 -- the list of row r
 module _ {S T ix : List ℕ} {r : ℕ} where
@@ -93,21 +130,17 @@ module _ {S T ix : List ℕ} {r : ℕ} where
     room = refl;
     told = λ n owners l h. record {
       items = l .items;
-      chained = chained-wider (l .chained) (omega arith);
+      chained = chained-wider (l .chained) (omega (arith, past-children-least T r));
       owned = λ x m t. ⊎-elim (λ (e : x ≡ r). absurd (clash t (ap (isLong T) e ∙ sym p ∙ q))) (λ m′. l .owned x m′ t) (List·Memᴰ·cases-cons m);
     };
   }
 
   module _ {ix₁ ix₂ : List ℕ} (words : length ix ≡ index-words) (small : pastChildren T r ≤ table-rows)
-      (v : RunAdded S T ix r (firstChild T r) (pastChildren T r) ix₁) (p : Counted T ix₁ r ix₂) where
-    own : {items : List Child} (g : Grown S T ix₁ r (firstChild T r) (pastChildren T r) items) → Owned T ix₂ (g .more) r
-    unfolding children
-    own g = record {
-      listed = λ c m. let b = upFrom-bounds (childCount T r) (firstChild T r) c m in g .come c (b .0) (b .1);
-      counted = counted-here p (v .room ∙ words) (omega arith);
-    }
+      (v : ChildrenAdded S T ix r ix₁) (p : Counted T ix₁ r ix₂) where
+    own : {items : List Child} (g : Grown S T ix₁ r items) → Owned T ix₂ (g .more) r
+    own g = record { listed = g .come; counted = counted-here p (v .room ∙ words) (omega (arith, past-children-above T r)) }
 
-    other : {items : List Child} (g : Grown S T ix₁ r (firstChild T r) (pastChildren T r) items) (x : ℕ) → (x ≡ r → ⊥) → Owned T ix items x → Owned T ix₂ (g .more) x
+    other : {items : List Child} (g : Grown S T ix₁ r items) (x : ℕ) → (x ≡ r → ⊥) → Owned T ix items x → Owned T ix₂ (g .more) x
     other g x n o = record { listed = λ c m. g .kept (childAt c x) (o .listed c m); counted = counted-other p x n ∙ v .counts x ∙ o .counted }
 
     pub list-long : ListAdded S T ix r ix₂
@@ -118,7 +151,7 @@ module _ {S T ix : List ℕ} {r : ℕ} where
           record { items = g .more; chained = chained-counted (g .chained) p; owned = λ x m t. go (l .items) g x (λ m′. l .owned x m′ t) (List·Memᴰ·cases-cons m) (eqb x r) refl };
     }
       where
-        go : {owners : List ℕ} (items : List Child) (g : Grown S T ix₁ r (firstChild T r) (pastChildren T r) items) (x : ℕ) → (List·Memᴰ x owners → Owned T ix items x)
+        go : {owners : List ℕ} (items : List Child) (g : Grown S T ix₁ r items) (x : ℕ) → (List·Memᴰ x owners → Owned T ix items x)
             → (x ≡ r) ⊎ List·Memᴰ x owners → (b : Bool) → eqb x r ≡ b → Owned T ix₂ (g .more) x
         go items g x old m true e = subst (Owned T ix₂ (g .more)) (sym (eqb-true x r e)) (own g)
         go items g x old m false e = other g x (eqb-false x r e) (⊎-elim (λ q. absurd (eqb-false x r e q)) old m)

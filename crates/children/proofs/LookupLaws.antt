@@ -14,16 +14,17 @@ use Rattle.grammar.specs.Machine.Message.{message}
 use Rattle.buckets.specs.Buckets.{bucketOf, Chain, inBucket}
 use Rattle.buckets.proofs.BucketLaws.{bucket-short, index-walk}
 use Rattle.strings.specs.Marks.{markMore, markOf}
-use Rattle.rules.specs.Rows.{childCount, children, nameOf}
+use Rattle.rules.specs.Rows.{firstChild, children, pastChildren, nameOf}
 use Rattle.rules.specs.SchemaTable.{memberIn}
-use Rattle.rules.proofs.Lists.{clash, and-left, and-right, same-true, same-is, upFrom-bounds, in-upFrom, in-map, apart-injective}
+use Rattle.rules.proofs.Lists.{clash, and-left, and-right, same-true, same-is, in-map, apart-injective}
+use Rattle.rules.proofs.TableRows.{in-children, children-bounds}
 use Rattle.rules.proofs.Lookups.{member-found, member-finds}
 use Rattle.rules.proofs.SoundFacts.{sound-facts}
 use Rattle.rows.specs.Index.{itself}
 use Rattle.rows.proofs.IndexLaws.{Walk, walk-start, walk-hit, walk-on, walk-end, walk-out}
 use Rattle.lookups.specs.Lookups.{NodeMeans}
 use Rattle.children.specs.Index.{headsOf, linksOf, isLong, Child, childAt, rowOf, childMark, Given}
-use Rattle.children.specs.Filling.{firstChild, pastChildren}
+use Rattle.rows.specs.Rows.{First}
 use Rattle.children.specs.Children.{MeaningAt}
 use Rattle.children.specs.Lookup.{namedIn, firstNamed, MeaningMark, RowMeant, ChildListed, ChildIndexed}
 use Rattle.children.proofs.PartLaws.{head-at}
@@ -128,12 +129,10 @@ module _ {S T ix : List ℕ} (g : Given S T ix) (cs : List ℕ) (r : ℕ) (long 
 
   module _ {a e : ℕ} (pa : a ≡ firstChild T r) (pe : e ≡ pastChildren T r) where
     a-child : (c : ℕ) → a ≤ c → c < e → List·Memᴰ c (children T r)
-    unfolding children
-    a-child c h l = in-upFrom (childCount T r) (firstChild T r) c (omega arith) (omega arith)
+    a-child c h l = in-children T r c (omega arith) (omega arith)
 
     within : (c : ℕ) → List·Memᴰ c (children T r) → (a ≤ c) × (c < e)
-    unfolding children
-    within c m = let b = upFrom-bounds (childCount T r) (firstChild T r) c m in (omega (arith, b .0), omega (arith, b .1))
+    within c m = let b = children-bounds T r c m in (omega (arith, b .0), omega (arith, b .1))
 
     bucket-finds : firstNamed S T cs a e (map rowOf bucket) ≡ memberIn S T cs (children T r)
     bucket-finds = go (memberIn S T cs (children T r)) refl
@@ -162,9 +161,9 @@ module _ {S T ix : List ℕ} (g : Given S T ix) (cs : List ℕ) (r : ℕ) (long 
         let n : length (map rowOf bucket) ≤ table-rows = omega (arith, length-map bucket rowOf, bucket-short (childMark S T) (bucketOf (markMore (markOf cs) r)) (g .filled .items), chained .few) in
         sym (l .told cs u (map rowOf bucket) (chain-rows (linksOf ix) head bucket (index-walk rowOf (childMark S T) (chained .chains) (markMore (markOf cs) r) h)) n) ∙ bucket-finds
 
-pub child-indexed : {S T m w ix : List ℕ} {r k a n own mark head x : ℕ} → MeaningMark m w k own → mark ≡ markMore own r → head ≡ getD ix (bucketOf mark) 0
-    → a ≡ firstChild T r → n ≡ childCount T r → ChildListed S T m w (linksOf ix) head a (a + n) k x → ChildIndexed S T m w ix r k x
-child-indexed {ix = ix} {r = r} o p q pa pn l = record {
+pub child-indexed : {S T m w ix : List ℕ} {r k a e own mark head x : ℕ} → MeaningMark m w k own → mark ≡ markMore own r → head ≡ getD ix (bucketOf mark) 0
+    → First T r a → e ≡ pastChildren T r → ChildListed S T m w (linksOf ix) head a e k x → ChildIndexed S T m w ix r k x
+child-indexed {ix = ix} {r = r} o p q pa pe l = record {
   told = λ long cs g u.
-      listed-child g cs r long pa (omega arith) u (q ∙ ap (λ (y : ℕ). getD ix (bucketOf y) 0) (p ∙ ap (λ (y : ℕ). markMore y r) (o .told cs u))) l;
+      listed-child g cs r long (pa .is) pe u (q ∙ ap (λ (y : ℕ). getD ix (bucketOf y) 0) (p ∙ ap (λ (y : ℕ). markMore y r) (o .told cs u))) l;
 }

@@ -1,11 +1,11 @@
 -- Serves contracts: what the functions that fill an index make of it, whatever it listed before.
-use Prim.Native.Nat.{ℕ, suc, _+_, _≤_, _<_}
+use Prim.Native.Nat.{ℕ, suc, _+_, _≤_}
 use mathlib.Core.Path.{_≡_}
 use mathlib.Core.Bool.{true, false}
 use mathlib.Core.List.{List, _∷_, List·Memᴰ}
 use lib.ListN.{length, getD, set}
 use Rattle.buckets.specs.Buckets.{buckets, bucketOf}
-use Rattle.rules.specs.Rows.{inline, inlineRows, childCount, children}
+use Rattle.rules.specs.Rows.{next, owns, firstChild, children, pastChildren}
 use Rattle.children.specs.Counts.{mandatoryIn}
 use Rattle.children.specs.Index.{countPlace, isLong, Child, childAt, Chained, Owned}
 
@@ -17,24 +17,17 @@ pub record Put (ix : List ℕ) (mark c : ℕ) (ix′ : List ℕ) : Type 0 where
 pub record Counted (T ix : List ℕ) (r : ℕ) (ix′ : List ℕ) : Type 0 where
   pub stored : ix′ ≡ set ix (countPlace r) (mandatoryIn T (children T r))
 
--- to the items came rows a up to c, as children of row r
-pub record Grown (S T ix : List ℕ) (r a c : ℕ) (items : List Child) : Type 0 where
+-- to the items came the children of row r
+pub record Grown (S T ix : List ℕ) (r : ℕ) (items : List Child) : Type 0 where
   pub more : List Child
-  pub chained : Chained S T ix more c
+  pub chained : Chained S T ix more (pastChildren T r)
   pub kept : (y : Child) → List·Memᴰ y items → List·Memᴰ y more
-  pub come : (x : ℕ) → a ≤ x → x < c → List·Memᴰ (childAt x r) more
+  pub come : (x : ℕ) → List·Memᴰ x (children T r) → List·Memᴰ (childAt x r) more
 
-pub record RunAdded (S T ix : List ℕ) (r a c : ℕ) (ix′ : List ℕ) : Type 0 where
+pub record ChildrenAdded (S T ix : List ℕ) (r : ℕ) (ix′ : List ℕ) : Type 0 where
   pub room : length ix′ ≡ length ix
   pub counts : (x : ℕ) → getD ix′ (countPlace x) 0 ≡ getD ix (countPlace x) 0
-  pub told : (items : List Child) → Chained S T ix items a → Grown S T ix′ r a c items
-
--- the first child of row r, and past the last
-abbrev pub firstChild : List ℕ → ℕ → ℕ
-firstChild T r = suc r + inlineRows T r
-
-abbrev pub pastChildren : List ℕ → ℕ → ℕ
-pastChildren T r = suc r + inlineRows T r + childCount T r
+  pub told : (items : List Child) → Chained S T ix items (firstChild T r) → Grown S T ix′ r items
 
 -- the rows in the index are below n; the lists of these owners are in it, where they are long
 pub record Listing (S T ix : List ℕ) (n : ℕ) (owners : List ℕ) : Type 0 where
@@ -50,5 +43,5 @@ pub record ListAdded (S T ix : List ℕ) (r : ℕ) (ix′ : List ℕ) : Type 0 w
 -- the list of row r's inline struct did, if it has one
 pub record InlineAdded (S T ix : List ℕ) (r : ℕ) (ix′ : List ℕ) : Type 0 where
   pub room : length ix′ ≡ length ix
-  pub there : inline T (suc r) ≡ true → ListAdded S T ix (suc r) ix′
-  pub none : inline T (suc r) ≡ false → ix′ ≡ ix
+  pub there : owns T r ≡ true → ListAdded S T ix (next T r) ix′
+  pub none : owns T r ≡ false → ix′ ≡ ix

@@ -9,6 +9,7 @@ use rows::names::part_of;
 use rows::names::same_bytes;
 use rows::rows::child_count;
 use rows::rows::first_child;
+use rows::rows::next_row;
 use rows::rows::wide;
 use rows::rows::word;
 use text::nodes::node_number;
@@ -25,15 +26,14 @@ fn scanned_child(schema: &[u8], rows: &[u32], m: &[u8], nodes: &[u32], r: usize,
     requires { ⌜ r < 2 ^ 39 ⌝ }
     ensures { λ x. ⌜ ChildScanned (now (schema .entry)) (now (rows .entry)) (now (m .entry)) (now (nodes .entry)) r k x ⌝ }
 {
-    let a = first_child(rows, r);
-    let e = a + child_count(rows, r);
-    let mut c = a;
-    while c < e {
-        let next = c + 1;
+    let mut c = first_child(rows, r);
+    let mut left = child_count(rows, r);
+    while 0 < left {
         if node_means(m, false, nodes, k, name_of(schema, rows, c)) {
-            return next;
+            return c + 1;
         }
-        c = next;
+        c = next_row(rows, c);
+        left -= 1;
     }
     0
 }
@@ -53,15 +53,14 @@ fn named_child(schema: &[u8], rows: &[u32], r: usize, name: &[u8]) -> usize
     requires { ⌜ r < 2 ^ 39 ⌝ }
     ensures { λ x. ⌜ ChildNamed (now (schema .entry)) (now (rows .entry)) (now (name .entry)) r x ⌝ }
 {
-    let a = first_child(rows, r);
-    let e = a + child_count(rows, r);
-    let mut c = a;
-    while c < e {
-        let next = c + 1;
+    let mut c = first_child(rows, r);
+    let mut left = child_count(rows, r);
+    while 0 < left {
         if is_named(schema, rows, c, name) {
-            return next;
+            return c + 1;
         }
-        c = next;
+        c = next_row(rows, c);
+        left -= 1;
     }
     0
 }
@@ -133,13 +132,13 @@ pub fn scanned_mandatory(rows: &[u32], r: usize) -> usize
     requires { ⌜ r < 2 ^ 39 ⌝ }
     ensures { λ x. ⌜ x ≡ mandatoryIn (now (rows .entry)) (children (now (rows .entry)) r) ⌝ }
 {
-    let a = first_child(rows, r);
-    let e = a + child_count(rows, r);
     let mut n = 0;
-    let mut c = a;
-    while c < e {
+    let mut c = first_child(rows, r);
+    let mut left = child_count(rows, r);
+    while 0 < left {
         n += mandatory_one(rows, c);
-        c += 1;
+        c = next_row(rows, c);
+        left -= 1;
     }
     n
 }

@@ -7,7 +7,9 @@ use buckets::bucket_of;
 use rows::names::name_of;
 use rows::rows::child_count;
 use rows::rows::first_child;
-use rows::rows::is_inline;
+use rows::rows::next_row;
+use rows::rows::owns_struct;
+use rows::rows::past_children;
 use rules::ROW_WORDS;
 use rules::TABLE_ROWS;
 ghost use mathlib.Core.Path.{_≡_};
@@ -15,10 +17,10 @@ ghost use mathlib.Core.Bool.{true};
 ghost use Prim.Native.Nat.{_+_, _≤_, _<_};
 ghost use lib.ListN.{length, replicate};
 ghost use Rattle.grammar.specs.Limits.{table-rows};
-ghost use Rattle.rules.specs.Rows.{inline};
+ghost use Rattle.rules.specs.Rows.{pastChildren};
 ghost use Rattle.rules.specs.Sound.{sound};
 ghost use Rattle.children.specs.Index.{index-words, isLong, Filled};
-ghost use Rattle.children.specs.Filling.{Put, Counted, RunAdded, firstChild, pastChildren, ListAdded, InlineAdded};
+ghost use Rattle.children.specs.Filling.{Put, Counted, ChildrenAdded, ListAdded, InlineAdded};
 
 pub const INDEX_WORDS: usize = BUCKETS + TABLE_ROWS + TABLE_ROWS;
 
@@ -47,15 +49,15 @@ fn put_child(index: &mut [u32], mark: u32, c: usize)
 // Puts the children of row r into the index.
 fn add_children(schema: &[u8], rows: &[u32], index: &mut [u32], r: usize)
     requires { ⌜ (length (now index) ≡ index-words) × (pastChildren (now rows) r ≤ table-rows) ⌝ }
-    ensures { λ _. ⌜ RunAdded (now (schema .entry)) (now (rows .entry)) (now (index .entry)) r (firstChild (now (rows .entry)) r) (pastChildren (now (rows .entry)) r) (now (index .exit)) ⌝ }
+    ensures { λ _. ⌜ ChildrenAdded (now (schema .entry)) (now (rows .entry)) (now (index .entry)) r (now (index .exit)) ⌝ }
 {
-    let a = first_child(rows, r);
-    let e = a + child_count(rows, r);
-    let mut c = a;
-    while c < e {
+    let mut c = first_child(rows, r);
+    let mut left = child_count(rows, r);
+    while 0 < left {
         let mark = owner_mark(name_mark(name_of(schema, rows, c)), r);
         put_child(index, mark, c);
-        c += 1;
+        c = next_row(rows, c);
+        left -= 1;
     }
 }
 
@@ -83,8 +85,9 @@ fn add_inline(schema: &[u8], rows: &[u32], index: &mut [u32], r: usize)
     requires { ⌜ (length (now index) ≡ index-words) × (pastChildren (now rows) r ≤ table-rows) ⌝ }
     ensures { λ _. ⌜ InlineAdded (now (schema .entry)) (now (rows .entry)) (now (index .entry)) r (now (index .exit)) ⌝ }
 {
-    if is_inline(rows, r + 1) {
-        add_list(schema, rows, index, r + 1);
+    if owns_struct(rows, r) {
+        let s = next_row(rows, r);
+        add_list(schema, rows, index, s);
     }
 }
 
@@ -98,6 +101,6 @@ pub fn fill_index(schema: &[u8], rows: &[u32], index: &mut [u32])
     while r < n {
         add_inline(schema, rows, index, r);
         add_list(schema, rows, index, r);
-        r = first_child(rows, r) + child_count(rows, r);
+        r = past_children(rows, r);
     }
 }

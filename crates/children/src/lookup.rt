@@ -8,8 +8,8 @@ use buckets::bucket_of;
 use buckets::next;
 use lookups::values::node_means;
 use rows::names::name_of;
-use rows::rows::child_count;
 use rows::rows::first_child;
+use rows::rows::past_children;
 use rows::rows::wide;
 use rules::TABLE_ROWS;
 ghost use mathlib.Core.Path.{_≡_};
@@ -90,7 +90,7 @@ pub fn indexed_child(
     let h = bucket_of(mark);
     let head = wide(index[h]);
     let a = first_child(rows, r);
-    let e = a + child_count(rows, r);
+    let e = past_children(rows, r);
     listed_child(
         schema,
         rows,

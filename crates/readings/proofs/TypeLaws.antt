@@ -10,12 +10,13 @@ use borrow.Author.Tests.{eq-eqb, ne-eqb, le-leb, lt-leb}
 use Rattle.grammar.specs.Limits.{first-row}
 use Rattle.grammar.specs.Tree.{Kind, kindOf}
 use Rattle.rules.specs.Types.{column, sameKind}
-use Rattle.rules.specs.Rows.{upFrom, kind, typeRef, inlineRows, childCount, children, typeKind}
+use Rattle.rules.specs.Rows.{kind, typeRef, children, typeKind}
 use Rattle.rules.specs.Rules.{is}
 use Rattle.rules.specs.ReadingOf.{ofKind, fromAlternatives, via}
 use Rattle.table.specs.RuleParts.{columnOr6}
-use Rattle.rows.proofs.Walks.{upFrom-on, upFrom-end}
-use Rattle.rows.proofs.ChildLaws.{children-run}
+use Rattle.rows.specs.Rows.{Follows, First, Counted}
+use Rattle.rows.proofs.LoopLaws.{WalkLeft, left-hit, left-on, left-ends}
+use Rattle.rows.proofs.ChildLaws.{left-children}
 use Rattle.text.specs.Nodes.{node}
 use Rattle.readings.specs.Parts.{columnOf, AlternativeOf, TypeFor}
 use Rattle.readings.specs.declared.types.Via.{Via}
@@ -26,28 +27,28 @@ is-column : (o : Option Kind) (k : Kind) → is o (λ j. sameKind j k) ≡ eqb (
 is-column none k = sym (ne-eqb 6 (column k) (omega (arith, column-small k)))
 is-column (some j) k = refl
 
--- alternatives, from the first on: what is left to look at
-pub record AlternativesLeft (T : List ℕ) (r c i e : ℕ) : Type 0 where
-  pub left : (k : Kind) → column k ≡ c → ofKind T k (children T r) ≡ ofKind T k (upFrom i (e - i))
+-- a walk over alternatives: what is left to look at
+pub record AlternativesLeft (T : List ℕ) (r c i n : ℕ) : Type 0 where
+  pub left : (k : Kind) → column k ≡ c → WalkLeft (λ rs. fromAlternatives (ofKind T k rs)) T (fromAlternatives (ofKind T k (children T r))) i n
 
-pub alternatives-start : (T : List ℕ) {r c a n : ℕ} → a ≡ suc r + inlineRows T r → n ≡ childCount T r → AlternativesLeft T r c a (a + n)
-alternatives-start T {r} p q = record { left = λ k z. ap (ofKind T k) (children-run T r p q) }
+pub alternatives-start : {T : List ℕ} {r c a n : ℕ} → First T r a → Counted T r n → AlternativesLeft T r c a n
+alternatives-start {T} p q = record { left = λ k z. left-children p q (λ rs. fromAlternatives (ofKind T k rs)) refl }
 
-module _ {T : List ℕ} {r c i e : ℕ} (v : AlternativesLeft T r c i e) where
-  pub alternatives-end : e ≤ i → AlternativeOf T r c Missing
-  alternatives-end h = record { told = λ k z. sym (ap fromAlternatives (v .left k z) ∙ rw (upFrom-end i e h)) }
+module _ {T : List ℕ} {r c i n : ℕ} (v : AlternativesLeft T r c i n) where
+  pub alternatives-end : n ≤ 0 → AlternativeOf T r c Missing
+  alternatives-end h = record { told = λ k z. left-ends (v .left k z) h }
 
-  module _ (h : i < e) {t t′ y y′ : ℕ} (p : t ≡ typeRef T i) (p′ : t′ ≡ t) (q : y ≡ columnOr6 (typeKind T t′)) (q′ : y′ ≡ y) where
+  module _ (h : 0 < n) {t t′ y y′ : ℕ} (p : t ≡ typeRef T i) (p′ : t′ ≡ t) (q : y ≡ columnOr6 (typeKind T t′)) (q′ : y′ ≡ y) where
     of-column : (k : Kind) → column k ≡ c → is (typeKind T (typeRef T i)) (λ j. sameKind j k) ≡ eqb y′ c
     of-column k z =
         is-column (typeKind T (typeRef T i)) k
         ∙ ap (λ (x : ℕ). eqb (columnOr6 (typeKind T x)) (column k)) (sym (p′ ∙ p)) ∙ rw (← q, ← q′, z)
 
     pub alternatives-hit : y′ ≡ c → AlternativeOf T r c (Alternative t)
-    alternatives-hit f = record { told = λ k z. sym (ap fromAlternatives (v .left k z) ∙ rw (upFrom-on i e h, of-column k z, eq-eqb y′ c f, ← p)) }
+    alternatives-hit f = record { told = λ k z. left-hit (v .left k z) h (λ rs. rw (of-column k z, eq-eqb y′ c f, ← p)) }
 
-    pub alternatives-on : (y′ ≡ c → ⊥) → AlternativesLeft T r c (i + 1) e
-    alternatives-on f = record { left = λ k z. v .left k z ∙ rw (upFrom-on i e h, of-column k z, ne-eqb y′ c f) }
+    pub alternatives-on : (y′ ≡ c → ⊥) → {i′ : ℕ} → Follows T i i′ → AlternativesLeft T r c i′ (n - 1)
+    alternatives-on f x = record { left = λ k z. left-on (v .left k z) h (x .is) (λ rs. rw (of-column k z, ne-eqb y′ c f)) }
 
 -- the type for a value at a node
 module _ (T w : List ℕ) {k t f : ℕ} where

@@ -3,6 +3,7 @@ use crate::builtins::column;
 use members::objects::FIRST_REFERENCE;
 use rows::rows::child_count;
 use rows::rows::first_child;
+use rows::rows::next_row;
 use rows::rows::wide;
 use rows::rows::word;
 use table::alternates::type_kind;
@@ -21,15 +22,15 @@ fn alternative(rows: &[u32], r: usize, c: usize) -> Via
     requires { ⌜ r < 2 ^ 39 ⌝ }
     ensures { λ x. ⌜ AlternativeOf (now (rows .entry)) r c x ⌝ }
 {
-    let a = first_child(rows, r);
-    let e = a + child_count(rows, r);
-    let mut i = a;
-    while i < e {
+    let mut i = first_child(rows, r);
+    let mut left = child_count(rows, r);
+    while 0 < left {
         let t = word(rows, i, 3);
         if wide(type_kind(rows, wide(t))) == c {
             return Via::Alternative(t);
         }
-        i += 1;
+        i = next_row(rows, i);
+        left -= 1;
     }
     Via::Missing
 }

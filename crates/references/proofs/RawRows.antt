@@ -1,6 +1,6 @@
 -- One raw row resolved: its words are put, and what is found is what its entry refers to.
 -- The idea: the rows before and after it stay; what the row becomes is seen by its entry, case by case.
-use Prim.Native.Nat.{ℕ, suc, _+_, _*_, _≤_}
+use Prim.Native.Nat.{ℕ, suc, _+_, _-_, _*_, _≤_}
 use mathlib.Core.Path.{_≡_, refl, sym, ap, ap₂, _∙_}
 use mathlib.Core.Bool.{Bool, true, false, _&&_}
 use mathlib.Core.List.{List, [], _∷_, _++_}
@@ -22,6 +22,7 @@ use Rattle.rules.specs.Cells.Entry.{enumRow, alternateRow, valueRow, structRow,
 use Rattle.references.specs.Lookups.{wordRefers, found}
 use Rattle.references.specs.Steps.{putAt, foundAt, putData, foundData, putCommand, foundCommand, putRow, foundRow}
 use Rattle.references.proofs.SlotLaws.{row-struct, row-member, row-union, row-branch, row-alternative, row-command, row-other}
+use Rattle.rules.proofs.TableRows.{next-above}
 use Rattle.references.proofs.RawWords.{rawTag, linkRefers, types-word, types-found, data-word}
 
 -- words behind r rows
@@ -29,22 +30,35 @@ module _ (X W : List ℕ) (r : ℕ) (n : length X ≡ row-words * r) where
   pub word-behind : (i : ℕ) → getD (X ++ W) (row-words * r + i) 0 ≡ getD W i 0
   word-behind i = rw (← n) (getD-append-add X W i 0)
 
-  pub word-after : (i : ℕ) → getD (X ++ W) (row-words * suc r + i) 0 ≡ getD W (row-words + i) 0
-  word-after i = let z : row-words * suc r + i ≡ row-words * r + (row-words + i) = omega arith in rw z (word-behind (row-words + i))
-
 pub set-behind : (X W : List ℕ) (i v : ℕ) → set (X ++ W) (length X + i) v ≡ X ++ set W i v
 set-behind [] W i v = let z : 0 + i ≡ i = omega arith in rw z
 set-behind (x ∷ X) W i v = let z : suc (length X) + i ≡ suc (length X + i) = omega arith in rw z (ap (λ l. x ∷ l) (set-behind X W i v))
 
--- an inline struct's owner and the inline struct stand in the words that are left
-pub inline-behind : (X Y W : List ℕ) (r : ℕ) → length X ≡ row-words * r → length Y ≡ row-words * r → Rows.inline (X ++ W) (suc r) ≡ Rows.inline (Y ++ W) (suc r)
-unfolding Rows.inline
-inline-behind X Y W r n m =
-    let a = word-behind X W r n in
-    let b = word-after X W r n in
-    let c = word-behind Y W r m in
-    let d = word-after Y W r m in
-    rw (a 0, a 3, b 0, b 1, b 2, b 4) (sym (rw (c 0, c 3, d 0, d 1, d 2, d 4)))
+-- whatever stands before row r, the words from it on are the same, and so is whether it owns an inline struct
+module _ (X Y W : List ℕ) (r : ℕ) (n : length X ≡ row-words * r) (m : length Y ≡ row-words * r) where
+  word-from : (s i : ℕ) → r ≤ s → getD (X ++ W) (row-words * s + i) 0 ≡ getD (Y ++ W) (row-words * s + i) 0
+  word-from s i h =
+      let z : row-words * s + i ≡ row-words * r + (row-words * (s - r) + i) = omega arith in
+      rw z (word-behind X W r n (row-words * (s - r) + i) ∙ sym (word-behind Y W r m (row-words * (s - r) + i)))
+
+  next-behind : Rows.next (X ++ W) r ≡ Rows.next (Y ++ W) r
+  unfolding Rows.next
+  next-behind = refl
+
+  pub owns-behind : Rows.owns (X ++ W) r ≡ Rows.owns (Y ++ W) r
+  unfolding Rows.owns Rows.unnamed
+  owns-behind =
+      let s : ℕ = Rows.next (Y ++ W) r in
+      let h : r ≤ s = omega (arith, next-above (Y ++ W) r) in
+      rw (
+        next-behind,
+        word-from r 0 (omega arith),
+        word-from r 3 (omega arith),
+        word-from s 0 h,
+        word-from s 1 h,
+        word-from s 2 h,
+        word-from s 4 h,
+      )
 
 -- what an entry's own row refers to
 module _ (S : List ℕ) (ds : List Definition) where
@@ -91,7 +105,7 @@ module _ (S : List ℕ) (ds : List Definition) (short : length S ≤ schema-byte
       (rw (z, q, ← n) (set-behind X W i v), rw (z, q))
 
   -- its link to a base or to data
-  data-behind : (b : Data) (W : List ℕ) → LinkNames (Spans S) b → getD W 3 0 ≡ dataLink packed packed rawTag r b → Rows.inline (X ++ W) (suc r) ≡ isInlineData b
+  data-behind : (b : Data) (W : List ℕ) → LinkNames (Spans S) b → getD W 3 0 ≡ dataLink packed packed rawTag r b → Rows.owns (X ++ W) r ≡ isInlineData b
       → (putData S T r (X ++ W) ≡ X ++ set W 3 (dataLink SL TN rawTag r b)) × (foundData S T r (X ++ W) ≡ linkRefers S ds b)
   unfolding putData foundData
   data-behind absent W p q i =
@@ -119,7 +133,7 @@ module _ (S : List ℕ) (ds : List Definition) (short : length S ≤ schema-byte
       row-other S (X ++ W) r (sym p ∙ kind-behind W) T (eqb-false k 3 a) (eqb-false k 4 b) (eqb-false k 5 c) (eqb-false k 6 d) (eqb-false k 8 e) (eqb-false k 9 f)
 
   command-behind : (d : Data) (t : TypeText) (W : List ℕ) → LinkNames (Spans S) d → TypeNames (Spans S) t → getD W 3 0 ≡ dataLink packed packed rawTag r d
-      → getD (set W 3 (dataLink SL TN rawTag r d)) 5 0 ≡ typeOf packed packed rawTag t → Rows.inline (X ++ W) (suc r) ≡ isInlineData d
+      → getD (set W 3 (dataLink SL TN rawTag r d)) 5 0 ≡ typeOf packed packed rawTag t → Rows.owns (X ++ W) r ≡ isInlineData d
       → (putCommand S T r (X ++ W) ≡ X ++ set (set W 3 (dataLink SL TN rawTag r d)) 5 (typeOf SL TN rawTag t))
       × (foundCommand S T r (X ++ W) ≡ (linkRefers S ds d && isTypeName S ds t))
   unfolding putCommand foundCommand
@@ -129,7 +143,7 @@ module _ (S : List ℕ) (ds : List Definition) (short : length S ≤ schema-byte
       (ap (putAt S T false (row-words * r + 5)) (y .0) ∙ z .0, ap₂ _&&_ (y .1) (ap (foundAt S T false (row-words * r + 5)) (y .0) ∙ z .1 ∙ types-found S ds short spans t q))
 
   pub row-step : (e : Entry) (Y : List ℕ) → EntryNames (Spans S) e → NamedRow e
-      → Rows.inline (X ++ (wordsOf packed packed rawTag r e ++ Y)) (suc r) ≡ owns e → Step e Y
+      → Rows.owns (X ++ (wordsOf packed packed rawTag r e ++ Y)) r ≡ owns e → Step e Y
   row-step (enumRow m c) Y p b i = other (wordsOf packed packed rawTag r (enumRow m c) ++ Y) 1 refl refl refl refl refl refl refl
   row-step (alternateRow m c) Y p b i = other (wordsOf packed packed rawTag r (alternateRow m c) ++ Y) 7 refl refl refl refl refl refl refl
   row-step (valueRow m) Y p b i = other (wordsOf packed packed rawTag r (valueRow m) ++ Y) 2 refl refl refl refl refl refl refl

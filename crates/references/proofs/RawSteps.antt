@@ -18,11 +18,11 @@ use Rattle.rules.specs.Rows as Rows
 use Rattle.rules.specs.Cells.{Entry, blank, inlineEntries, ownEntry, childEntries, entries, wordsOf, wordsFrom, isInlineData, owns, EntryNames, NamedBase, NamedBases}
 use Rattle.rules.specs.Cells.Entry.{valueRow, memberRow, branchRow, alternativeRow}
 use Rattle.rules.proofs.Cells.{table-words, length-words, words-append, every-append, every-is, entry-names, every-at, entries-follow}
-use Rattle.rules.proofs.CellRows.{Behind, inline-after}
+use Rattle.rules.proofs.CellRows.{Behind, owns-is}
 use Rattle.rows.proofs.ListLaws.{all-append, all-map}
 use Rattle.references.specs.Steps.{putRow, foundRow, putRows, foundRows}
 use Rattle.references.proofs.RawWords.{rawTag, linkRefers, all-behind}
-use Rattle.references.proofs.RawRows.{entryRefers, NamedRow, inline-behind, row-step}
+use Rattle.references.proofs.RawRows.{entryRefers, NamedRow, owns-behind, row-step}
 
 -- no entry of a struct has a base that is written out
 inline-named : (b : Data) → Every NamedRow (inlineEntries b)
@@ -91,13 +91,13 @@ module _ (S : List ℕ) (ds : List Definition) (short : length S ≤ schema-byte
   abbrev halfway : ℕ → List ℕ
   halfway r = wordsFrom SL TN rawTag 0 (take r es) ++ wordsFrom packed packed rawTag r (drop r es)
 
-  inline-half : (r : ℕ) → r < length es → Rows.inline (halfway r) (suc r) ≡ owns (getD es r blank)
-  inline-half r l =
+  owns-half : (r : ℕ) → r < length es → Rows.owns (halfway r) r ≡ owns (getD es r blank)
+  owns-half r l =
       let k : r ≤ length es = omega arith in
-      inline-behind (wordsFrom SL TN rawTag 0 (take r es)) (wordsFrom packed packed rawTag 0 (take r es)) (wordsFrom packed packed rawTag r (drop r es)) r
+      owns-behind (wordsFrom SL TN rawTag 0 (take r es)) (wordsFrom packed packed rawTag 0 (take r es)) (wordsFrom packed packed rawTag r (drop r es)) r
       (length-below SL TN rawTag es r k) (length-below packed packed rawTag es r k)
-      ∙ ap (λ u. Rows.inline u (suc r)) (sym (rows-split packed packed rawTag es r k))
-      ∙ inline-after packed packed rawTag es (entries-follow ds blank refl) (entry-names Behind ds (all-behind S ds short spans)) r l
+      ∙ ap (λ u. Rows.owns u r) (sym (rows-split packed packed rawTag es r k))
+      ∙ owns-is packed packed rawTag es (entry-names Behind ds (all-behind S ds short spans)) (entries-follow ds blank refl) r l
 
   half-next : (r : ℕ) → r < length es → (putRow S T r (halfway r) ≡ halfway (suc r)) × (foundRow S T r (halfway r) ≡ entryRefers S ds (getD es r blank))
   half-next r l =
@@ -106,7 +106,7 @@ module _ (S : List ℕ) (ds : List Definition) (short : length S ≤ schema-byte
       let X : List ℕ = wordsFrom SL TN rawTag 0 (take r es) in
       let Y : List ℕ = wordsFrom packed packed rawTag (suc r) (drop (suc r) es) in
       let m : halfway r ≡ X ++ (wordsOf packed packed rawTag r e ++ Y) = ap (λ l. X ++ l) (rows-from packed packed rawTag es r l) in
-      let i : Rows.inline (X ++ (wordsOf packed packed rawTag r e ++ Y)) (suc r) ≡ owns e = ap (λ u. Rows.inline u (suc r)) (sym m) ∙ inline-half r l in
+      let i : Rows.owns (X ++ (wordsOf packed packed rawTag r e ++ Y)) r ≡ owns e = ap (λ u. Rows.owns u r) (sym m) ∙ owns-half r l in
       let s = row-step S ds short spans X r (length-below SL TN rawTag es r k) e Y
       (every-at (EntryNames (Spans S)) blank es (entry-names (Spans S) ds spans) r l) (every-at NamedRow blank es (entries-named ds bases) r l) i in
       let n : X ++ (wordsOf SL TN rawTag r e ++ Y) ≡ halfway (suc r) =

@@ -11,7 +11,7 @@ use lib.ListN.{length, getD, set, length-set}
 use lib.Seq.{getD-set-other}
 use borrow.Author.Tests.{ne-eqb, lt-ltb}
 use Rattle.grammar.specs.Limits.{row-words}
-use Rattle.rules.specs.Rows.{kind, inline}
+use Rattle.rules.specs.Rows.{kind, owns}
 use Rattle.table.specs.Definitions.{DefinitionIndex}
 use Rattle.references.specs.Lookups.{wordRefers, Heads, Refers}
 use Rattle.references.specs.Steps.{putAt, foundAt, putData, foundData, putCommand, foundCommand, putRow, foundRow, putRows, foundRows, Puts}
@@ -36,7 +36,7 @@ module _ (S T : List ℕ) (P : List ℕ → Type 0) (keeps : (U : List ℕ) (r i
 
   pub kept-data : (r : ℕ) (U : List ℕ) → P U → P (putData S T r U)
   unfolding putData
-  kept-data r U p = kept-cond (inline U (suc r)) U (putAt S T true (row-words * r + 3) U) p (kept-at true r 3 U (omega arith) (omega arith) p)
+  kept-data r U p = kept-cond (owns U r) U (putAt S T true (row-words * r + 3) U) p (kept-at true r 3 U (omega arith) (omega arith) p)
 
   kept-command : (r : ℕ) (U : List ℕ) → P U → P (putCommand S T r U)
   unfolding putCommand
@@ -76,19 +76,16 @@ module _ {S U heads links : List ℕ} {w v : ℕ} (s : Bool) (k : ℕ) (p : w �
       go (suc v) = rw (ne-eqb (suc v) 0 (λ e. omega arith), lt-ltb 0 (suc v) (omega arith))
 
 -- the base of a union or the data of a command
-next-inline : (U : List ℕ) (r : ℕ) (b t : Bool) → b ≡ inline U (r + 1) → b ≡ t → inline U (suc r) ≡ t
-next-inline U r b t p e = ap (inline U) (sym (add-one r)) ∙ sym p ∙ e
-
-module _ {S U heads links : List ℕ} (r : ℕ) {b : Bool} (p : b ≡ inline U (r + 1)) where
+module _ {S U heads links : List ℕ} (r : ℕ) {b : Bool} (p : b ≡ owns U r) where
   pub data-inline : b ≡ true → Puts S U heads links (λ T. putData S T r) (λ T. foundData S T r) U true
   unfolding putData foundData
-  data-inline e = let i = next-inline U r b true p e in record { same-length = refl; told = λ T j h. (rw i, rw i) }
+  data-inline e = let i : owns U r ≡ true = sym p ∙ e in record { same-length = refl; told = λ T j h. (rw i, rw i) }
 
   pub data-named : b ≡ false → {new : List ℕ} {t : Bool} → Puts S U heads links (λ T. putAt S T true (row-words * r + 3)) (λ T. foundAt S T true (row-words * r + 3)) new t
       → Puts S U heads links (λ T. putData S T r) (λ T. foundData S T r) new t
   unfolding putData foundData
   data-named e f =
-      let i = next-inline U r b false p e in
+      let i : owns U r ≡ false = sym p ∙ e in
       record { same-length = f .same-length; told = λ T j h. let z = f .told T j h in (rw i (z .0), rw i (z .1)) }
 
 -- one after the other

@@ -12,13 +12,15 @@ use lib.ListN.{length, getD, set, length-set}
 use borrow.Author.Tests.{ne-eqb, lt-ltb, le-ltb}
 use Rattle.grammar.specs.Limits.{chain-structs, row-words}
 use Rattle.rules.specs.Names.{sameName}
-use Rattle.rules.specs.Rows.{upFrom, kind, base, unionBase, inlineRows, childCount, children, members, after, nameOf}
+use Rattle.rules.specs.Rows.{kind, base, unionBase, children, members, after, nameOf}
 use Rattle.rules.specs.Rules.{is}
 use Rattle.rules.specs.SchemaTable.{memberIn, memberOf}
 use Rattle.rules.proofs.Lists.{clash, none-not-some}
 use Rattle.table.specs.Chains.{chainEnds}
-use Rattle.rows.proofs.Walks.{upFrom-on, upFrom-end, granted, denied}
-use Rattle.rows.proofs.ChildLaws.{children-run}
+use Rattle.rows.proofs.Walks.{granted, denied}
+use Rattle.rows.specs.Rows.{Follows, First, Counted}
+use Rattle.rows.proofs.LoopLaws.{WalkLeft, left-hit, left-on, left-ends}
+use Rattle.rows.proofs.ChildLaws.{left-children}
 use Rattle.table.proofs.ChainLaws.{ends-is}
 use Rattle.references.specs.Lookups.{nameIn}
 use Rattle.references.specs.Tags.{orElse, memberLink, narrow, tagLink, putTag, putTags}
@@ -30,23 +32,23 @@ narrow-fits l h = rw (lt-ltb l (2 ^ 32) h)
 pub narrow-out : (l : ℕ) → 2 ^ 32 ≤ l → 0 ≡ narrow l
 narrow-out l h = rw (le-ltb l (2 ^ 32) h)
 
--- `whole` is the link of the first of the rows from b up to e that has the name x
-pub record LinkLeft (whole : ℕ) (S T x : List ℕ) (b e : ℕ) : Type 0 where
-  pub left : whole ≡ memberIn S T x (upFrom b (e - b))
+-- a walk: `whole` is the link of the first of the rows left that has the name x
+pub record LinkLeft (whole : ℕ) (S T x : List ℕ) (c n : ℕ) : Type 0 where
+  pub rows : WalkLeft (memberIn S T x) T whole c n
 
-pub link-starts : (S T x : List ℕ) (r : ℕ) {a n : ℕ} → a ≡ suc r + inlineRows T r → n ≡ childCount T r → LinkLeft (memberIn S T x (children T r)) S T x a (a + n)
-link-starts S T x r p q = record { left = ap (memberIn S T x) (children-run T r p q) }
+pub link-starts : (S T x : List ℕ) {r a n : ℕ} → First T r a → Counted T r n → LinkLeft (memberIn S T x (children T r)) S T x a n
+link-starts S T x p q = record { rows = left-children p q (memberIn S T x) refl }
 
-module _ {whole : ℕ} {S T x : List ℕ} {b e : ℕ} (l : LinkLeft whole S T x b e) where
-  pub link-ends : e ≤ b → 0 ≡ whole
-  link-ends h = sym (l .left ∙ rw (upFrom-end b e h))
+module _ {whole : ℕ} {S T x : List ℕ} {c n : ℕ} (l : LinkLeft whole S T x c n) where
+  pub link-ends : n ≤ 0 → 0 ≡ whole
+  link-ends h = left-ends (l .rows) h
 
-  module _ (h : b < e) {y : List ℕ} {t : Bool} (p : y ≡ nameOf S T b) (q : t ≡ sameName x y) where
-    pub link-hit : t ≡ true → b + 1 ≡ whole
-    link-hit n = sym (l .left ∙ rw (upFrom-on b e h, ← p, ← q, n, add-one b))
+  module _ (h : 0 < n) {y : List ℕ} {t : Bool} (p : y ≡ nameOf S T c) (q : t ≡ sameName x y) where
+    pub link-hit : t ≡ true → c + 1 ≡ whole
+    link-hit e = left-hit (l .rows) h (λ rs. rw (← p, ← q, e, add-one c))
 
-    pub link-on : t ≡ false → LinkLeft whole S T x (b + 1) e
-    link-on n = record { left = l .left ∙ rw (upFrom-on b e h, ← p, ← q, n) }
+    pub link-on : t ≡ false → {c′ : ℕ} → Follows T c c′ → LinkLeft whole S T x c′ (n - 1)
+    link-on e f = record { rows = left-on (l .rows) h (f .is) (λ rs. rw (← p, ← q, e)) }
 
 -- the walk up the chain, by structs left and link
 module _ (S T : List ℕ) (n l : ℕ) (x : List ℕ) where

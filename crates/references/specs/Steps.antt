@@ -6,7 +6,7 @@ use mathlib.Core.List.{List}
 use lib.Dec.{eqb}
 use lib.ListN.{getD, set, length}
 use Rattle.grammar.specs.Limits.{row-words}
-use Rattle.rules.specs.Rows.{kind, inline}
+use Rattle.rules.specs.Rows.{kind, owns}
 use Rattle.table.specs.Definitions.{DefinitionIndex}
 use Rattle.references.specs.Lookups.{wordRefers, found, Heads}
 
@@ -20,10 +20,10 @@ module _ (S T : List ℕ) where
 
   -- the base of union r or the data of command r, unless it is inline
   unfoldable pub putData : ℕ → List ℕ → List ℕ
-  putData r U = cond (inline U (suc r)) U (putAt true (row-words * r + 3) U)
+  putData r U = cond (owns U r) U (putAt true (row-words * r + 3) U)
 
   unfoldable pub foundData : ℕ → List ℕ → Bool
-  foundData r U = cond (inline U (suc r)) true (foundAt true (row-words * r + 3) U)
+  foundData r U = cond (owns U r) true (foundAt true (row-words * r + 3) U)
 
   -- the data and then the return of command r
   unfoldable pub putCommand : ℕ → List ℕ → List ℕ

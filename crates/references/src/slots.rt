@@ -1,7 +1,7 @@
 // The words of rows that name become links and type references, in place.
 use crate::find::referred;
 use buckets::BUCKETS;
-use rows::rows::is_inline;
+use rows::rows::owns_struct;
 use rows::rows::word;
 use rules::ROW_WORDS;
 ghost use mathlib.Core.Path.{_≡_};
@@ -48,7 +48,7 @@ fn put_data(s: &[u8], rows: &mut [u32], heads: &[u32; BUCKETS], links: &[u32], r
     requires { ⌜ (length (now rows) < 2 ^ 32) × (row-words * r + row-words ≤ length (now rows)) ⌝ }
     ensures { λ b. ⌜ Puts (now (s .entry)) (now (rows .entry)) (now (heads .entry)) (now (links .entry)) (λ T. putData (now (s .entry)) T r) (λ T. foundData (now (s .entry)) T r) (now (rows .exit)) b ⌝ }
 {
-    if is_inline(rows, r + 1) {
+    if owns_struct(rows, r) {
         return true;
     }
     put(s, rows, heads, links, true, ROW_WORDS * r + 3)

@@ -4,6 +4,7 @@ use rows::names::name_of;
 use rows::names::same_bytes;
 use rows::rows::child_count;
 use rows::rows::first_child;
+use rows::rows::next_row;
 use rows::rows::wide;
 use rows::rows::word;
 use rules::CHAIN_STRUCTS;
@@ -22,14 +23,14 @@ fn child_link(s: &[u8], rows: &[u32], r: usize, name: &[u8]) -> usize
     requires { ⌜ r < 2 ^ 39 ⌝ }
     ensures { λ l. ⌜ l ≡ memberIn (now (s .entry)) (now (rows .entry)) (now (name .entry)) (children (now (rows .entry)) r) ⌝ }
 {
-    let a = first_child(rows, r);
-    let e = a + child_count(rows, r);
-    let mut c = a;
-    while c < e {
+    let mut c = first_child(rows, r);
+    let mut left = child_count(rows, r);
+    while 0 < left {
         if same_bytes(name, name_of(s, rows, c)) {
             return c + 1;
         }
-        c += 1;
+        c = next_row(rows, c);
+        left -= 1;
     }
     0
 }

@@ -1,45 +1,46 @@
--- The children of a row as the run of rows that `first_child` and `child_count` give: loops over it, and that its end is no number too large.
--- Each count is a word, a word and one, or 0, and a word is below 2 ^ 32.
-use Prim.Native.Nat.{ℕ, suc, _+_, _-_, _*_, _≤_, _<_, _^_}
-use mathlib.Core.Path.{_≡_, refl, ap, _∙_}
-use mathlib.Core.Bool.{Bool, true, false, cond, _||_}
+-- The children of a row as the walk that `first_child` and `child_count` give, and loops over it.
+use Prim.Native.Nat.{ℕ}
+use mathlib.Core.Path.{_≡_, sym, ap, _∙_}
+use mathlib.Core.Bool.{Bool, true, false, not}
 use mathlib.Core.List.{List}
 use native.Mathlib.Omega.{arith}
-use lib.ListN.{getD}
-use mir.Syntax.{w32, w64}
-use mir.Val.{Fits}
-use Rattle.grammar.specs.Limits.{row-words}
 use Rattle.grammar.specs.Notation.{all}
-use Rattle.rules.specs.Rows.{upFrom, count, branchCount, isEnum, isStruct, isUnion, isAlternate, inline, inlineRows, childCount, children}
+use Rattle.rules.specs.Rows.{count, next, walk, past, owns, firstChild, childCount, children, pastChildren}
 use Rattle.rules.specs.Rules.{any}
-use Rattle.rows.proofs.LoopLaws.{AllLeft, AnyLeft, rows-start}
+use Rattle.rules.proofs.TableRows.{first-plain, first-owner}
+use Rattle.rows.specs.Rows.{Follows, Room, First, Counted}
+use Rattle.rows.proofs.Walks.{granted, denied}
+use Rattle.rows.proofs.LoopLaws.{WalkLeft, AllWalk, AnyWalk}
 
-module _ (T : List ℕ) (r : ℕ) {a n : ℕ} (p : a ≡ suc r + inlineRows T r) (q : n ≡ childCount T r) where
-  pub children-run : children T r ≡ upFrom a (a + n - a)
+-- the first child
+module _ {T : List ℕ} {r s : ℕ} {b : Bool} (p : Follows T r s) (o : b ≡ owns T r) where
+  pub first-next : not b ≡ true → s ≡ firstChild T r
+  first-next t = p .is ∙ sym (first-plain T r (denied o t))
+
+  pub first-past : not b ≡ false → {c n e : ℕ} → Follows T s c → n ≡ count T s → e ≡ past T c n → e ≡ firstChild T r
+  first-past t {c} {n} q k z =
+      let u : c ≡ next T (next T r) = q .is ∙ ap (next T) (p .is) in
+      let v : n ≡ count T (next T r) = k ∙ ap (count T) (p .is) in
+      z ∙ rw (u, v) (sym (first-owner T r (granted o t)))
+
+-- a walk over the children
+module _ {T : List ℕ} {r a n : ℕ} (p : First T r a) (q : Counted T r n) where
+  pub children-room : Room a n
+  children-room = record { few = omega (arith, q .few); low = omega (arith, p .low, q .few) }
+
+  pub children-walk : children T r ≡ walk T a n
   unfolding children
-  children-run = rw (← p, ← q) (rows-start (λ l. l) a n (a + n) refl)
+  children-walk = rw (p .is, q .is)
 
-  pub all-children : {whole : Bool} (f : ℕ → Bool) → whole ≡ all f (children T r) → AllLeft whole f a (a + n)
-  all-children f h = record { left = h ∙ ap (all f) children-run }
+  pub children-past : {e : ℕ} → e ≡ past T a n → e ≡ pastChildren T r
+  unfolding pastChildren
+  children-past z = z ∙ rw (p .is, q .is)
 
-  pub any-children : {whole : Bool} (f : ℕ → Bool) → whole ≡ any f (children T r) → AnyLeft whole f a (a + n)
-  any-children f h = record { left = h ∙ ap (any f) children-run }
+  pub left-children : {A : Type 0} {whole : A} (g : List ℕ → A) → whole ≡ g (children T r) → WalkLeft g T whole a n
+  left-children g h = record { left = h ∙ ap g children-walk }
 
-cond-within : (b : Bool) (x y n : ℕ) → x ≤ n → y ≤ n → cond b x y ≤ n
-cond-within true x y n h k = h
-cond-within false x y n h k = k
+  pub all-children : {whole : Bool} (f : ℕ → Bool) → whole ≡ all f (children T r) → AllWalk whole T f a n
+  all-children f h = record { left = h ∙ ap (all f) children-walk }
 
--- the words of T are words of 32 bits
-module _ (T : List ℕ) (words : (i : ℕ) → Fits w32 (getD T i 0)) (r : ℕ) where
-  pub inline-small : inlineRows T r ≤ 2 ^ 32
-  unfolding inlineRows
-  inline-small = cond-within (inline T (suc r)) (suc (count T (suc r))) 0 (2 ^ 32) (omega (arith, words (row-words * suc r + 3))) (omega arith)
-
-  pub count-small : childCount T r ≤ 2 ^ 32
-  unfolding childCount
-  count-small =
-      cond-within (isEnum T r || isStruct T r || isAlternate T r) (count T r) (cond (isUnion T r) (branchCount T r) 0) (2 ^ 32) (omega (arith, words (row-words * r + 3)))
-      (cond-within (isUnion T r) (branchCount T r) 0 (2 ^ 32) (omega (arith, words (row-words * r + 4))) (omega arith))
-
-  pub end-fits : {a n : ℕ} → r < 2 ^ 39 → a ≡ suc r + inlineRows T r → n ≡ childCount T r → Fits w64 (a + n)
-  end-fits h p q = omega (arith, inline-small, count-small)
+  pub any-children : {whole : Bool} (f : ℕ → Bool) → whole ≡ any f (children T r) → AnyWalk whole T f a n
+  any-children f h = record { left = h ∙ ap (any f) children-walk }

@@ -3,7 +3,7 @@
 use Prim.{tt}
 use Prim.Native.Nat.{ℕ, zero, suc, _+_, _-_, _≤_, _<_}
 use mathlib.Core.Path.{_≡_, refl, sym, ap, _∙_, subst}
-use mathlib.Core.Bool.{Bool, true, false, not}
+use mathlib.Core.Bool.{Bool, true, false, not, _&&_, and-true, and-false}
 use mathlib.Core.List.{List, [], _∷_}
 use native.Mathlib.Omega.{arith}
 use lib.ListN.{length, getD, replicate, length-set}
@@ -11,16 +11,17 @@ use borrow.Author.Tests.{not-false}
 use Rattle.grammar.specs.Notation.{all, apart}
 use Rattle.grammar.proofs.Booleans.{clash as contradiction}
 use Rattle.grammar.proofs.Lists.{same-true}
-use Rattle.buckets.specs.Buckets.{buckets, bucketOf, Added, Free, Chain, inBucket}
+use Rattle.buckets.specs.Buckets.{buckets, bucketOf, Added, All, Free, Chain, inBucket}
 use Rattle.buckets.proofs.BucketLaws.{chain-end, chain-step, bucket-short, bucket-all, index-empty, index-walk, index-added}
 use Rattle.rules.specs.Names.{clash}
-use Rattle.rules.specs.Rows.{upFrom, nameOf}
+use Rattle.rules.specs.Rows.{next, walk, past, nameOf}
 use Rattle.rules.specs.Rules.{namesOf}
 use Rattle.rows.specs.Marks.{markOf}
 use Rattle.rows.specs.Index.{itself, rowMark, RowIndex, freshIn, Unlisted, Entered}
-use Rattle.rows.proofs.Walks.{upFrom-on, upFrom-end, upTo, upTo-back, upTo-none, upTo-miss}
-use Rattle.rows.proofs.NameFacts.{freshAfter, apart-upTo}
-use Rattle.rows.proofs.ListLaws.{all-map}
+use Rattle.rules.proofs.TableRows.{next-above, past-above}
+use Rattle.rows.specs.Rows.{Follows}
+use Rattle.rows.proofs.ListLaws.{all-map, all-same, all-both, all-true, same-sym}
+use Rattle.rows.proofs.LoopLaws.{walk-at, walk-over}
 
 -- a walk along a chain, for what f says of its rows
 module _ {A : Type 0} (f : List ℕ → A) (links : List ℕ) where
@@ -130,52 +131,83 @@ module _ {S T heads links : List ℕ} (r : ℕ) {m head : ℕ} {x : List ℕ} {b
   pub entered : b ≡ true → r < length links → {heads′ links′ : List ℕ} → Added heads links m r heads′ links′ → Entered S T heads links r heads′ links′ true
   entered t g a = record { told = λ rs k f h. (sym t ∙ of-index rs k h, λ e. index-more r k f g (p ∙ ap markOf n) a) }
 
--- a run of rows, from its last to its first
-free-from : (j b n : ℕ) → j < b → Free itself j (upFrom b n)
-free-from j b zero h = tt
-free-from j b (suc n) h = ((λ e. omega arith), free-from j (suc b) n (omega arith))
+-- a run of rows, from its first on: each is looked up among those before it, which are in the index
+module _ (S T : List ℕ) where
+  -- the names of l are apart, and clash with none of the rows rs
+  unfoldable pub apartFrom : List ℕ → List ℕ → Bool
+  apartFrom rs [] = true
+  apartFrom rs (c ∷ l) = freshIn S T (nameOf S T c) rs && apartFrom (c ∷ rs) l
 
-pub length-from : (b n : ℕ) → length (upFrom b n) ≡ n
-length-from b zero = refl
-length-from b (suc n) = ap suc (length-from (suc b) n)
+  apart-from : (rs l : List ℕ) → apartFrom rs l ≡ apart clash (namesOf S T l) && all (λ c. freshIn S T (nameOf S T c) rs) l
+  unfolding apartFrom
+  apart-from rs [] = refl
+  apart-from rs (c ∷ l) =
+      ap (λ (t : Bool). freshIn S T (nameOf S T c) rs && t)
+      (apart-from (c ∷ rs) l ∙ ap (λ (t : Bool). apart clash (namesOf S T l) && t)
+      (all-both (λ d. not (clash (nameOf S T d) (nameOf S T c))) (λ d. freshIn S T (nameOf S T d) rs) l ∙ ap (λ (t : Bool). t && all (λ d. freshIn S T (nameOf S T d) rs) l) turned))
+      ∙ shuffle (freshIn S T (nameOf S T c) rs) (apart clash (namesOf S T l)) (freshIn S T (nameOf S T c) l) (all (λ d. freshIn S T (nameOf S T d) rs) l)
+    where
+      turned : all (λ d. not (clash (nameOf S T d) (nameOf S T c))) l ≡ freshIn S T (nameOf S T c) l
+      turned =
+          all-same (λ d. not (clash (nameOf S T d) (nameOf S T c))) (λ d. not (clash (nameOf S T c) (nameOf S T d))) l (λ d. ap not (same-sym (nameOf S T d) (nameOf S T c)))
+          ∙ sym (all-map (nameOf S T) (λ y. not (clash (nameOf S T c) y)) l)
 
-module _ (S T : List ℕ) (e : ℕ) where
-  -- the rows from i on are in the index, and their names apart
-  pub record RunIndex (heads links : List ℕ) (i : ℕ) : Type 0 where
-    pub high : i ≤ e
-    pub rows : RowIndex S T heads links (upFrom i (e - i))
-    pub so-far : upTo (freshAfter S T e) i e ≡ true
+      shuffle : (f p q r : Bool) → f && (p && (q && r)) ≡ (q && p) && (f && r)
+      shuffle true true true r = refl
+      shuffle true true false r = refl
+      shuffle true false true r = refl
+      shuffle true false false r = refl
+      shuffle false p q r = sym (and-false (q && p))
 
-  pub run-start : {heads : List ℕ} (links : List ℕ) → heads ≡ replicate buckets 0 → RunIndex heads links e
-  run-start {heads} links z = record {
-    high = omega arith;
-    rows = subst (RowIndex S T heads links) (sym (upFrom-end e e (omega arith))) (index-none S T links z);
-    so-far = upTo-none (freshAfter S T e) e e (omega arith);
-  }
+  pub apart-first : (l : List ℕ) → apart clash (namesOf S T l) ≡ apartFrom [] l
+  apart-first l = sym (apart-from [] l ∙ rw (all-true (λ c. true) l (λ _. refl)) (and-true (apart clash (namesOf S T l))))
 
-  pub run-end : {heads links : List ℕ} {i : ℕ} (a : ℕ) → RunIndex heads links i → a ≤ i → i ≤ a → true ≡ apart clash (namesOf S T (upFrom a (e - a)))
-  run-end {i = i} a v l h = let s : i ≡ a = omega arith in sym (apart-upTo S T e a ∙ ap (λ k. upTo (freshAfter S T e) k e) (sym s) ∙ v .so-far)
+  -- rows below c, of which there are no more than c
+  abbrev Below : ℕ → List ℕ → Type 0
+  Below c = All (λ r. r < c)
 
-  module _ {heads links heads′ links′ : List ℕ} {i : ℕ} {b : Bool} (a : ℕ) (v : RunIndex heads links i) (low : a < i) (room : e ≤ length links)
-      (q : Entered S T heads links (i - 1) heads′ links′ b) where
-    s : i - 1 + 1 ≡ i
-    s = omega arith
+  below-free : (c : ℕ) (rs : List ℕ) → Below c rs → Free itself c rs
+  below-free c [] b = tt
+  below-free c (r ∷ rs) b = ((λ e. omega (arith, b .0)), below-free c rs (b .1))
 
-    within : i - 1 < e
-    within = omega (arith, v .high)
+  below-more : (c d : ℕ) (rs : List ℕ) → c ≤ d → Below c rs → Below d rs
+  below-more c d [] h b = tt
+  below-more c d (r ∷ rs) h b = (omega (arith, b .0), below-more c d rs h (b .1))
 
-    here : (b ≡ freshIn S T (nameOf S T (i - 1)) (upFrom i (e - i))) × (b ≡ true → RowIndex S T heads′ links′ ((i - 1) ∷ upFrom i (e - i)))
-    here = q .told (upFrom i (e - i)) (v .rows) (free-from (i - 1) i (e - i) (omega arith)) (omega (arith, length-from i (e - i)))
+  -- the rows before c are in the index; what is left decides whether all are apart
+  pub record RunIndex (whole : Bool) (heads links : List ℕ) (c n : ℕ) : Type 0 where
+    pub before : List ℕ
+    pub lower : Below c before
+    pub few : length before ≤ c
+    pub rows : RowIndex S T heads links before
+    pub left : whole ≡ apartFrom before (walk T c n)
 
-    after : b ≡ freshAfter S T e (i - 1)
-    after = here .0 ∙ ap (λ k. freshIn S T (nameOf S T (i - 1)) (upFrom k (e - k))) (sym s)
+  pub run-start : {heads : List ℕ} (links : List ℕ) (a n : ℕ) → heads ≡ replicate buckets 0 → RunIndex (apart clash (namesOf S T (walk T a n))) heads links a n
+  run-start links a n z = record { before = []; lower = tt; few = omega arith; rows = index-none S T links z; left = apart-first (walk T a n) }
 
-    pub run-hit : b ≡ false → false ≡ apart clash (namesOf S T (upFrom a (e - a)))
-    run-hit t = sym (apart-upTo S T e a ∙ upTo-miss (freshAfter S T e) e (i - 1) a (omega arith) within (sym after ∙ t))
+  pub run-end : {whole : Bool} {heads links : List ℕ} {c n : ℕ} → RunIndex whole heads links c n → n ≤ 0 → true ≡ whole
+  unfolding apartFrom
+  run-end {c = c} v h = sym (v .left ∙ ap (apartFrom (v .before)) (walk-over T c h))
 
-    pub run-on : b ≡ true → RunIndex heads′ links′ (i - 1)
-    run-on t = record {
-      high = omega (arith, v .high);
-      rows = subst (RowIndex S T heads′ links′) (ap (λ k. (i - 1) ∷ upFrom k (e - k)) (sym s) ∙ sym (upFrom-on (i - 1) e within)) (here .1 t);
-      so-far = upTo-back (freshAfter S T e) e (i - 1) within (sym after ∙ t) (ap (λ k. upTo (freshAfter S T e) k e) s ∙ v .so-far);
-    }
+  module _ {whole : Bool} {heads links heads′ links′ : List ℕ} {c n : ℕ} {b : Bool} (v : RunIndex whole heads links c n) (more : 0 < n) (room : past T c n ≤ length links)
+      (q : Entered S T heads links c heads′ links′ b) where
+    here : (b ≡ freshIn S T (nameOf S T c) (v .before)) × (b ≡ true → RowIndex S T heads′ links′ (c ∷ v .before))
+    here = q .told (v .before) (v .rows) (below-free c (v .before) (v .lower)) (omega (arith, v .few, past-above T n c))
+
+    goes : {c′ : ℕ} → c′ ≡ next T c → whole ≡ (b && apartFrom (c ∷ v .before) (walk T c′ (n - 1)))
+    unfolding apartFrom
+    goes {c′} p = v .left ∙ ap (apartFrom (v .before)) (walk-at T more p) ∙ ap (λ (t : Bool). t && apartFrom (c ∷ v .before) (walk T c′ (n - 1))) (sym (here .0))
+
+    pub run-hit : b ≡ false → false ≡ whole
+    run-hit t = sym (goes refl ∙ rw t)
+
+    pub run-on : b ≡ true → {c′ : ℕ} → Follows T c c′ → RunIndex whole heads′ links′ c′ (n - 1)
+    run-on t {c′} p =
+        let up : c < c′ = omega (arith, p .is, next-above T c) in
+        record {
+          before = c ∷ v .before;
+          lower = (up, below-more c c′ (v .before) (omega arith) (v .lower));
+          few = omega (arith, v .few);
+          rows = here .1 t;
+          left = goes (p .is) ∙ rw t;
+        }

@@ -10,11 +10,15 @@ use native.Mathlib.Omega.{arith}
 use lib.ListN.{length, getD, set, length-set}
 use lib.Seq.{getD-set-same, getD-set-other}
 use Rattle.grammar.proofs.Lists.{different}
-use Rattle.grammar.specs.Notation.{same, all}
+use Rattle.grammar.specs.Notation.{same, all, apart}
 use Rattle.rules.specs.Names.{clash}
-use Rattle.rules.specs.Rows.{nameOf}
+use Rattle.rules.specs.Rows.{walk, nameOf}
+use Rattle.rules.specs.Rules.{namesOf}
+use Rattle.rows.specs.Rows.{Follows}
 use Rattle.rows.specs.Marks.{markOf, Marks, freshOf, runsApart}
-use Rattle.rows.proofs.Walks.{upTo}
+use Rattle.rows.proofs.ListLaws.{all-map}
+use Rattle.rows.proofs.NameFacts.{fresh}
+use Rattle.rows.proofs.LoopLaws.{WalkLeft, AllWalk, left-at}
 
 -- names of different marks
 pub other-mark : (x y : List ℕ) → (markOf y ≡ markOf x → ⊥) → same x y ≡ false
@@ -48,7 +52,25 @@ module _ {S T M : List ℕ} {n r : ℕ} where
   pub marks-all : MarksTo S T M n r → length M ≤ r → Marks S T M
   marks-all k h = record { told = λ i g. k .below i (omega arith) }
 
--- a run of rows against another
-pub runs-upTo : (S T : List ℕ) (a e b f : ℕ) → runsApart S T a e b f ≡ upTo (λ r. freshOf S T (nameOf S T r) b f) a e
-unfolding runsApart upTo
-runs-upTo S T a e b f = refl
+-- runs of rows, each from its first on
+module _ (S T : List ℕ) where
+  pub fresh-walk : (x : List ℕ) (b n : ℕ) → AllWalk (fresh x (namesOf S T (walk T b n))) T (λ r. not (clash x (nameOf S T r))) b n
+  fresh-walk x b n = record { left = all-map (nameOf S T) (λ y. not (clash x y)) (walk T b n) }
+
+  pub runs-walk : (a m b n : ℕ) → AllWalk (runsApart S T a m b n) T (λ r. freshOf S T (nameOf S T r) b n) a m
+  unfolding runsApart
+  runs-walk a m b n = record { left = refl }
+
+  -- the names of n rows from c on are apart
+  abbrev pub namesApart : List ℕ → Bool
+  namesApart rs = apart clash (namesOf S T rs)
+
+  pub pairs-walk : (a n : ℕ) → WalkLeft namesApart T (namesApart (walk T a n)) a n
+  pairs-walk a n = record { left = refl }
+
+  module _ {whole : Bool} {c n c′ : ℕ} (l : WalkLeft namesApart T whole c n) (h : 0 < n) (p : Follows T c c′) {b : Bool} (q : b ≡ freshOf S T (nameOf S T c) c′ (n - 1)) where
+    pub pairs-miss : b ≡ false → false ≡ whole
+    pairs-miss t = sym (left-at l h (p .is) ∙ rw (sym q ∙ t))
+
+    pub pairs-next : b ≡ true → WalkLeft namesApart T whole c′ (n - 1)
+    pairs-next t = record { left = left-at l h (p .is) ∙ rw (sym q ∙ t) }

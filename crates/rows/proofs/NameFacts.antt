@@ -14,13 +14,12 @@ use borrow.Author.Tests.{eq-eqb, ne-eqb, le-leb, lt-leb}
 use Rattle.grammar.proofs.Booleans.{within-is, within-below, within-above, Outside}
 use Rattle.grammar.proofs.Booleans.Outside.{below, above}
 use Rattle.grammar.specs.Lexis.{blank}
-use Rattle.grammar.specs.Notation.{text, within, same, all, apart}
+use Rattle.grammar.specs.Notation.{text, within, same, all}
 use Rattle.rules.specs.Names.{letter, digit, nameByte, goodName, clash}
-use Rattle.rules.specs.Rows.{upFrom, nameOf}
-use Rattle.rules.specs.Rules.{namesOf}
+use Rattle.rules.specs.Rows.{nameOf}
 use Rattle.strings.proofs.Tables.{entry}
 use Rattle.strings.specs.Classes.{classOf, tabulate}
-use Rattle.rows.proofs.Walks.{upFrom-on, upFrom-end, upTo, upTo-of}
+use Rattle.rows.proofs.Walks.{upTo, upTo-of}
 
 -- n bytes from a on, or those that there are
 module _ (s : List ℕ) (a n : ℕ) where
@@ -134,18 +133,3 @@ module _ (digits : Bool) where
 -- a name clashes with none of a list
 abbrev pub fresh : List ℕ → List (List ℕ) → Bool
 fresh x l = all (λ y. not (clash x y)) l
-
--- the name of row r clashes with none of those after it, up to e
-abbrev pub freshAfter : List ℕ → List ℕ → ℕ → ℕ → Bool
-freshAfter S T e r = fresh (nameOf S T r) (namesOf S T (upFrom (r + 1) (e - (r + 1))))
-
--- the names of the rows from b up to e
-module _ (S T : List ℕ) (e : ℕ) where
-  pub fresh-upTo : (x : List ℕ) (b : ℕ) → fresh x (namesOf S T (upFrom b (e - b))) ≡ upTo (λ r. not (clash x (nameOf S T r))) b e
-  fresh-upTo x =
-      upTo-of (λ r. not (clash x (nameOf S T r))) e (λ b. fresh x (namesOf S T (upFrom b (e - b))))
-      (λ b h. rw (upFrom-on b e h)) (λ b h. rw (upFrom-end b e h))
-
-  pub apart-upTo : (b : ℕ) → apart clash (namesOf S T (upFrom b (e - b))) ≡ upTo (freshAfter S T e) b e
-  apart-upTo =
-      upTo-of (freshAfter S T e) e (λ b. apart clash (namesOf S T (upFrom b (e - b)))) (λ b h. rw (upFrom-on b e h)) (λ b h. rw (upFrom-end b e h))

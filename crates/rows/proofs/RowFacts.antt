@@ -13,8 +13,8 @@ use mir.Syntax.{w32}
 use mir.Val.{Fits}
 use borrow.Author.Tests.{eq-eqb, ne-eqb}
 use Rattle.grammar.specs.Limits.{row-words}
-use Rattle.rules.specs.Rows.{upFrom, word, kind, start, size, base, isEnum, isStruct, isUnion, isAlternate, isCommand, count, branchCount, inline, inlineRows, childCount, children}
-use Rattle.rows.specs.Rows.{unnamed}
+use Rattle.rules.specs.Rows.{word, kind, start, size, base, isEnum, isStruct, isUnion, isAlternate, isCommand, count, branchCount, next, unnamed, owns, childCount}
+use Rattle.rows.specs.Rows.{Follows}
 use Rattle.rows.proofs.Walks.{so}
 
 -- an unnamed struct: the words read of it, and what they are
@@ -35,60 +35,31 @@ module _ (T : List ℕ) (r : ℕ) where
   unfolding unnamed
   unnamed-base k a s b p p′ q q′ t t′ u = rw (so p p′, so q q′, so t t′, u)
 
--- an inline struct: the row before it owns it and links to it
+-- the next row, as it is counted
+pub follows-one : {T : List ℕ} (r : ℕ) → Follows T r (r + 1)
+unfolding next
+follows-one r = record { is = add-one r; low = omega arith }
+
+-- an owner: a union or a command that links to the unnamed struct after it
 module _ (T : List ℕ) (r : ℕ) where
-  inline-after : inline T (suc r) ≡ ((isUnion T r || isCommand T r) && eqb (word T r 4) (suc (suc r)) && unnamed T (suc r))
-  unfolding inline unnamed
-  inline-after = simp and-assoc
+  pub owns-kind : (k : ℕ) → k ≡ kind T r → (k ≡ 5 → ⊥) → (k ≡ 9 → ⊥) → false ≡ owns T r
+  unfolding owns
+  owns-kind k p u c = rw (ne-eqb (kind T r) 5 (λ e. u (p ∙ e)), ne-eqb (kind T r) 9 (λ e. c (p ∙ e)))
 
-inline-at : (T : List ℕ) (r : ℕ) → (r ≡ 0 → ⊥) → inline T r ≡ ((isUnion T (r - 1) || isCommand T (r - 1)) && eqb (word T (r - 1) 4) (r + 1) && unnamed T r)
-inline-at T zero n = absurd (n refl)
-inline-at T (suc r) n = let e : suc r - 1 ≡ r = omega arith in rw (e, add-one) (inline-after T r)
+  module _ {s : ℕ} (n : Follows T r s) (l : ℕ) (q : l ≡ word T r 4) where
+    pub owns-no-link : (l ≡ s + 1 → ⊥) → false ≡ owns T r
+    unfolding owns
+    owns-no-link m = rw (← n .is, ← add-one s, ne-eqb (word T r 4) (s + 1) (λ e. m (q ∙ e)), and-false)
 
-pub inline-first : (T : List ℕ) (r : ℕ) → r ≡ 0 → false ≡ inline T r
-unfolding inline
-inline-first T r e = rw e
-
-module _ (T : List ℕ) (r : ℕ) (after : r ≡ 0 → ⊥) where
-  pub inline-no-owner : (k : ℕ) → k ≡ kind T (r - 1) → (k ≡ 5 → ⊥) → (k ≡ 9 → ⊥) → false ≡ inline T r
-  inline-no-owner k p u c = rw (inline-at T r after, ne-eqb (kind T (r - 1)) 5 (λ e. u (p ∙ e)), ne-eqb (kind T (r - 1)) 9 (λ e. c (p ∙ e)))
-
-  pub inline-no-link : (l : ℕ) → l ≡ word T (r - 1) 4 → (l ≡ r + 1 → ⊥) → false ≡ inline T r
-  inline-no-link l p n = rw (inline-at T r after, ne-eqb (word T (r - 1) 4) (r + 1) (λ e. n (p ∙ e)), and-false)
-
-  pub inline-linked : (k l : ℕ) (b : Bool) → k ≡ kind T (r - 1) → (k ≡ 9) ⊎ (k ≡ 5) → l ≡ word T (r - 1) 4 → l ≡ r + 1 → b ≡ unnamed T r → b ≡ inline T r
-  inline-linked k l b p o q q′ u = rw (inline-at T r after, ← p, owns, eq-eqb (word T (r - 1) 4) (r + 1) (so q q′)) u
-    where
-      owns : (eqb k 5 || eqb k 9) ≡ true
-      owns = ⊎-elim (λ (e : k ≡ 9). rw e) (λ (e : k ≡ 5). rw e) o
-
--- the rows of an inline struct
-module _ (T : List ℕ) (r : ℕ) where
-  inlineRows-at : inlineRows T r ≡ cond (inline T (r + 1)) (count T (r + 1) + 1) 0
-  unfolding inlineRows
-  inlineRows-at = rw (add-one (count T (r + 1)), add-one r)
-
-  pub inlineRows-none : inline T (r + 1) ≡ false → 0 ≡ inlineRows T r
-  inlineRows-none e = rw (inlineRows-at, e)
-
-  pub inlineRows-some : (n : ℕ) → inline T (r + 1) ≡ true → n ≡ count T (r + 1) → n + 1 ≡ inlineRows T r
-  inlineRows-some n e p = rw (inlineRows-at, e, p)
-
-  -- children from the first up to an end
-  pub children-from : (a e : ℕ) → a ≡ suc r + inlineRows T r → e ≡ a + childCount T r → children T r ≡ upFrom a (e - a)
-  unfolding children
-  children-from a e p q = let k : e - a ≡ childCount T r = omega arith in rw (k, p)
+    pub owns-linked : (k : ℕ) (b : Bool) → k ≡ kind T r → (k ≡ 9) ⊎ (k ≡ 5) → l ≡ s + 1 → b ≡ unnamed T s → b ≡ owns T r
+    unfolding owns
+    owns-linked k b p o e u = rw (← n .is, ← add-one s, ← p, kinds, eq-eqb (word T r 4) (s + 1) (so q e)) u
+      where
+        kinds : (eqb k 5 || eqb k 9) ≡ true
+        kinds = ⊎-elim (λ (e : k ≡ 9). rw e) (λ (e : k ≡ 5). rw e) o
 
 -- words of 32 bits
 module _ (T : List ℕ) (small : (k : ℕ) → Fits w32 (getD T k 0)) where
-  pub inlineRows-small : (r : ℕ) → inlineRows T r ≤ 2 ^ 32
-  unfolding inlineRows
-  inlineRows-small r = go (inline T (suc r))
-    where
-      go : (b : Bool) → cond b (suc (count T (suc r))) 0 ≤ 2 ^ 32
-      go true = small (row-words * suc r + 3) .fits
-      go false = omega arith
-
   pub childCount-small : (r : ℕ) → childCount T r < 2 ^ 32
   unfolding childCount
   childCount-small r = go (isEnum T r || isStruct T r || isAlternate T r) (isUnion T r)

@@ -6,7 +6,7 @@ use mathlib.Core.List.{List}
 use lib.ListN.{length, getD}
 use Rattle.grammar.specs.Notation.{all}
 use Rattle.rules.specs.Names.{clash}
-use Rattle.rules.specs.Rows.{upFrom, nameOf}
+use Rattle.rules.specs.Rows.{walk, nameOf}
 use Rattle.rules.specs.Rules.{namesOf}
 
 -- the byte that stands k bytes before the end of a name, or the first
@@ -21,10 +21,10 @@ markOf x = (length x + back x (length x)) % 256 + 37 * (back x 1 + 37 * (back x 
 pub record Marks (S T marks : List ℕ) : Type 0 where
   pub told : (r : ℕ) → r < length marks → getD marks r 0 ≡ markOf (nameOf S T r)
 
--- a name clashes with none of the rows from b up to e
+-- a name clashes with none of n rows from b on
 abbrev pub freshOf : List ℕ → List ℕ → List ℕ → ℕ → ℕ → Bool
-freshOf S T x b e = all (λ y. not (clash x y)) (namesOf S T (upFrom b (e - b)))
+freshOf S T x b n = all (λ y. not (clash x y)) (namesOf S T (walk T b n))
 
--- no row from a up to e has the name of one from b up to f
+-- none of m rows from a on has the name of one of n rows from b on
 unfoldable pub runsApart : List ℕ → List ℕ → ℕ → ℕ → ℕ → ℕ → Bool
-runsApart S T a e b f = all (λ r. freshOf S T (nameOf S T r) b f) (upFrom a (e - a))
+runsApart S T a m b n = all (λ r. freshOf S T (nameOf S T r) b n) (walk T a m)

@@ -3,21 +3,23 @@ use crate::marks::is_named;
 use crate::marks::mark_of;
 use crate::marks::pairs_apart;
 use crate::names::name_of;
+use crate::rows::next_row;
+use crate::rows::past_rows;
 use buckets::BUCKETS;
 use buckets::add;
 use buckets::first;
 use buckets::next;
 ghost use mathlib.Core.Path.{_≡_};
-ghost use mathlib.Core.Bool.{true};
-ghost use Prim.Native.Nat.{_-_, _≤_, _<_, _^_};
+ghost use Prim.Native.Nat.{_≤_, _<_, _^_};
 ghost use lib.ListN.{length, replicate};
 ghost use Rattle.buckets.specs.Buckets.{buckets};
 ghost use Rattle.grammar.specs.Notation.{apart};
 ghost use Rattle.rules.specs.Names.{clash};
-ghost use Rattle.rules.specs.Rows.{upFrom};
+ghost use Rattle.rules.specs.Rows.{walk, past};
 ghost use Rattle.rules.specs.Rules.{namesOf};
 ghost use Rattle.rows.specs.Marks.{markOf, Marks};
 ghost use Rattle.rows.specs.Index.{Unlisted, Entered};
+ghost use Rattle.rows.specs.Rows.{Room};
 
 // A run of that many rows is long.
 const LONG: usize = 32;
@@ -73,57 +75,49 @@ pub fn add_new(
     true
 }
 
-// Whether no two names of the rows from a up to e clash: each is looked up among those after it.
+// Whether no two names of n rows from a on clash: each is looked up among those before it.
 fn listed_apart(
     schema: &[u8],
     rows: &[u32],
     marks: &[u32],
     a: usize,
-    e: usize,
+    n: usize,
     heads: &mut [u32; BUCKETS],
     links: &mut [u32],
 ) -> bool
-    requires { ⌜ Marks (now schema) (now rows) (now marks) × (a ≤ e) × (e ≤ length (now links)) × (length (now links) < 2 ^ 32) × (now heads ≡ replicate buckets 0) ⌝ }
-    ensures { λ b. ⌜ b ≡ apart clash (namesOf (now (schema .entry)) (now (rows .entry)) (upFrom a (e - a))) ⌝ }
+    requires { ⌜ Marks (now schema) (now rows) (now marks) × Room a n × (past (now rows) a n ≤ length (now links)) × (length (now links) < 2 ^ 32) × (now heads ≡ replicate buckets 0) ⌝ }
+    ensures { λ b. ⌜ b ≡ apart clash (namesOf (now (schema .entry)) (now (rows .entry)) (walk (now (rows .entry)) a n)) ⌝ }
 {
-    let mut i = e;
-    while a < i {
-        i -= 1;
+    let mut i = a;
+    let mut left = n;
+    while 0 < left {
         if !add_new(schema, rows, marks, heads, links, i) {
             return false;
         }
+        i = next_row(rows, i);
+        left -= 1;
     }
     true
 }
 
-// Whether an index pays for the rows from a up to e, and has the room.
-fn is_long(a: usize, e: usize, room: usize) -> bool
-    ensures { λ b. ⌜ (b ≡ true → (a ≤ e) × (e ≤ room)) ⌝ }
-{
-    if e < LONG {
-        return false;
-    }
-    if e - LONG < a {
-        return false;
-    }
-    e <= room
-}
-
-// Whether no two names of the rows from a up to e clash. The links are scratch.
+// Whether no two names of n rows from a on clash. The links are scratch.
 pub fn all_apart(
     schema: &[u8],
     rows: &[u32],
     marks: &[u32],
     links: &mut [u32],
     a: usize,
-    e: usize,
+    n: usize,
 ) -> bool
-    requires { ⌜ Marks (now schema) (now rows) (now marks) × (length (now links) < 2 ^ 32) ⌝ }
-    ensures { λ b. ⌜ b ≡ apart clash (namesOf (now (schema .entry)) (now (rows .entry)) (upFrom a (e - a))) ⌝ }
+    requires { ⌜ Marks (now schema) (now rows) (now marks) × Room a n × (length (now links) < 2 ^ 32) ⌝ }
+    ensures { λ b. ⌜ b ≡ apart clash (namesOf (now (schema .entry)) (now (rows .entry)) (walk (now (rows .entry)) a n)) ⌝ }
 {
-    if is_long(a, e, links.len()) {
-        let mut heads = [0u32; BUCKETS];
-        return listed_apart(schema, rows, marks, a, e, &mut heads, links);
+    if n < LONG {
+        return pairs_apart(schema, rows, marks, a, n);
     }
-    pairs_apart(schema, rows, marks, a, e)
+    if links.len() < past_rows(rows, a, n) {
+        return pairs_apart(schema, rows, marks, a, n);
+    }
+    let mut heads = [0u32; BUCKETS];
+    listed_apart(schema, rows, marks, a, n, &mut heads, links)
 }

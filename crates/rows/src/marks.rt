@@ -1,15 +1,17 @@
 // Marks: a number for each row that rows of equal names share, so that few names are compared byte by byte.
 use crate::names::name_of;
 use crate::names::same_bytes;
+use crate::rows::next_row;
 ghost use mathlib.Core.Path.{_≡_};
 ghost use Prim.Native.Nat.{_-_};
 ghost use mathlib.Core.Bool.{not};
 ghost use lib.ListN.{length, getD};
 ghost use Rattle.grammar.specs.Notation.{all, apart};
 ghost use Rattle.rules.specs.Names.{sameName, clash};
-ghost use Rattle.rules.specs.Rows.{upFrom, nameOf};
+ghost use Rattle.rules.specs.Rows.{walk, nameOf};
 ghost use Rattle.rules.specs.Rules.{namesOf};
 ghost use Rattle.rows.specs.Marks.{markOf, Marks, runsApart};
+ghost use Rattle.rows.specs.Rows.{Room};
 
 // The byte that stands k bytes before the end of a name, or the first; 0 of an empty name.
 fn byte_back(name: &[u8], k: usize) -> u8
@@ -71,57 +73,64 @@ pub fn is_named(
     same_bytes(name, name_of(schema, rows, r))
 }
 
-// Whether the name of row a clashes with none of the rows from b up to e.
-pub fn is_fresh(schema: &[u8], rows: &[u32], marks: &[u32], a: usize, b: usize, e: usize) -> bool
-    requires { ⌜ Marks (now schema) (now rows) (now marks) ⌝ }
-    ensures { λ r. ⌜ r ≡ all (λ y. not (clash (nameOf (now (schema .entry)) (now (rows .entry)) a) y)) (namesOf (now (schema .entry)) (now (rows .entry)) (upFrom b (e - b))) ⌝ }
+// Whether the name of row a clashes with none of n rows from b on.
+pub fn is_fresh(schema: &[u8], rows: &[u32], marks: &[u32], a: usize, b: usize, n: usize) -> bool
+    requires { ⌜ Marks (now schema) (now rows) (now marks) × Room b n ⌝ }
+    ensures { λ r. ⌜ r ≡ all (λ y. not (clash (nameOf (now (schema .entry)) (now (rows .entry)) a) y)) (namesOf (now (schema .entry)) (now (rows .entry)) (walk (now (rows .entry)) b n)) ⌝ }
 {
     let name = name_of(schema, rows, a);
     let mark = mark_of(name);
     let mut i = b;
-    while i < e {
+    let mut left = n;
+    while 0 < left {
         if is_named(schema, rows, marks, i, name, mark) {
             return false;
         }
-        i += 1;
+        i = next_row(rows, i);
+        left -= 1;
     }
     true
 }
 
-// Whether no two names of the rows from a up to e clash: each is compared with those after it.
-pub fn pairs_apart(schema: &[u8], rows: &[u32], marks: &[u32], a: usize, e: usize) -> bool
-    requires { ⌜ Marks (now schema) (now rows) (now marks) ⌝ }
-    ensures { λ r. ⌜ r ≡ apart clash (namesOf (now (schema .entry)) (now (rows .entry)) (upFrom a (e - a))) ⌝ }
+// Whether no two names of n rows from a on clash: each is compared with those after it.
+pub fn pairs_apart(schema: &[u8], rows: &[u32], marks: &[u32], a: usize, n: usize) -> bool
+    requires { ⌜ Marks (now schema) (now rows) (now marks) × Room a n ⌝ }
+    ensures { λ r. ⌜ r ≡ apart clash (namesOf (now (schema .entry)) (now (rows .entry)) (walk (now (rows .entry)) a n)) ⌝ }
 {
     let mut i = a;
-    while i < e {
-        if !is_fresh(schema, rows, marks, i, i + 1, e) {
+    let mut left = n;
+    while 0 < left {
+        let b = next_row(rows, i);
+        left -= 1;
+        if !is_fresh(schema, rows, marks, i, b, left) {
             return false;
         }
-        i += 1;
+        i = b;
     }
     true
 }
 
-// Whether no name of the rows from a up to e clashes with one of the rows from b up to f.
+// Whether no name of m rows from a on clashes with one of n rows from b on.
 pub fn runs_apart(
     schema: &[u8],
     rows: &[u32],
     marks: &[u32],
     a: usize,
-    e: usize,
+    m: usize,
     b: usize,
-    f: usize,
+    n: usize,
 ) -> bool
-    requires { ⌜ Marks (now schema) (now rows) (now marks) ⌝ }
-    ensures { λ r. ⌜ r ≡ runsApart (now (schema .entry)) (now (rows .entry)) a e b f ⌝ }
+    requires { ⌜ Marks (now schema) (now rows) (now marks) × Room a m × Room b n ⌝ }
+    ensures { λ r. ⌜ r ≡ runsApart (now (schema .entry)) (now (rows .entry)) a m b n ⌝ }
 {
     let mut i = a;
-    while i < e {
-        if !is_fresh(schema, rows, marks, i, b, f) {
+    let mut left = m;
+    while 0 < left {
+        if !is_fresh(schema, rows, marks, i, b, n) {
             return false;
         }
-        i += 1;
+        i = next_row(rows, i);
+        left -= 1;
     }
     true
 }

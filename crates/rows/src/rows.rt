@@ -1,11 +1,11 @@
 // Rows of eight words in a slice. Everything is total: past the end every word is 0.
 use rules::ROW_WORDS;
 ghost use mathlib.Core.Path.{_≡_};
-ghost use Prim.Native.Nat.{suc, _+_, _*_, _<_, _^_};
+ghost use Prim.Native.Nat.{_+_, _-_, _*_, _≤_, _<_, _^_};
 ghost use lib.ListN.{getD};
 ghost use Rattle.grammar.specs.Limits.{row-words};
-ghost use Rattle.rules.specs.Rows.{inline, inlineRows, childCount};
-ghost use Rattle.rows.specs.Rows.{unnamed};
+ghost use Rattle.rules.specs.Rows.{past, unnamed, owns, pastChildren};
+ghost use Rattle.rows.specs.Rows.{Follows, Room, First, Counted};
 
 pub fn wide(x: u32) -> usize
     ensures { λ r. ⌜ r ≡ x ⌝ }
@@ -27,28 +27,30 @@ pub fn word(rows: &[u32], r: usize, i: usize) -> u32
     rows[at + i]
 }
 
-// Whether row r is the inline struct of the row before it.
-pub fn is_inline(rows: &[u32], r: usize) -> bool
-    requires { ⌜ r < 2 ^ 40 ⌝ }
-    ensures { λ b. ⌜ b ≡ inline (now (rows .entry)) r ⌝ }
+// The row after row r and what belongs to that row alone.
+pub fn next_row(rows: &[u32], r: usize) -> usize
+    requires { ⌜ r < 2 ^ 63 ⌝ }
+    ensures { λ n. ⌜ Follows (now (rows .entry)) r n ⌝ }
 {
-    if r == 0 {
-        return false;
+    r + 1
+}
+
+// The row after n rows from c on, each the next of the one before.
+pub fn past_rows(rows: &[u32], c: usize, n: usize) -> usize
+    requires { ⌜ Room c n ⌝ }
+    ensures { λ e. ⌜ (e ≡ past (now (rows .entry)) c n) × (e ≤ 2 ^ 61 + (c - 2 ^ 61) + n) ⌝ }
+{
+    let mut i = c;
+    let mut left = n;
+    while 0 < left {
+        i = next_row(rows, i);
+        left -= 1;
     }
-    let owner = word(rows, r - 1, 0);
-    if owner != 5 {
-        if owner != 9 {
-            return false;
-        }
-    }
-    if wide(word(rows, r - 1, 3)) != r + 1 {
-        return false;
-    }
-    is_unnamed(rows, r)
+    i
 }
 
 // Whether row r is a struct with start, length and base link 0.
-fn is_unnamed(rows: &[u32], r: usize) -> bool
+pub fn is_unnamed(rows: &[u32], r: usize) -> bool
     ensures { λ b. ⌜ b ≡ unnamed (now (rows .entry)) r ⌝ }
 {
     if word(rows, r, 0) != 3 {
@@ -63,20 +65,27 @@ fn is_unnamed(rows: &[u32], r: usize) -> bool
     word(rows, r, 4) == 0
 }
 
-// How many rows the inline struct of row r takes.
-pub fn inline_rows(rows: &[u32], r: usize) -> usize
-    requires { ⌜ r < 2 ^ 39 ⌝ }
-    ensures { λ n. ⌜ n ≡ inlineRows (now (rows .entry)) r ⌝ }
+// Whether row r is a union or a command whose inline struct follows it.
+pub fn owns_struct(rows: &[u32], r: usize) -> bool
+    requires { ⌜ r < 2 ^ 61 + 2 ^ 34 ⌝ }
+    ensures { λ b. ⌜ b ≡ owns (now (rows .entry)) r ⌝ }
 {
-    if !is_inline(rows, r + 1) {
-        return 0;
+    let owner = word(rows, r, 0);
+    if owner != 5 {
+        if owner != 9 {
+            return false;
+        }
     }
-    wide(word(rows, r + 1, 3)) + 1
+    let s = next_row(rows, r);
+    if wide(word(rows, r, 3)) != s + 1 {
+        return false;
+    }
+    is_unnamed(rows, s)
 }
 
 // How many values, members, branches or alternatives row r has.
 pub fn child_count(rows: &[u32], r: usize) -> usize
-    ensures { λ n. ⌜ n ≡ childCount (now (rows .entry)) r ⌝ }
+    ensures { λ n. ⌜ Counted (now (rows .entry)) r n ⌝ }
 {
     let k = word(rows, r, 0);
     match k {
@@ -90,8 +99,20 @@ pub fn child_count(rows: &[u32], r: usize) -> usize
 
 // The first child of row r.
 pub fn first_child(rows: &[u32], r: usize) -> usize
-    requires { ⌜ r < 2 ^ 39 ⌝ }
-    ensures { λ n. ⌜ n ≡ suc r + inlineRows (now (rows .entry)) r ⌝ }
+    requires { ⌜ r < 2 ^ 61 + 2 ^ 34 ⌝ }
+    ensures { λ n. ⌜ First (now (rows .entry)) r n ⌝ }
 {
-    r + 1 + inline_rows(rows, r)
+    let s = next_row(rows, r);
+    if !owns_struct(rows, r) {
+        return s;
+    }
+    past_rows(rows, next_row(rows, s), wide(word(rows, s, 3)))
+}
+
+// The row after all that belongs to row r.
+pub fn past_children(rows: &[u32], r: usize) -> usize
+    requires { ⌜ r < 2 ^ 61 + 2 ^ 34 ⌝ }
+    ensures { λ n. ⌜ n ≡ pastChildren (now (rows .entry)) r ⌝ }
+{
+    past_rows(rows, first_child(rows, r), child_count(rows, r))
 }

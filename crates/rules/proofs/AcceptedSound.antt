@@ -29,7 +29,7 @@ use Rattle.rules.specs.Rows as Rows
 use Rattle.rules.specs.Rules.{is, everyRow, unionFits, discriminatorFits, branchFits, goodNames, distinctNames, goodChains, goodUnions, goodAlternates, goodReturns}
 use Rattle.rules.specs.SchemaTable.{structLink, typeNamed, discriminatorLink, table, allRefer}
 use Rattle.rules.specs.RawTable.{Every, EveryName, Spans}
-use Rattle.rules.specs.Sound.{sound, laidOut, restZero, referencesFit, toStruct, toOwnInline}
+use Rattle.rules.specs.Sound.{sound, laidOut, restZero, referencesFit, toStruct}
 use Rattle.rules.specs.SchemaAnswers.{Says, Breaks, SchemaApplies}
 use Rattle.rules.specs.MessageAnswers.{MessageApplies, MessageOutcome}
 use Rattle.rules.specs.MessageAnswers.MessageOutcome.{accepted, refused}
@@ -39,9 +39,9 @@ use Rattle.rules.specs.Cells.Entry.{enumRow, alternateRow, valueRow, str
 use Rattle.rules.proofs.Lists.{clash, none-not-some, and-left, and-right, and-of, or-cases, all-of, any-true, is-true, upFrom-bounds}
 use Rattle.rules.proofs.TableRows.{fit-child, laid-fit}
 use Rattle.rules.proofs.Cells.{table-words, length-words, entry-names, every-at, entries-follow, names-weaken}
-use Rattle.rules.proofs.CellRows.{Behind, rows-are, start-is, size-is, kind-past, inline-after}
+use Rattle.rules.proofs.CellRows.{Behind, rows-are, start-is, size-is, kind-past, owns-is}
 use Rattle.rules.proofs.CellLayout.{table-laid-out}
-use Rattle.rules.proofs.SoundFacts.{StructLink, every-one, to-struct, to-own-inline, base-refers}
+use Rattle.rules.proofs.SoundFacts.{StructLink, every-one, to-struct, to-owned, base-refers}
 use Rattle.rules.proofs.EntryLinks.{row-is, EntryLinked, TagLinked, rest-zero, references-fit, union-base}
 use Rattle.rules.proofs.DefinitionForms.{Formed, definitions-formed}
 use Rattle.rules.proofs.NameSpans.{names-within}
@@ -98,19 +98,19 @@ module _ (S : List ℕ) (ds : List Definition) (spans : EveryName (Spans S) ds) 
     linked : EntryLinked T f g entry
     linked = every-at (EntryLinked T f g) blank (entries ds) (entries-linked S ds behind h formed refer) r l
 
-    inline-next : Rows.inline T (suc r) ≡ owns entry
-    inline-next = inline-after f g h (entries ds) (entries-follow ds blank refl) (entry-names Behind ds behind) r l
+    owner : Rows.owns T r ≡ owns entry
+    owner = owns-is f g h (entries ds) (entry-names Behind ds behind) (entries-follow ds blank refl) r l
 
     zeros : restZero T r ≡ true
     zeros = rest-zero T f g h r entry (row-is f g h (entries ds) r l)
 
     fits : TagLinked T f g h r → referencesFit T r ≡ true
-    fits = references-fit T f g h r entry (row-is f g h (entries ds) r l) linked inline-next
+    fits = references-fit T f g h r entry (row-is f g h (entries ds) r l) linked owner
 
     base-of : kind T r ≡ 5 → StructLink T (unionBase T r)
     base-of k =
-        ⊎-elim (to-own-inline T r (unionBase T r)) (to-struct T (unionBase T r))
-        (or-cases (toOwnInline T r (unionBase T r)) (toStruct T (unionBase T r)) (union-base T f g h r entry (row-is f g h (entries ds) r l) linked inline-next k))
+        ⊎-elim (to-owned T r) (to-struct T (unionBase T r))
+        (or-cases (Rows.owns T r) (toStruct T (unionBase T r)) (union-base T f g h r entry (row-is f g h (entries ds) r l) linked owner k))
 
   -- a row of some kind is one of the table's
   there : (r k : ℕ) → kind T r ≡ suc k → r < length (entries ds)

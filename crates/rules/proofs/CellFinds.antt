@@ -19,7 +19,7 @@ use Rattle.rules.specs.Rules.{those, isDefinition}
 use Rattle.rules.specs.Cells.{Entry, blank, inlineEntries, ownEntry, childEntries, entries, wordsFrom, entryKind, entryName, isOwn, firstLink, isNamed}
 use Rattle.rules.specs.Cells.Entry.{valueRow, inlineRow, memberRow, branchRow, alternativeRow}
 use Rattle.rules.proofs.Lists.{and-left, and-right, upFrom-bounds}
-use Rattle.rules.proofs.Cells.{length-children, table-words, every-append, every-is, entry-names, Follow, entries-follow}
+use Rattle.rules.proofs.Cells.{length-children, table-words, every-append, every-is, entry-names}
 use Rattle.rules.proofs.CellRows.{Behind, rows-are, kind-is, name-is, definition-is}
 use Rattle.rules.proofs.CellLayout.{Stands, stands-whole, stands-head, stands-left, stands-right, stands-tail}
 
@@ -122,7 +122,7 @@ module _ (f g : Name → ℕ) (h : ℕ → Name → ℕ) (ds : List Definition) 
   definition-rows =
       rw (table-words f g h 0 ds, rows-are f g h (entries ds))
       (those-own (isDefinition (wordsFrom f g h 0 (entries ds))) (entries ds) 0
-      (λ j l. let z : 0 + j ≡ j = omega arith in rw z (definition-is f g h (entries ds) (entries-follow ds blank refl) (entry-names Behind ds p) j l))
+      (λ j l. let z : 0 + j ≡ j = omega arith in rw z (definition-is f g h (entries ds) (entry-names Behind ds p) j l))
       ∙ own-starts ds 0)
 
   -- what a name finds among the definitions it finds among their rows

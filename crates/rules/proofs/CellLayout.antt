@@ -15,15 +15,16 @@ use Rattle.rules.specs.Definitions.Data.{absent, inline, named}
 use Rattle.rules.specs.Definitions.Body.{enum, struct, union, alternate, command}
 use Rattle.rules.specs.SchemaTable.{tableFrom}
 use Rattle.rules.specs.RawTable.{Every, EveryName}
-use Rattle.rules.specs.Rows.{upFrom, rowCount, kind, count, inlineRows, childCount, children}
+use Rattle.rules.specs.Rows.{rowCount, kind, count, walk, past, firstChild, childCount, children, pastChildren}
 use Rattle.rules.specs.Rows as Rows
+use Rattle.rules.specs.Rules.{isDefinition}
 use Rattle.rules.specs.Sound.{childrenFit, definitionAt, laidOut}
 use Rattle.rules.specs.Cells.{Entry, blank, inlineEntries, ownEntry, childEntries, entries, wordsOf, wordsFrom, entryKind, isInlineRow, isOwn, owns, isInlineData, entryChildren, EntryNames}
 use Rattle.rules.specs.Cells.Entry.{enumRow, alternateRow, valueRow, structRow, inlineRow, memberRow, unionRow, branchRow, alternativeRow, commandRow}
 use Rattle.grammar.specs.Notation.{all}
 use Rattle.rules.proofs.Lists.{clash, and-left, and-of, or-right}
 use Rattle.rules.proofs.Cells.{length-map, table-words, entry-names, Follow, entries-follow}
-use Rattle.rules.proofs.CellRows.{Behind, word-is, rows-are, kind-is, inline-after, definition-of}
+use Rattle.rules.proofs.CellRows.{Behind, word-is, rows-are, kind-is, next-is, owns-is, definition-is, definition-of}
 
 -- the entries xs are those of es from row b on
 pub record Stands (es : List Entry) (b : ℕ) (xs : List Entry) : Type 0 where
@@ -85,39 +86,42 @@ module _ (f g : Name → ℕ) (h : ℕ → Name → ℕ) (es : List Entry) where
 
   -- rows of one kind, one after the other
   kinds-fit : {A : Type 0} (c : A → Entry) (k : ℕ) → ((x : A) → entryKind (c x) ≡ k) → (b : ℕ) (xs : List A) → Stands es b (map c xs)
-      → all (λ j. eqb (kind T j) k) (upFrom b (length xs)) ≡ true
+      → all (λ j. eqb (kind T j) k) (walk T b (length xs)) ≡ true
+  unfolding walk
   kinds-fit c k e b [] s = refl
   kinds-fit c k e b (x ∷ xs) s =
       let o = stands-head s in
       let z : kind T b ≡ k = kind-is f g h es b (o .0) ∙ ap entryKind (o .1) ∙ e x in
-      and-of (eqb (kind T b) k) (all (λ j. eqb (kind T j) k) (upFrom (suc b) (length xs))) (eq-eqb (kind T b) k z) (kinds-fit c k e (suc b) xs (stands-tail s))
+      rw (next-is f g h es b)
+      (and-of (eqb (kind T b) k) (all (λ j. eqb (kind T j) k) (walk T (suc b) (length xs))) (eq-eqb (kind T b) k z) (kinds-fit c k e (suc b) xs (stands-tail s)))
+
+  -- the row after them
+  pub past-is : (n b : ℕ) → past T b n ≡ b + n
+  unfolding past
+  past-is zero b = sym (add-zero b)
+  past-is (suc n) b = rw (next-is f g h es b) (past-is n (suc b) ∙ (let k : suc b + n ≡ b + suc n = omega arith in k))
 
   module _ (follow : Follow blank es) (behind : Every (EntryNames Behind) es) where
-    -- an entry without an inline struct: its children follow it directly
-    pub no-inline-rows : (a : ℕ) (e : Entry) (xs : List Entry) → Stands es a (e ∷ xs) → owns e ≡ false → inlineRows T a ≡ 0
-    unfolding inlineRows
-    no-inline-rows a e xs s o =
-        let p = stands-head s in
-        let i : Rows.inline T (suc a) ≡ false = inline-after f g h es follow behind a (p .0) ∙ ap owns (p .1) ∙ o in
-        rw i
+    owner-is : (a : ℕ) (e : Entry) (xs : List Entry) (b : Bool) → Stands es a (e ∷ xs) → owns e ≡ b → Rows.owns T a ≡ b
+    owner-is a e xs b s o = let p = stands-head s in owns-is f g h es behind follow a (p .0) ∙ ap owns (p .1) ∙ o
 
-    pub inline-rows-are : (a : ℕ) (e : Entry) (b : Data) (xs : List Entry) → Stands es a (e ∷ inlineEntries b ++ xs) → owns e ≡ isInlineData b → inlineRows T a ≡ length (inlineEntries b)
-    unfolding inlineRows
-    inline-rows-are a e absent xs s o = no-inline-rows a e xs s o
-    inline-rows-are a e (named n) xs s o = no-inline-rows a e xs s o
-    inline-rows-are a e (inline ms) xs s o =
-        let p = stands-head s in
+    -- where the children of an entry begin: directly after it, or after its inline struct
+    first-is : (a : ℕ) (e : Entry) (b : Data) (xs : List Entry) → Stands es a (e ∷ inlineEntries b ++ xs) → owns e ≡ isInlineData b → firstChild T a ≡ suc a + length (inlineEntries b)
+    unfolding firstChild
+    first-is a e absent xs s o = rw (owner-is a e xs false s o, next-is f g h es a, add-zero (suc a))
+    first-is a e (named n) xs s o = rw (owner-is a e xs false s o, next-is f g h es a, add-zero (suc a))
+    first-is a e (inline ms) xs s o =
         let q = stands-head (stands-tail s) in
-        let i : Rows.inline T (suc a) ≡ true = inline-after f g h es follow behind a (p .0) ∙ ap owns (p .1) ∙ o in
         let c : count T (suc a) ≡ length ms = word-is f g h es (suc a) 3 (q .0) (omega arith) ∙ ap (λ x. getD (wordsOf f g h (suc a) x) 3 0) (q .1) in
-        rw (i, c, length-map memberRow ms)
+        let m : length (map memberRow ms) ≡ length ms = length-map memberRow ms in
+        rw (owner-is a e (inlineEntries (inline ms) ++ xs) true s o, next-is f g h es a, next-is f g h es (suc a), c, past-is (length ms) (suc (suc a))) (omega arith)
 
     pub children-are : (a : ℕ) (e : Entry) (b : Data) (xs : List Entry) → Stands es a (e ∷ inlineEntries b ++ xs) → owns e ≡ isInlineData b
-        → children T a ≡ upFrom (suc a + length (inlineEntries b)) (entryChildren e)
+        → children T a ≡ walk T (suc a + length (inlineEntries b)) (entryChildren e)
     unfolding children
     children-are a e b xs s o =
         let p = stands-head s in
-        rw (inline-rows-are a e b xs s o, child-count-is a (p .0), p .1)
+        rw (first-is a e b xs s o, child-count-is a (p .0), p .1)
 
     children-fit : {A : Type 0} (a : ℕ) (e : Entry) (b : Data) (c : A → Entry) (xs : List A) → Stands es a (e ∷ inlineEntries b ++ map c xs) → owns e ≡ isInlineData b
         → entryChildren e ≡ length xs → ((x : A) → entryKind (c x) ≡ suc (entryKind e)) → childrenFit T a ≡ true
@@ -128,32 +132,30 @@ module _ (f g : Name → ℕ) (h : ℕ → Name → ℕ) (es : List Entry) where
         (kinds-fit c (suc (entryKind e)) k (suc a + length (inlineEntries b)) xs (stands-right (inlineEntries b) (map c xs) (stands-tail s)))
 
     inline-fits : (a : ℕ) (e : Entry) (b : Data) (xs : List Entry) → Stands es a (e ∷ inlineEntries b ++ xs) → owns e ≡ isInlineData b
-        → not (Rows.inline T (suc a)) || childrenFit T (suc a) ≡ true
+        → not (Rows.owns T a) || childrenFit T (Rows.next T a) ≡ true
     inline-fits a e (inline ms) xs s o =
-        or-right (not (Rows.inline T (suc a))) (childrenFit T (suc a))
-        (children-fit (suc a) (inlineRow (length ms)) absent memberRow ms (stands-left (inlineRow (length ms) ∷ map memberRow ms) xs (stands-tail s)) refl refl (λ _. refl))
-    inline-fits a e absent xs s o = let p = stands-head s in rw (inline-after f g h es follow behind a (p .0), p .1, o)
-    inline-fits a e (named n) xs s o = let p = stands-head s in rw (inline-after f g h es follow behind a (p .0), p .1, o)
-
-    own-kind : (e : Entry) → isOwn e ≡ true → (eqb (entryKind e) 1 || eqb (entryKind e) 3 || eqb (entryKind e) 5 || eqb (entryKind e) 7 || eqb (entryKind e) 9) ≡ true
-    own-kind e o = and-left _ (not (isInlineRow e)) (definition-of e ∙ o)
+        or-right (not (Rows.owns T a)) (childrenFit T (Rows.next T a))
+        (rw (next-is f g h es a) (children-fit (suc a) (inlineRow (length ms)) absent memberRow ms (stands-left (inlineRow (length ms) ∷ map memberRow ms) xs (stands-tail s)) refl refl (λ _. refl)))
+    inline-fits a e absent xs s o = rw (owner-is a e xs false s o)
+    inline-fits a e (named n) xs s o = rw (owner-is a e xs false s o)
 
     -- one definition
     laid-one : {A : Type 0} (a : ℕ) (e : Entry) (b : Data) (c : A → Entry) (xs : List A) → Stands es a (e ∷ inlineEntries b ++ map c xs) → owns e ≡ isInlineData b
         → entryChildren e ≡ length xs → ((x : A) → entryKind (c x) ≡ suc (entryKind e)) → isOwn e ≡ true
-        → (definitionAt T a ≡ true) × (suc a + inlineRows T a + childCount T a ≡ a + suc (length (inlineEntries b ++ map c xs)))
+        → (definitionAt T a ≡ true) × (pastChildren T a ≡ a + suc (length (inlineEntries b ++ map c xs)))
+    unfolding pastChildren
     laid-one a e b c xs s o n k w =
         let p = stands-head s in
-        let q : kind T a ≡ entryKind e = kind-is f g h es a (p .0) ∙ ap entryKind (p .1) in
+        let q : isDefinition T a ≡ true = definition-is f g h es behind a (p .0) ∙ ap isOwn (p .1) ∙ w in
         let fit = children-fit a e b c xs s o n k in
         let i = inline-fits a e b (map c xs) s o in
-        let m : inlineRows T a ≡ length (inlineEntries b) = inline-rows-are a e b (map c xs) s o in
+        let m : firstChild T a ≡ suc a + length (inlineEntries b) = first-is a e b (map c xs) s o in
         let y : childCount T a ≡ length xs = child-count-is a (p .0) ∙ ap entryChildren (p .1) ∙ n in
         let z : length (inlineEntries b ++ map c xs) ≡ length (inlineEntries b) + length xs = length-append (inlineEntries b) (map c xs) ∙ rw (length-map c xs) in
-        (rw (fit, i, q, own-kind e w), omega arith)
+        (rw (fit, i, q), past-is (childCount T a) (firstChild T a) ∙ omega arith)
 
     laid-body : (a : ℕ) (n : Name) (b : Body) → Stands es a (ownEntry n b ∷ childEntries b)
-        → (definitionAt T a ≡ true) × (suc a + inlineRows T a + childCount T a ≡ a + suc (length (childEntries b)))
+        → (definitionAt T a ≡ true) × (pastChildren T a ≡ a + suc (length (childEntries b)))
     laid-body a n (enum vs) s = laid-one a (enumRow n (length vs)) absent valueRow vs s refl refl (λ _. refl) refl
     laid-body a n (struct b ms) s = laid-one a (structRow n b (length ms)) absent memberRow ms s refl refl (λ _. refl) refl
     laid-body a n (union b tag bs) s = laid-one a (unionRow n b tag (length bs)) b branchRow bs s refl refl (λ _. refl) refl
@@ -167,9 +169,9 @@ module _ (f g : Name → ℕ) (h : ℕ → Name → ℕ) (es : List Entry) where
     laid-end a zero e = eq-eqb a (rowCount T) (e ∙ sym (rows-are f g h es))
     laid-end a (suc n) e = rw (eq-eqb a (rowCount T) (e ∙ sym (rows-are f g h es)))
 
-    laid-next : (a n : ℕ) → definitionAt T a ≡ true → laidOut T n (suc a + inlineRows T a + childCount T a) ≡ true → laidOut T (suc n) a ≡ true
+    laid-next : (a n : ℕ) → definitionAt T a ≡ true → laidOut T n (pastChildren T a) ≡ true → laidOut T (suc n) a ≡ true
     unfolding laidOut
-    laid-next a n p q = or-right (eqb a (rowCount T)) (definitionAt T a && laidOut T n (suc a + inlineRows T a + childCount T a)) (rw (p, q))
+    laid-next a n p q = or-right (eqb a (rowCount T)) (definitionAt T a && laidOut T n (pastChildren T a)) (rw (p, q))
 
     pub laid-out : (ds : List Definition) (n a : ℕ) → Stands es a (entries ds) → a + length (entries ds) ≡ length es → length (entries ds) ≤ n → laidOut T n a ≡ true
     unfolding entries

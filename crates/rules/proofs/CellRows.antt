@@ -41,40 +41,39 @@ definition-of (alternativeRow p) = refl
 definition-of (commandRow n a t oob) = refl
 
 module _ (f g : Name → ℕ) (h : ℕ → Name → ℕ) where
-  -- two rows one after the other
-  abbrev inlineNext : ℕ → Entry → Entry → Bool
-  inlineNext r p e =
-      (eqb (getD (wordsOf f g h r p) 0 0) 5 || eqb (getD (wordsOf f g h r p) 0 0) 9) && eqb (getD (wordsOf f g h r p) 3 0) (suc (suc r))
-      && eqb (getD (wordsOf f g h (suc r) e) 0 0) 3 && eqb (getD (wordsOf f g h (suc r) e) 1 0) 0 && eqb (getD (wordsOf f g h (suc r) e) 2 0) 0
-      && eqb (getD (wordsOf f g h (suc r) e) 4 0) 0
+  -- an unnamed struct is the entry of an inline one
+  unnamed-entry : (r : ℕ) (e : Entry) → EntryNames Behind e
+      → (eqb (getD (wordsOf f g h r e) 0 0) 3 && eqb (getD (wordsOf f g h r e) 1 0) 0 && eqb (getD (wordsOf f g h r e) 2 0) 0 && eqb (getD (wordsOf f g h r e) 4 0) 0) ≡ isInlineRow e
+  unnamed-entry r (inlineRow c) b = refl
+  unnamed-entry r (structRow n d c) b = let k : n .start ≡ 0 → ⊥ = omega (arith, b .0) in rw (ne-eqb (n .start) 0 k)
+  unnamed-entry r (enumRow n c) b = refl
+  unnamed-entry r (alternateRow n c) b = refl
+  unnamed-entry r (valueRow n) b = refl
+  unnamed-entry r (memberRow m) b = refl
+  unnamed-entry r (unionRow n d tag c) b = refl
+  unnamed-entry r (branchRow m) b = refl
+  unnamed-entry r (alternativeRow m) b = refl
+  unnamed-entry r (commandRow n a t oob) b = refl
 
-  owner-next : (r c : ℕ) (p : Entry) → true ≡ owns p → inlineNext r p (inlineRow c) ≡ true
-  owner-next r c (unionRow n (inline ms) tag k) o = rw (eq-eqb (suc (suc r)) (suc (suc r)) refl)
-  owner-next r c (commandRow n (inline ms) t oob) o = rw (eq-eqb (suc (suc r)) (suc (suc r)) refl)
-  owner-next r c (unionRow n absent tag k) o = absurd (clash refl o)
-  owner-next r c (unionRow n (named m) tag k) o = absurd (clash refl o)
-  owner-next r c (commandRow n absent t oob) o = absurd (clash refl o)
-  owner-next r c (commandRow n (named m) t oob) o = absurd (clash refl o)
-  owner-next r c (enumRow n k) o = absurd (clash refl o)
-  owner-next r c (alternateRow n k) o = absurd (clash refl o)
-  owner-next r c (valueRow n) o = absurd (clash refl o)
-  owner-next r c (structRow n b k) o = absurd (clash refl o)
-  owner-next r c (inlineRow k) o = absurd (clash refl o)
-  owner-next r c (memberRow m) o = absurd (clash refl o)
-  owner-next r c (branchRow m) o = absurd (clash refl o)
-  owner-next r c (alternativeRow m) o = absurd (clash refl o)
+  -- an owner's link is to the row after it
+  abbrev linksOn : ℕ → Entry → Bool
+  linksOn r p = (eqb (getD (wordsOf f g h r p) 0 0) 5 || eqb (getD (wordsOf f g h r p) 0 0) 9) && eqb (getD (wordsOf f g h r p) 3 0) (suc (suc r))
 
-  inline-next : (r : ℕ) (p e : Entry) → isInlineRow e ≡ owns p → EntryNames Behind e → inlineNext r p e ≡ isInlineRow e
-  inline-next r p (inlineRow c) o b = owner-next r c p o
-  inline-next r p (structRow n d c) o b = let k : n .start ≡ 0 → ⊥ = omega (arith, b .0) in rw (ne-eqb (n .start) 0 k, and-false)
-  inline-next r p (enumRow n c) o b = rw and-false
-  inline-next r p (alternateRow n c) o b = rw and-false
-  inline-next r p (valueRow n) o b = rw and-false
-  inline-next r p (memberRow m) o b = rw and-false
-  inline-next r p (unionRow n d tag c) o b = rw and-false
-  inline-next r p (branchRow m) o b = rw and-false
-  inline-next r p (alternativeRow m) o b = rw and-false
-  inline-next r p (commandRow n a t oob) o b = rw and-false
+  owner-link : (r : ℕ) (p : Entry) → owns p ≡ true → linksOn r p ≡ true
+  owner-link r (unionRow n (inline ms) tag k) o = rw (eq-eqb (suc (suc r)) (suc (suc r)) refl)
+  owner-link r (commandRow n (inline ms) t oob) o = rw (eq-eqb (suc (suc r)) (suc (suc r)) refl)
+  owner-link r (unionRow n absent tag k) o = absurd (clash o refl)
+  owner-link r (unionRow n (named m) tag k) o = absurd (clash o refl)
+  owner-link r (commandRow n absent t oob) o = absurd (clash o refl)
+  owner-link r (commandRow n (named m) t oob) o = absurd (clash o refl)
+  owner-link r (enumRow n k) o = absurd (clash o refl)
+  owner-link r (alternateRow n k) o = absurd (clash o refl)
+  owner-link r (valueRow n) o = absurd (clash o refl)
+  owner-link r (structRow n b k) o = absurd (clash o refl)
+  owner-link r (inlineRow k) o = absurd (clash o refl)
+  owner-link r (memberRow m) o = absurd (clash o refl)
+  owner-link r (branchRow m) o = absurd (clash o refl)
+  owner-link r (alternativeRow m) o = absurd (clash o refl)
 
   module _ (es : List Entry) where
     -- the words of row r, counted from 0, and past the end
@@ -106,34 +105,42 @@ module _ (f g : Name → ℕ) (h : ℕ → Name → ℕ) where
     pub kind-past : (r : ℕ) → length es ≤ r → kind (wordsFrom f g h 0 es) r ≡ 0
     kind-past r l = word-past r 0 l
 
-    module _ (follow : Follow blank es) (behind : Every (EntryNames Behind) es) where
+    -- a row's next is the next entry's
+    pub next-is : (r : ℕ) → Rows.next (wordsFrom f g h 0 es) r ≡ suc r
+    unfolding Rows.next
+    next-is r = refl
+
+    module _ (behind : Every (EntryNames Behind) es) where
       -- inline structs are the entries that say so
-      pub inline-is : (r : ℕ) → r < length es → Rows.inline (wordsFrom f g h 0 es) r ≡ isInlineRow (getD es r blank)
-      unfolding Rows.inline
-      inline-is zero l = first es follow l
-        where
-          first : (es : List Entry) → Follow blank es → 0 < length es → false ≡ isInlineRow (getD es 0 blank)
-          first [] k l = absurd (omega arith)
-          first (e ∷ es) k l = sym (k .0)
-      inline-is (suc r) l =
-          let m : r < length es = omega arith in
-          rw (word-is r 0 m (omega arith), word-is r 3 m (omega arith), word-is (suc r) 0 l (omega arith), word-is (suc r) 1 l (omega arith), word-is (suc r) 2 l (omega arith), word-is (suc r) 4 l (omega arith))
-          (inline-next r (getD es r blank) (getD es (suc r) blank) (follow-at blank es follow r l) (every-at (EntryNames Behind) blank es behind (suc r) l))
+      pub unnamed-is : (r : ℕ) → r < length es → Rows.unnamed (wordsFrom f g h 0 es) r ≡ isInlineRow (getD es r blank)
+      unfolding Rows.unnamed
+      unnamed-is r l =
+          rw (word-is r 0 l (omega arith), word-is r 1 l (omega arith), word-is r 2 l (omega arith), word-is r 4 l (omega arith))
+          (unnamed-entry r (getD es r blank) (every-at (EntryNames Behind) blank es behind r l))
 
-      pub inline-past : (r : ℕ) → length es ≤ r → Rows.inline (wordsFrom f g h 0 es) r ≡ false
-      unfolding Rows.inline
-      inline-past zero l = refl
-      inline-past (suc r) l = rw (kind-past (suc r) l, and-false)
-
-      -- an owner's inline struct follows it
-      pub inline-after : (r : ℕ) → r < length es → Rows.inline (wordsFrom f g h 0 es) (suc r) ≡ owns (getD es r blank)
-      inline-after r l = go (ltb (suc r) (length es)) refl
-        where
-          go : (b : Bool) → ltb (suc r) (length es) ≡ b → Rows.inline (wordsFrom f g h 0 es) (suc r) ≡ owns (getD es r blank)
-          go true e = let k : suc r < length es = ltb-true (suc r) (length es) e in inline-is (suc r) k ∙ follow-at blank es follow r k
-          go false e =
-              let k : length es ≤ suc r = ltb-false (suc r) (length es) e in
-              inline-past (suc r) k ∙ sym (follow-last blank es follow r (omega arith))
+      pub unnamed-past : (r : ℕ) → length es ≤ r → Rows.unnamed (wordsFrom f g h 0 es) r ≡ false
+      unfolding Rows.unnamed
+      unnamed-past r l = rw (kind-past r l)
 
       pub definition-is : (r : ℕ) → r < length es → isDefinition (wordsFrom f g h 0 es) r ≡ isOwn (getD es r blank)
-      definition-is r l = rw (kind-is r l, inline-is r l) (definition-of (getD es r blank))
+      definition-is r l = rw (kind-is r l, unnamed-is r l) (definition-of (getD es r blank))
+
+      module _ (follow : Follow blank es) where
+        -- an owner's inline struct follows it
+        unnamed-after : (r : ℕ) → r < length es → Rows.unnamed (wordsFrom f g h 0 es) (suc r) ≡ owns (getD es r blank)
+        unnamed-after r l = go (ltb (suc r) (length es)) refl
+          where
+            go : (b : Bool) → ltb (suc r) (length es) ≡ b → Rows.unnamed (wordsFrom f g h 0 es) (suc r) ≡ owns (getD es r blank)
+            go true e = let k : suc r < length es = ltb-true (suc r) (length es) e in unnamed-is (suc r) k ∙ follow-at blank es follow r k
+            go false e =
+                let k : length es ≤ suc r = ltb-false (suc r) (length es) e in
+                unnamed-past (suc r) k ∙ sym (follow-last blank es follow r (omega arith))
+
+        pub owns-is : (r : ℕ) → r < length es → Rows.owns (wordsFrom f g h 0 es) r ≡ owns (getD es r blank)
+        unfolding Rows.owns
+        owns-is r l =
+            rw (next-is r, word-is r 0 l (omega arith), word-is r 3 l (omega arith), unnamed-after r l) (go (owns (getD es r blank)) refl)
+          where
+            go : (b : Bool) → owns (getD es r blank) ≡ b → (linksOn r (getD es r blank) && b) ≡ b
+            go true e = rw (owner-link r (getD es r blank) e)
+            go false e = rw and-false

@@ -17,7 +17,7 @@ use Rattle.rules.specs.Definitions.TypeText.{nothing, one, listOf}
 use Rattle.rules.specs.Definitions.Data.{absent, inline, named}
 use Rattle.rules.specs.SchemaTable.{typeOf, dataLink, tableFrom, memberIn, memberOf}
 use Rattle.rules.specs.RawTable.{EveryName}
-use Rattle.rules.specs.Rows.{rowCount, kind, base, inlineRows, childCount, children, members, after, nameOf}
+use Rattle.rules.specs.Rows.{rowCount, kind, count, base, next, walk, firstChild, childCount, children, members, after, nameOf}
 use Rattle.rules.specs.Rows as Rows
 use Rattle.rules.specs.Cells.{Entry, blank, entries, wordsOf, wordsFrom}
 use Rattle.rules.specs.Cells.Entry.{enumRow, alternateRow, valueRow, structRow, inlineRow, memberRow, unionRow, branchRow, alternativeRow, commandRow}
@@ -33,22 +33,31 @@ pub record Alike (U T : List ℕ) : Type 0 where
   pub same-word : (r i : ℕ) → i < 5 → getD U (row-words * r + i) 0 ≡ getD T (row-words * r + i) 0
 
 module _ {U T : List ℕ} (a : Alike U T) where
-  pub alike-inline : (r : ℕ) → Rows.inline U r ≡ Rows.inline T r
-  unfolding Rows.inline
-  alike-inline zero = refl
-  alike-inline (suc r) =
-      rw (
-        a .same-word r 0 (omega arith),
-        a .same-word r 3 (omega arith),
-        a .same-word (suc r) 0 (omega arith),
-        a .same-word (suc r) 1 (omega arith),
-        a .same-word (suc r) 2 (omega arith),
-        a .same-word (suc r) 4 (omega arith),
-      )
+  alike-next : (r : ℕ) → next U r ≡ next T r
+  unfolding next
+  alike-next r = refl
 
-  alike-inline-rows : (r : ℕ) → inlineRows U r ≡ inlineRows T r
-  unfolding inlineRows
-  alike-inline-rows r = rw (alike-inline (suc r), a .same-word (suc r) 3 (omega arith))
+  alike-walk : (n c : ℕ) → walk U c n ≡ walk T c n
+  unfolding walk
+  alike-walk zero c = refl
+  alike-walk (suc n) c = rw (alike-next c, alike-walk n (next T c))
+
+  alike-past : (n c : ℕ) → Rows.past U c n ≡ Rows.past T c n
+  unfolding Rows.past
+  alike-past zero c = refl
+  alike-past (suc n) c = rw (alike-next c, alike-past n (next T c))
+
+  pub alike-unnamed : (r : ℕ) → Rows.unnamed U r ≡ Rows.unnamed T r
+  unfolding Rows.unnamed
+  alike-unnamed r = rw (a .same-word r 0 (omega arith), a .same-word r 1 (omega arith), a .same-word r 2 (omega arith), a .same-word r 4 (omega arith))
+
+  alike-owns : (r : ℕ) → Rows.owns U r ≡ Rows.owns T r
+  unfolding Rows.owns
+  alike-owns r = rw (alike-next r, alike-unnamed (next T r), a .same-word r 0 (omega arith), a .same-word r 3 (omega arith))
+
+  alike-first : (r : ℕ) → firstChild U r ≡ firstChild T r
+  unfolding firstChild
+  alike-first r = rw (alike-owns r, alike-next r, alike-next (next T r), a .same-word (next T r) 3 (omega arith), alike-past (count T (next T r)) (next T (next T r)))
 
   alike-count : (r : ℕ) → childCount U r ≡ childCount T r
   unfolding childCount
@@ -56,7 +65,7 @@ module _ {U T : List ℕ} (a : Alike U T) where
 
   pub alike-children : (r : ℕ) → children U r ≡ children T r
   unfolding children
-  alike-children r = rw (alike-inline-rows r, alike-count r)
+  alike-children r = rw (alike-first r, alike-count r, alike-walk (childCount T r) (firstChild T r))
 
   pub alike-members : (n l : ℕ) → members U n l ≡ members T n l
   unfolding members

@@ -14,7 +14,7 @@ use Rattle.rules.specs.Definitions.Data.{absent, inline, named}
 use Rattle.rules.specs.Rows.{word, kind, unionBase, discriminator}
 use Rattle.rules.specs.Rows as Rows
 use Rattle.rules.specs.SchemaTable.{flag, isList, typeOf, dataLink}
-use Rattle.rules.specs.Sound.{restZero, referencesFit, isFlag, toStruct, toOwnInline, toType}
+use Rattle.rules.specs.Sound.{restZero, referencesFit, isFlag, toStruct, toType}
 use Rattle.rules.specs.Cells.{Entry, blank, wordsOf, wordsFrom, isInlineData, owns}
 use Rattle.rules.specs.Cells.Entry.{enumRow, alternateRow, valueRow, structRow, inlineRow, memberRow, unionRow, branchRow, alternativeRow, commandRow}
 use Rattle.rules.proofs.Lists.{clash, or-left, or-right}
@@ -102,22 +102,16 @@ module _ (T : List ℕ) (f g : Name → ℕ) where
     base-linked r (inline ms) k = absurd k
     base-linked r (named n) k = or-right (eqb (f n) 0) (toStruct T (f n)) k
 
-    own-inline : (r : ℕ) → Rows.inline T (suc r) ≡ true → toOwnInline T r (suc (suc r)) ≡ true
-    own-inline r i = rw (eq-eqb (suc (suc r)) (suc (suc r)) refl, i)
-
-    union-linked : (r : ℕ) (b : Data) → UnionLinked b → Rows.inline T (suc r) ≡ isInlineData b
-        → (toOwnInline T r (dataLink f g h r b) || toStruct T (dataLink f g h r b)) ≡ true
+    union-linked : (r : ℕ) (b : Data) → UnionLinked b → Rows.owns T r ≡ isInlineData b → (Rows.owns T r || toStruct T (dataLink f g h r b)) ≡ true
     union-linked r absent k i = absurd k
-    union-linked r (inline ms) k i = rw (own-inline r i)
-    union-linked r (named n) k i = or-right (toOwnInline T r (f n)) (toStruct T (f n)) k
+    union-linked r (inline ms) k i = rw i
+    union-linked r (named n) k i = or-right (Rows.owns T r) (toStruct T (f n)) k
 
-    data-linked : (r : ℕ) (a : Data) → DataLinked a → Rows.inline T (suc r) ≡ isInlineData a
-        → (eqb (dataLink f g h r a) 0 || toOwnInline T r (dataLink f g h r a) || toStruct T (dataLink f g h r a)) ≡ true
+    data-linked : (r : ℕ) (a : Data) → DataLinked a → Rows.owns T r ≡ isInlineData a
+        → (eqb (dataLink f g h r a) 0 || Rows.owns T r || toStruct T (dataLink f g h r a)) ≡ true
     data-linked r absent k i = refl
-    data-linked r (inline ms) k i =
-        let l = suc (suc r) in
-        or-left (eqb l 0 || toOwnInline T r l) (toStruct T l) (or-right (eqb l 0) (toOwnInline T r l) (own-inline r i))
-    data-linked r (named n) k i = or-right (eqb (f n) 0 || toOwnInline T r (f n)) (toStruct T (f n)) k
+    data-linked r (inline ms) k i = let l = suc (suc r) in or-left (eqb l 0 || Rows.owns T r) (toStruct T l) (or-right (eqb l 0) (Rows.owns T r) i)
+    data-linked r (named n) k i = or-right (eqb (f n) 0 || Rows.owns T r) (toStruct T (f n)) k
 
     -- unused words are 0
     pub rest-zero : (r : ℕ) (e : Entry) → RowIs T r (wordsOf f g h r e) → restZero T r ≡ true
@@ -136,7 +130,7 @@ module _ (T : List ℕ) (f g : Name → ℕ) where
     abbrev pub TagLinked : ℕ → Type 0
     TagLinked r = kind T r ≡ 5 → (ltb 0 (discriminator T r) && eqb (kind T (discriminator T r - 1)) 4) ≡ true
 
-    pub references-fit : (r : ℕ) (e : Entry) → RowIs T r (wordsOf f g h r e) → EntryLinked e → Rows.inline T (suc r) ≡ owns e → TagLinked r → referencesFit T r ≡ true
+    pub references-fit : (r : ℕ) (e : Entry) → RowIs T r (wordsOf f g h r e) → EntryLinked e → Rows.owns T r ≡ owns e → TagLinked r → referencesFit T r ≡ true
     references-fit r (enumRow n c) w k i t = rw (w .word-1)
     references-fit r (valueRow n) w k i t = rw (w .word-1)
     references-fit r (structRow n b c) w k i t = rw (w .word-1) (rw (w .word-5, base-linked r b k))
@@ -154,8 +148,8 @@ module _ (T : List ℕ) (f g : Name → ℕ) where
     no-union : {A : Type 0} {a k : ℕ} → a ≡ k → a ≡ 5 → eqb k 5 ≡ false → A
     no-union {k = k} p q e = let z : k ≡ 5 = cc in clash (eq-eqb k 5 z) e
 
-    pub union-base : (r : ℕ) (e : Entry) → RowIs T r (wordsOf f g h r e) → EntryLinked e → Rows.inline T (suc r) ≡ owns e → kind T r ≡ 5
-        → (toOwnInline T r (unionBase T r) || toStruct T (unionBase T r)) ≡ true
+    pub union-base : (r : ℕ) (e : Entry) → RowIs T r (wordsOf f g h r e) → EntryLinked e → Rows.owns T r ≡ owns e → kind T r ≡ 5
+        → (Rows.owns T r || toStruct T (unionBase T r)) ≡ true
     union-base r (enumRow n c) w k i e = no-union (w .word-1) e refl
     union-base r (valueRow n) w k i e = no-union (w .word-1) e refl
     union-base r (structRow n b c) w k i e = no-union (w .word-1) e refl

@@ -59,8 +59,8 @@ module _ (S : List ℕ) (ds : List Definition) (behind : EveryName Behind ds) (h
       subst (λ (W : List ℕ). (isDefinition W r ≡ true) × (fits (kind W r) ≡ true)) (table-words (structLink S ds) (typeNamed S ds) h 0 ds) (z .1, z .2)
 
   -- a definition's own row is no inline struct
-  own-row : (r : ℕ) → isDefinition T r ≡ true → not (Rows.inline T r) ≡ true
-  own-row r e = and-right (isEnum T r || isStruct T r || isUnion T r || isAlternate T r || isCommand T r) (not (Rows.inline T r)) e
+  own-row : (r : ℕ) → isDefinition T r ≡ true → not (Rows.unnamed T r) ≡ true
+  own-row r e = and-right (isEnum T r || isStruct T r || isUnion T r || isAlternate T r || isCommand T r) (not (Rows.unnamed T r)) e
 
   struct-found : (n : Name) → isStructName S ds n ≡ true → toStruct T (structLink S ds n) ≡ true
   struct-found n e =
@@ -68,18 +68,18 @@ module _ (S : List ℕ) (ds : List Definition) (behind : EveryName Behind ds) (h
       let p : 0 < l = ltb-true 0 l e in
       let q : l ≡ suc (l - 1) = omega arith in
       let z = found (λ k. eqb k 3) (bytesOf S n) (l - 1) q in
-      and-of (ltb 0 l && isStruct T (l - 1)) (not (Rows.inline T (l - 1))) (and-of (ltb 0 l) (isStruct T (l - 1)) e (z .1)) (own-row (l - 1) (z .0))
+      and-of (ltb 0 l && isStruct T (l - 1)) (not (Rows.unnamed T (l - 1))) (and-of (ltb 0 l) (isStruct T (l - 1)) e (z .1)) (own-row (l - 1) (z .0))
 
   -- of the definitions all but commands are types
   type-row : (r : ℕ) → isDefinition T r ≡ true → ltb (kind T r) 9 ≡ true → toType T (first-row + r) ≡ true
   type-row r e f =
       let type : Bool = isEnum T r || isStruct T r || isUnion T r || isAlternate T r in
       let k : kind T r < 9 = ltb-true (kind T r) 9 f in
-      let i : type || isCommand T r ≡ true = and-left (type || isCommand T r) (not (Rows.inline T r)) e in
+      let i : type || isCommand T r ≡ true = and-left (type || isCommand T r) (not (Rows.unnamed T r)) e in
       let t : type ≡ true = ⊎-elim (λ p. p) (λ p. let z : kind T r ≡ 9 = eqb-true (kind T r) 9 p in absurd (omega arith)) (or-cases type (isCommand T r) i) in
       let z : first-row + r - first-row ≡ r = omega arith in
       or-right (within 1 15 (first-row + r))
-      (leb first-row (first-row + r) && (isEnum T (first-row + r - first-row) || isStruct T (first-row + r - first-row) || isUnion T (first-row + r - first-row) || isAlternate T (first-row + r - first-row)) && not (Rows.inline T (first-row + r - first-row)))
+      (leb first-row (first-row + r) && (isEnum T (first-row + r - first-row) || isStruct T (first-row + r - first-row) || isUnion T (first-row + r - first-row) || isAlternate T (first-row + r - first-row)) && not (Rows.unnamed T (first-row + r - first-row)))
       (rw (z, le-leb first-row (first-row + r) (omega arith), t, own-row r e))
 
   type-found : (n : Name) → ltb 0 (typeNamed S ds n) ≡ true → toType T (typeNamed S ds n) ≡ true

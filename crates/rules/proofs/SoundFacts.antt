@@ -14,12 +14,12 @@ use Rattle.grammar.specs.Limits.{row-words, chain-structs}
 use Rattle.grammar.specs.Notation.{same, all, apart}
 use Rattle.grammar.specs.Tree.{Kind}
 use Rattle.rules.specs.Types.{column, sameKind}
-use Rattle.rules.specs.Rows.{upFrom, rowCount, kind, isEnum, isStruct, isUnion, isAlternate, isCommand, base, typeRef, unionBase, discriminator, branchStruct, inline, children, members, after, typeKind, nameOf}
+use Rattle.rules.specs.Rows.{upFrom, rowCount, word, kind, isEnum, isStruct, isUnion, isAlternate, isCommand, base, typeRef, unionBase, discriminator, branchStruct, next, unnamed, owns, children, members, after, typeKind, nameOf}
 use Rattle.rules.specs.Rules.{everyRow, namesOf, is, sameKinds, kindsOf, noClash, those, isDefinition, distinctNames, goodChains, goodUnions, goodAlternates, chainFits, unionFits, alternateFits, discriminatorFits, branchFits}
 use Rattle.rules.specs.Envelope.{Names}
-use Rattle.rules.specs.Sound.{sound, restZero, referencesFit, toStruct, toOwnInline}
+use Rattle.rules.specs.Sound.{sound, restZero, referencesFit, toStruct}
 use Rattle.rules.proofs.Lists.{none-not-some, and-left, and-right, and-of, or-cases, or-right, or-implies, not-of, all-true, is-true, is-at, in-those, in-upFrom, in-map, apart-only, apart-injective, apart-append}
-use Rattle.rules.proofs.TableRows.{no-children, inline-struct, fit-child, laid-fit, members-agree}
+use Rattle.rules.proofs.TableRows.{no-children, unnamed-struct, owned-struct, fit-child, laid-fit, members-agree}
 
 -- 0, or a link to a struct
 abbrev pub StructLink : List ℕ → ℕ → Type 0
@@ -61,11 +61,12 @@ module _ (T : List ℕ) where
       let z : l - 1 ≡ s = omega arith in
       subst (λ x. kind T x ≡ 3) z (eqb-true (kind T (l - 1)) 3 (search (and-left, and-right)))
 
-  pub to-own-inline : (r l : ℕ) → toOwnInline T r l ≡ true → StructLink T l
-  to-own-inline r l e s p =
-      let z : l ≡ suc (suc r) = eqb-true l (suc (suc r)) (and-left (eqb l (suc (suc r))) (inline T (suc r)) e) in
-      let y : suc r ≡ s = omega arith in
-      subst (λ x. kind T x ≡ 3) y (inline-struct T (suc r) (and-right (eqb l (suc (suc r))) (inline T (suc r)) e))
+  pub to-owned : (r : ℕ) → owns T r ≡ true → StructLink T (word T r 4)
+  unfolding owns
+  to-owned r e s p =
+      let z : word T r 4 ≡ suc (next T r) = eqb-true (word T r 4) (suc (next T r)) (search (and-left, and-right)) in
+      let y : next T r ≡ s = omega arith in
+      subst (λ x. kind T x ≡ 3) y (owned-struct T r e)
 
   pub base-refers : (r : ℕ) → referencesFit T r ≡ true → kind T r ≡ 3 → StructLink T (base T r)
   base-refers r f k s p =
@@ -106,7 +107,7 @@ module _ (S T : List ℕ) (h : sound S T ≡ true) where
 
   -- what a union refers to
   abbrev unionRefers : ℕ → Bool
-  unionRefers r = (toOwnInline T r (unionBase T r) || toStruct T (unionBase T r)) && ltb 0 (discriminator T r) && eqb (kind T (discriminator T r - 1)) 4
+  unionRefers r = (owns T r || toStruct T (unionBase T r)) && ltb 0 (discriminator T r) && eqb (kind T (discriminator T r - 1)) 4
 
   union-refers : (r : ℕ) → kind T r ≡ 5 → unionRefers r ≡ true
   union-refers r k =
@@ -116,8 +117,8 @@ module _ (S T : List ℕ) (h : sound S T ≡ true) where
   union-to : (r : ℕ) → kind T r ≡ 5 → StructLink T (unionBase T r)
   union-to r k =
       let f : unionRefers r ≡ true = union-refers r k in
-      ⊎-elim (to-own-inline T r (unionBase T r)) (to-struct T (unionBase T r))
-      (or-cases (toOwnInline T r (unionBase T r)) (toStruct T (unionBase T r)) (search (and-left, and-right)))
+      ⊎-elim (to-owned T r) (to-struct T (unionBase T r))
+      (or-cases (owns T r) (toStruct T (unionBase T r)) (search (and-left, and-right)))
 
   discriminator-to : (r : ℕ) → kind T r ≡ 5 → (d : ℕ) × (discriminator T r ≡ suc d)
   discriminator-to r k =
@@ -211,9 +212,9 @@ module _ (S T : List ℕ) (h : sound S T ≡ true) where
   unfolding definition-rows
   a-definition x c n =
       in-those (isDefinition T) (upFrom 0 (rowCount T)) c (in-upFrom (rowCount T) 0 c zero-le (omega (arith, n .row)))
-      (and-of (isEnum T c || isStruct T c || isUnion T c || isAlternate T c || isCommand T c) (not (inline T c))
+      (and-of (isEnum T c || isStruct T c || isUnion T c || isAlternate T c || isCommand T c) (not (unnamed T c))
       (or-right (isEnum T c || isStruct T c || isUnion T c || isAlternate T c) (isCommand T c) (eq-eqb (kind T c) 9 (n .command)))
-      (not-of (inline T c) (λ i. let z = inline-struct T c i in omega (arith, n .command))))
+      (not-of (unnamed T c) (λ i. let z = unnamed-struct T c i in omega (arith, n .command))))
 
   of-one-name : (x : List ℕ) (c c′ : ℕ) → Names S T x c → Names S T x c′ → c ≡ c′
   unfolding sound distinctNames definition-rows

@@ -1,18 +1,85 @@
 -- Rows, their children and members in any table: where rows are laid out, every child has the kind that belongs to its row.
 -- The idea: laid-out rows fall into definitions, and a row inside one is its own, an inline struct's or a child, whose kind is even and has no children.
 use Prim.Native.Nat.{ℕ, zero, suc, _+_, _%_, _≤_, _<_}
-use mathlib.Core.Path.{_≡_, refl, subst}
+use mathlib.Core.Path.{_≡_, refl, sym, ap, _∙_, subst}
 use mathlib.Core.Bool.{Bool, true, false, cond, _&&_, _||_}
 use mathlib.Core.Logic.{⊎-elim}
-use mathlib.Core.List.{List, [], List·Memᴰ}
+use mathlib.Core.List.{List, [], _∷_, List·Memᴰ, List·Memᴰ·head, List·Memᴰ·tail, List·Memᴰ·cases-cons}
 use mathlib.Core.Option.{Option, none, some}
 use native.Mathlib.Nat.{eq-or-lt-of-le, add-zero}
 use native.Mathlib.Omega.{arith}
 use lib.Dec.{eqb, ltb}
+use lib.ListN.{length}
 use borrow.Author.Tests.{ne-eqb, eqb-true, eqb-false, ltb-true, ltb-false}
-use Rattle.rules.specs.Rows.{upFrom, rowCount, kind, count, base, inline, inlineRows, childCount, children, members, after}
+use Rattle.rules.specs.Rows.{rowCount, kind, isEnum, isStruct, isUnion, isAlternate, isCommand, count, base, next, walk, past, unnamed, owns, firstChild, childCount, children, pastChildren, members, after}
 use Rattle.rules.specs.Sound.{laidOut, definitionAt, childrenFit}
-use Rattle.rules.proofs.Lists.{clash, none-not-some, and-left, and-right, or-cases, or-implies, all-true, in-upFrom}
+use Rattle.rules.proofs.Lists.{clash, none-not-some, and-left, and-right, or-cases, or-implies, all-true}
+
+-- rows that follow each other: what a walk passes, and where it ends
+module _ (T : List ℕ) where
+  pub next-above : (r : ℕ) → r < next T r
+  unfolding next
+  next-above r = omega arith
+
+  -- nothing stands between a row and the next
+  pub next-only : (r x : ℕ) → r ≤ x → x < next T r → r ≡ x
+  unfolding next
+  next-only r x p q = omega arith
+
+  pub walk-none : (c : ℕ) → walk T c 0 ≡ []
+  unfolding walk
+  walk-none c = refl
+
+  pub walk-more : (c n : ℕ) → walk T c (suc n) ≡ c ∷ walk T (next T c) n
+  unfolding walk
+  walk-more c n = refl
+
+  pub past-none : (c : ℕ) → past T c 0 ≡ c
+  unfolding past
+  past-none c = refl
+
+  pub past-more : (c n : ℕ) → past T c (suc n) ≡ past T (next T c) n
+  unfolding past
+  past-more c n = refl
+
+  pub past-least : (n c : ℕ) → c + n ≤ past T c n
+  unfolding past
+  past-least zero c = omega arith
+  past-least (suc n) c = let h = past-least n (next T c) in omega (arith, next-above c)
+
+  pub past-above : (n c : ℕ) → c ≤ past T c n
+  past-above n c = omega (arith, past-least n c)
+
+  pub walk-length : (n c : ℕ) → length (walk T c n) ≡ n
+  unfolding walk
+  walk-length zero c = refl
+  walk-length (suc n) c = ap suc (walk-length n (next T c))
+
+  -- a place that a walk passes lies from one of its rows on, before the next
+  pub record Passed (c n x : ℕ) : Type 0 where
+    pub row : ℕ
+    pub on-walk : List·Memᴰ row (walk T c n)
+    pub from : row ≤ x
+    pub before : x < next T row
+
+  pub passes : (n c x : ℕ) → c ≤ x → x < past T c n → Passed c n x
+  unfolding walk past
+  passes zero c x p q = absurd (omega arith)
+  passes (suc n) c x p q = go (ltb x (next T c)) refl (λ h. passes n (next T c) x h q)
+    where
+      go : (b : Bool) → ltb x (next T c) ≡ b → (next T c ≤ x → Passed (next T c) n x) → Passed c (suc n) x
+      go true e more = record { row = c; on-walk = List·Memᴰ·head refl; from = p; before = ltb-true x (next T c) e }
+      go false e more = let r = more (ltb-false x (next T c) e) in record { row = r .row; on-walk = List·Memᴰ·tail (r .on-walk); from = r .from; before = r .before }
+
+  pub in-walk : (n c x : ℕ) → c ≤ x → x < past T c n → List·Memᴰ x (walk T c n)
+  in-walk n c x p q = let r = passes n c x p q in subst (λ (y : ℕ). List·Memᴰ y (walk T c n)) (next-only (r .row) x (r .from) (r .before)) (r .on-walk)
+
+  pub walk-bounds : (n c x : ℕ) → List·Memᴰ x (walk T c n) → (c ≤ x) × (x < past T c n)
+  unfolding walk past
+  walk-bounds zero c x m = elim m [ ]
+  walk-bounds (suc n) c x m =
+      ⊎-elim (λ (e : x ≡ c). (omega arith, omega (arith, next-above c, past-above n (next T c)))) (λ p. let r = walk-bounds n (next T c) x p in (omega (arith, next-above c), r .1))
+      (List·Memᴰ·cases-cons m)
 
 module _ (T : List ℕ) where
   -- of a kind that has no children
@@ -20,7 +87,7 @@ module _ (T : List ℕ) where
   Childless r = (kind T r ≡ 1 → ⊥) × (kind T r ≡ 3 → ⊥) × (kind T r ≡ 5 → ⊥) × (kind T r ≡ 7 → ⊥)
 
   pub no-children : (r : ℕ) → Childless r → children T r ≡ []
-  unfolding children childCount
+  unfolding children childCount walk
   no-children r n = rw (ne-eqb (kind T r) 1 (n .0), ne-eqb (kind T r) 3 (n .1), ne-eqb (kind T r) 5 (n .2), ne-eqb (kind T r) 7 (n .3))
 
   childless-fit : (r : ℕ) → Childless r → childrenFit T r ≡ true
@@ -36,23 +103,66 @@ module _ (T : List ℕ) where
           absurd
           (clash e (rw (ne-eqb k 1 (omega arith), ne-eqb k 3 (omega arith), ne-eqb k 5 (omega arith), ne-eqb k 7 (omega arith), ne-eqb k 9 (omega arith))))
 
-  -- an inline struct's members follow it directly
-  pub inline-struct : (r : ℕ) → inline T r ≡ true → kind T r ≡ 3
-  unfolding inline
-  inline-struct zero e = absurd (clash e refl)
-  inline-struct (suc r) e = eqb-true (kind T (suc r)) 3 (search (and-left, and-right))
+  -- an unnamed struct, its owner, and where children begin
+  pub unnamed-struct : (r : ℕ) → unnamed T r ≡ true → kind T r ≡ 3
+  unfolding unnamed
+  unnamed-struct r e = eqb-true (kind T r) 3 (search (and-left, and-right))
 
-  pub no-inline : (r : ℕ) → kind T r ≡ 3 → inlineRows T r ≡ 0
-  unfolding inline inlineRows
-  no-inline r e = rw e refl
+  pub owned-struct : (r : ℕ) → owns T r ≡ true → kind T (next T r) ≡ 3
+  unfolding owns
+  owned-struct r e = unnamed-struct (next T r) (search (and-left, and-right))
 
-  struct-children : (r : ℕ) → kind T r ≡ 3 → children T r ≡ upFrom (suc r) (count T r)
-  unfolding children childCount
-  struct-children r e = rw (no-inline r e) (rw (e, add-zero (suc r)))
+  pub first-plain : (r : ℕ) → owns T r ≡ false → firstChild T r ≡ next T r
+  unfolding firstChild
+  first-plain r e = rw e
 
-  pub inline-rows : (r : ℕ) (b : Bool) → inline T (suc r) ≡ b → inlineRows T r ≡ cond b (suc (count T (suc r))) 0
-  unfolding inlineRows
-  inline-rows r b e = rw e
+  pub first-owner : (r : ℕ) → owns T r ≡ true → firstChild T r ≡ past T (next T (next T r)) (count T (next T r))
+  unfolding firstChild
+  first-owner r e = rw e
+
+  pub struct-plain : (r : ℕ) → kind T r ≡ 3 → owns T r ≡ false
+  unfolding owns
+  struct-plain r e = rw e refl
+
+  pub struct-count : (r : ℕ) → kind T r ≡ 3 → childCount T r ≡ count T r
+  unfolding childCount
+  struct-count r e = rw e refl
+
+  struct-children : (r : ℕ) → kind T r ≡ 3 → children T r ≡ walk T (next T r) (count T r)
+  unfolding children
+  struct-children r e = rw (first-plain r (struct-plain r e), struct-count r e)
+
+  -- an owner's children begin where those of its inline struct end
+  pub owner-first : (r : ℕ) → owns T r ≡ true → firstChild T r ≡ pastChildren T (next T r)
+  unfolding pastChildren
+  owner-first r e = let k : kind T (next T r) ≡ 3 = owned-struct r e in rw (first-owner r e, first-plain (next T r) (struct-plain (next T r) k), struct-count (next T r) k)
+
+  pub first-above : (r : ℕ) → r < firstChild T r
+  first-above r = go (owns T r) refl
+    where
+      go : (b : Bool) → owns T r ≡ b → r < firstChild T r
+      go false e = omega (arith, first-plain r e, next-above T r)
+      go true e = omega (arith, first-owner r e, next-above T r, next-above T (next T r), past-above T (count T (next T r)) (next T (next T r)))
+
+  pub past-children-above : (r : ℕ) → r < pastChildren T r
+  unfolding pastChildren
+  past-children-above r = omega (arith, first-above r, past-above T (childCount T r) (firstChild T r))
+
+  pub past-children-least : (r : ℕ) → firstChild T r + childCount T r ≤ pastChildren T r
+  unfolding pastChildren
+  past-children-least r = past-least T (childCount T r) (firstChild T r)
+
+  pub children-length : (r : ℕ) → length (children T r) ≡ childCount T r
+  unfolding children
+  children-length r = walk-length T (childCount T r) (firstChild T r)
+
+  pub children-bounds : (r x : ℕ) → List·Memᴰ x (children T r) → (firstChild T r ≤ x) × (x < pastChildren T r)
+  unfolding children pastChildren
+  children-bounds r x m = walk-bounds T (childCount T r) (firstChild T r) x m
+
+  pub in-children : (r x : ℕ) → firstChild T r ≤ x → x < pastChildren T r → List·Memᴰ x (children T r)
+  unfolding children pastChildren
+  in-children r x p q = in-walk T (childCount T r) (firstChild T r) x p q
 
   even-childless : (r : ℕ) → kind T r % 2 ≡ 0 → Childless r
   even-childless r e = omega arith
@@ -61,52 +171,55 @@ module _ (T : List ℕ) where
   fit-child r e c m = eqb-true (kind T c) (suc (kind T r)) (all-true (λ x. eqb (kind T x) (suc (kind T r))) (children T r) e c m)
 
   -- the rows of one definition: its own, its inline struct's, its children's
-  definition-fit : (r : ℕ) → definitionAt T r ≡ true → (x : ℕ) → r ≤ x → x < suc r + inlineRows T r + childCount T r → childrenFit T x ≡ true
-  unfolding children
-  definition-fit r d x p q =
-      ⊎-elim (λ (y : r ≡ x). subst (λ z. childrenFit T z ≡ true) y own) (λ y. after-own y (ltb x (suc r + inlineRows T r)) refl) (eq-or-lt-of-le p)
+  definition-fit : (r : ℕ) → definitionAt T r ≡ true → (x : ℕ) → r ≤ x → x < pastChildren T r → childrenFit T x ≡ true
+  definition-fit r d x p q = after-own (ltb x (next T r)) refl (ltb x (firstChild T r)) refl
     where
       own : childrenFit T r ≡ true
       own = search (and-left, and-right)
 
-      -- a member of the inline struct
-      inline-child : kind T (suc r) ≡ 3 → childrenFit T (suc r) ≡ true → suc r < x → x < suc (suc r) + count T (suc r) → childrenFit T x ≡ true
-      inline-child k f y l =
-          let m : List·Memᴰ x (children T (suc r)) = rw (struct-children (suc r) k) (in-upFrom (count T (suc r)) (suc (suc r)) x y l) in
-          let k′ : kind T x ≡ suc (kind T (suc r)) = fit-child (suc r) f x m in
-          childless-fit x (even-childless x (omega arith))
+      -- a child of an odd row
+      child : (s : ℕ) → childrenFit T s ≡ true → kind T s % 2 ≡ 1 → firstChild T s ≤ x → x < pastChildren T s → childrenFit T x ≡ true
+      child s f o l m = let k : kind T x ≡ suc (kind T s) = fit-child s f x (in-children s x l m) in childless-fit x (even-childless x (omega arith))
 
-      in-inline : r < x → x < suc r + inlineRows T r → (b : Bool) → inline T (suc r) ≡ b → childrenFit T x ≡ true
-      in-inline y l true e =
-          let i : inlineRows T r ≡ suc (count T (suc r)) = inline-rows r true e in
-          let f : childrenFit T (suc r) ≡ true = or-implies (inline T (suc r)) (childrenFit T (suc r)) (search (and-left, and-right)) e in
-          ⊎-elim (λ (z : suc r ≡ x). subst (λ w. childrenFit T w ≡ true) z f) (λ z. inline-child (inline-struct (suc r) e) f z (omega arith)) (eq-or-lt-of-le y)
-      in-inline y l false e = let i : inlineRows T r ≡ 0 = inline-rows r false e in absurd (omega arith)
+      in-inline : next T r ≤ x → x < firstChild T r → (b : Bool) → owns T r ≡ b → childrenFit T x ≡ true
+      in-inline y l false e = let i : firstChild T r ≡ next T r = first-plain r e in absurd (omega arith)
+      in-inline y l true e = go (ltb x (next T (next T r))) refl
+        where
+          k : kind T (next T r) ≡ 3
+          k = owned-struct r e
 
-      after-own : r < x → (b : Bool) → ltb x (suc r + inlineRows T r) ≡ b → childrenFit T x ≡ true
-      after-own y true e = in-inline y (ltb-true x (suc r + inlineRows T r) e) (inline T (suc r)) refl
-      after-own y false e =
-          let l : suc r + inlineRows T r ≤ x = ltb-false x (suc r + inlineRows T r) e in
-          let k : kind T x ≡ suc (kind T r) = fit-child r own x (in-upFrom (childCount T r) (suc r + inlineRows T r) x l q) in
-          let o : kind T r % 2 ≡ 1 = odd-kind (kind T r) (search (and-left, and-right)) in
-          childless-fit x (even-childless x (omega arith))
+          f : childrenFit T (next T r) ≡ true
+          f = or-implies (owns T r) (childrenFit T (next T r)) (search (and-left, and-right)) e
+
+          go : (b : Bool) → ltb x (next T (next T r)) ≡ b → childrenFit T x ≡ true
+          go true g = subst (λ z. childrenFit T z ≡ true) (next-only T (next T r) x y (ltb-true x (next T (next T r)) g)) f
+          go false g =
+              let z : firstChild T (next T r) ≡ next T (next T r) = first-plain (next T r) (struct-plain (next T r) k) in
+              let w : firstChild T r ≡ pastChildren T (next T r) = owner-first r e in
+              let g′ : next T (next T r) ≤ x = ltb-false x (next T (next T r)) g in
+              child (next T r) f (omega (arith, k)) (omega arith) (omega arith)
+
+      after-own : (b : Bool) → ltb x (next T r) ≡ b → (c : Bool) → ltb x (firstChild T r) ≡ c → childrenFit T x ≡ true
+      after-own true e c e′ = subst (λ z. childrenFit T z ≡ true) (next-only T r x p (ltb-true x (next T r) e)) own
+      after-own false e true e′ = in-inline (ltb-false x (next T r) e) (ltb-true x (firstChild T r) e′) (owns T r) refl
+      after-own false e false e′ = child r own (odd-kind (kind T r) (search (and-left, and-right))) (ltb-false x (firstChild T r) e′) q
 
   -- every row from r on belongs to a definition, and its children have the kind that belongs to it
   pub laid-fit : (n r : ℕ) → laidOut T n r ≡ true → (x : ℕ) → r ≤ x → x < rowCount T → childrenFit T x ≡ true
   unfolding laidOut
   laid-fit zero r e x p q = let z : r ≡ rowCount T = eqb-true r (rowCount T) e in absurd (omega arith)
   laid-fit (suc n) r e x p q =
-      let next : ℕ = suc r + inlineRows T r + childCount T r in
+      let end : ℕ = pastChildren T r in
       ⊎-elim
       (λ y. let z : r ≡ rowCount T = eqb-true r (rowCount T) y in absurd (omega arith))
-      (λ y. go (and-left (definitionAt T r) (laidOut T n next) y) (ltb x next) refl
-      (λ l. laid-fit n next (and-right (definitionAt T r) (laidOut T n next) y) x l q))
-      (or-cases (eqb r (rowCount T)) (definitionAt T r && laidOut T n next) e)
+      (λ y. go (and-left (definitionAt T r) (laidOut T n end) y) (ltb x end) refl
+      (λ l. laid-fit n end (and-right (definitionAt T r) (laidOut T n end) y) x l q))
+      (or-cases (eqb r (rowCount T)) (definitionAt T r && laidOut T n end) e)
     where
-      go : definitionAt T r ≡ true → (b : Bool) → ltb x (suc r + inlineRows T r + childCount T r) ≡ b
-          → (suc r + inlineRows T r + childCount T r ≤ x → childrenFit T x ≡ true) → childrenFit T x ≡ true
-      go d true l more = definition-fit r d x p (ltb-true x (suc r + inlineRows T r + childCount T r) l)
-      go d false l more = more (ltb-false x (suc r + inlineRows T r + childCount T r) l)
+      go : definitionAt T r ≡ true → (b : Bool) → ltb x (pastChildren T r) ≡ b
+          → (pastChildren T r ≤ x → childrenFit T x ≡ true) → childrenFit T x ≡ true
+      go d true l more = definition-fit r d x p (ltb-true x (pastChildren T r) l)
+      go d false l more = more (ltb-false x (pastChildren T r) l)
 
   -- members with different fuel agree
   pub members-agree : (n k l : ℕ) (a b : List ℕ) → members T n l ≡ some a → members T k l ≡ some b → a ≡ b

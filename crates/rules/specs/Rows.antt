@@ -98,23 +98,39 @@ module _ (T : List ℕ) where
   abbrev pub returnsArray : ℕ → ℕ
   returnsArray r = word r 7
 
-  -- An inline base or inline data: a struct row with start, length and base link 0, directly after the union or the command whose link is to it.
-  unfoldable pub inline : ℕ → Bool
-  inline zero = false
-  inline (suc r) =
-      (isUnion r || isCommand r) && eqb (word r 4) (suc (suc r))
-      && isStruct (suc r) && eqb (start (suc r)) 0 && eqb (size (suc r)) 0 && eqb (base (suc r)) 0
+  -- the row after row r and what belongs to that row alone
+  unfoldable pub next : ℕ → ℕ
+  next r = suc r
 
-  -- how many rows the inline struct of row r takes
-  unfoldable pub inlineRows : ℕ → ℕ
-  inlineRows r = cond (inline (suc r)) (suc (count (suc r))) 0
+  -- n rows from c on, each the next of the one before, and the row after them
+  unfoldable pub walk : ℕ → ℕ → List ℕ
+  walk c zero = []
+  walk c (suc n) = c ∷ walk (next c) n
 
-  -- the children of row r: values, members, branches or alternatives
+  unfoldable pub past : ℕ → ℕ → ℕ
+  past c zero = c
+  past c (suc n) = past (next c) n
+
+  -- An inline base or inline data: a struct row with start, length and base link 0. Its owner is the union or the command before it whose link is to it.
+  unfoldable pub unnamed : ℕ → Bool
+  unnamed r = isStruct r && eqb (start r) 0 && eqb (size r) 0 && eqb (base r) 0
+
+  unfoldable pub owns : ℕ → Bool
+  owns r = (isUnion r || isCommand r) && eqb (word r 4) (suc (next r)) && unnamed (next r)
+
+  -- the children of row r, past its inline struct and that one's: values, members, branches or alternatives
+  unfoldable pub firstChild : ℕ → ℕ
+  firstChild r = cond (owns r) (past (next (next r)) (count (next r))) (next r)
+
   unfoldable pub childCount : ℕ → ℕ
   childCount r = cond (isEnum r || isStruct r || isAlternate r) (count r) (cond (isUnion r) (branchCount r) 0)
 
   unfoldable pub children : ℕ → List ℕ
-  children r = upFrom (suc r + inlineRows r) (childCount r)
+  children r = walk (firstChild r) (childCount r)
+
+  -- the row after all that belongs to row r
+  unfoldable pub pastChildren : ℕ → ℕ
+  pastChildren r = past (firstChild r) (childCount r)
 
   -- A struct's members: its base's, found by going up the chain, then its own. By a link, with at most n structs on the chain; link 0 has none.
   unfoldable pub members : ℕ → ℕ → Option (List ℕ)

@@ -9,7 +9,7 @@ use Rattle.grammar.specs.Notation.{all, apart}
 use Rattle.grammar.specs.Tree.{Kind}
 use Rattle.rules.specs.Types.{built-ins, sameKind}
 use Rattle.rules.specs.Names.{goodName, sameName, clash}
-use Rattle.rules.specs.Rows.{upFrom, rowCount, kind, isEnum, isStruct, isUnion, isAlternate, isCommand, count, base, typeRef, arrayMark, optional, unionBase, branchCount, discriminator, branchStruct, returns, inline, children, members, typeKind, nameOf}
+use Rattle.rules.specs.Rows.{upFrom, rowCount, kind, isEnum, isStruct, isUnion, isAlternate, isCommand, count, base, typeRef, arrayMark, optional, unionBase, branchCount, discriminator, branchStruct, returns, unnamed, children, members, typeKind, nameOf}
 
 -- some element has the property
 abbrev pub any : {A : Type 0} → (A → Bool) → List A → Bool
@@ -42,7 +42,7 @@ module _ (T : List ℕ) where
   everyRow f = all f (upFrom 0 (rowCount T))
 
   abbrev pub isDefinition : ℕ → Bool
-  isDefinition r = (isEnum T r || isStruct T r || isUnion T r || isAlternate T r || isCommand T r) && not (inline T r)
+  isDefinition r = (isEnum T r || isStruct T r || isUnion T r || isAlternate T r || isCommand T r) && not (unnamed T r)
 
 module _ (S T : List ℕ) where
   abbrev pub namesOf : List ℕ → List (List ℕ)
@@ -50,7 +50,7 @@ module _ (S T : List ℕ) where
 
   -- 5: every name is good; an inline struct has none
   unfoldable pub goodNames : Bool
-  goodNames = everyRow T (λ r. inline T r || goodName (eqb (kind T r) 2 || eqb (kind T r) 6) (nameOf S T r))
+  goodNames = everyRow T (λ r. unnamed T r || goodName (eqb (kind T r) 2 || eqb (kind T r) 6) (nameOf S T r))
 
   abbrev pub definitionNames : List (List ℕ)
   definitionNames = namesOf (those (isDefinition T) (upFrom 0 (rowCount T)))

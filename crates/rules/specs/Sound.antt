@@ -6,24 +6,26 @@ use lib.Dec.{eqb, ltb, leb}
 use lib.ListN.{getD, length}
 use Rattle.grammar.specs.Limits.{row-words, first-row, table-rows, schema-bytes}
 use Rattle.grammar.specs.Notation.{within, all}
-use Rattle.rules.specs.Rows.{upFrom, rowCount, word, kind, start, size, isEnum, isStruct, isUnion, isAlternate, isCommand, base, typeRef, arrayMark, optional, unionBase, discriminator, branchStruct, arguments, allowOob, returns, returnsArray, inline, inlineRows, childCount, children}
-use Rattle.rules.specs.Rules.{everyRow, goodNames, distinctNames, goodChains, goodUnions, goodAlternates, goodReturns}
+use Rattle.rules.specs.Rows.{upFrom, rowCount, word, kind, start, size, isEnum, isStruct, isUnion, isAlternate, isCommand, base, typeRef, arrayMark, optional, unionBase, discriminator, branchStruct, arguments, allowOob, returns, returnsArray, next, unnamed, owns, children, pastChildren}
+use Rattle.rules.specs.Rules.{everyRow, isDefinition, goodNames, distinctNames, goodChains, goodUnions, goodAlternates, goodReturns}
 
 module _ (T : List ℕ) where
   -- every child is of the kind that belongs to its row: kind 2 to 1, 4 to 3, 6 to 5, 8 to 7
   abbrev pub childrenFit : ℕ → Bool
   childrenFit r = all (λ c. eqb (kind T c) (suc (kind T r))) (children T r)
 
+  -- so are those of its inline struct, if it has one
+  abbrev pub inlineFits : ℕ → Bool
+  inlineFits r = not (owns T r) || childrenFit (next T r)
+
   -- at row r begins a definition, followed by its inline struct, if it has one, and its children
   abbrev pub definitionAt : ℕ → Bool
-  definitionAt r =
-      (isEnum T r || isStruct T r || isUnion T r || isAlternate T r || isCommand T r)
-      && childrenFit r && (not (inline T (suc r)) || childrenFit (suc r))
+  definitionAt r = isDefinition T r && inlineFits r && childrenFit r
 
   -- the rows from r on fall into at most n definitions
   unfoldable pub laidOut : ℕ → ℕ → Bool
   laidOut zero r = eqb r (rowCount T)
-  laidOut (suc n) r = eqb r (rowCount T) || definitionAt r && laidOut n (suc r + inlineRows T r + childCount T r)
+  laidOut (suc n) r = eqb r (rowCount T) || definitionAt r && laidOut n (pastChildren T r)
 
   -- the last word that each kind uses, from kind 1 on; the words after it are 0
   abbrev pub lastUsed : ℕ → ℕ
@@ -37,27 +39,24 @@ module _ (T : List ℕ) where
 
   -- a link to a struct that has a name; only its owner refers to an inline struct
   abbrev pub toStruct : ℕ → Bool
-  toStruct link = ltb 0 link && isStruct T (link - 1) && not (inline T (link - 1))
-
-  abbrev pub toOwnInline : ℕ → ℕ → Bool
-  toOwnInline r link = eqb link (suc (suc r)) && inline T (suc r)
+  toStruct link = ltb 0 link && isStruct T (link - 1) && not (unnamed T (link - 1))
 
   -- a reference to a built-in, or to the row of a type that has a name
   abbrev pub toType : ℕ → Bool
   toType t =
       within 1 15 t
-      || leb first-row t && (isEnum T (t - first-row) || isStruct T (t - first-row) || isUnion T (t - first-row) || isAlternate T (t - first-row)) && not (inline T (t - first-row))
+      || leb first-row t && (isEnum T (t - first-row) || isStruct T (t - first-row) || isUnion T (t - first-row) || isAlternate T (t - first-row)) && not (unnamed T (t - first-row))
 
   -- every reference of row r is to a row of a fitting kind, 0 only for a struct's base, a command's data or its return; flags are 0 or 1
   abbrev pub referencesFit : ℕ → Bool
   referencesFit r =
       (not (isStruct T r) || eqb (base T r) 0 || toStruct (base T r))
       && (not (eqb (kind T r) 4) || toType (typeRef T r) && isFlag (arrayMark T r) && isFlag (optional T r))
-      && (not (isUnion T r) || (toOwnInline r (unionBase T r) || toStruct (unionBase T r)) && ltb 0 (discriminator T r) && eqb (kind T (discriminator T r - 1)) 4)
+      && (not (isUnion T r) || (owns T r || toStruct (unionBase T r)) && ltb 0 (discriminator T r) && eqb (kind T (discriminator T r - 1)) 4)
       && (not (eqb (kind T r) 6) || toStruct (branchStruct T r))
       && (not (eqb (kind T r) 8) || toType (typeRef T r))
       && (not (isCommand T r)
-      || (eqb (arguments T r) 0 || toOwnInline r (arguments T r) || toStruct (arguments T r)) && isFlag (allowOob T r)
+      || (eqb (arguments T r) 0 || owns T r || toStruct (arguments T r)) && isFlag (allowOob T r)
       && (eqb (returns T r) 0 && eqb (returnsArray T r) 0 || toType (returns T r) && isFlag (returnsArray T r)))
 
 -- The words are whole rows, not too many; names lie within the schema, which is not too long; the rows are laid out and refer as they should, and the rules of numbers 5 to 11 hold of them.

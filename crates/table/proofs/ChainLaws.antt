@@ -1,25 +1,24 @@
 -- What the walks up a chain of bases say of the list of members, and rule 8 of a row.
 -- A walk is known by what it is at link 0, where no struct is left, and one struct on; the laws go by the number of structs left, one base link at a time.
-use Prim.Native.Nat.{ℕ, zero, suc, _+_, _-_, _≤_, _<_}
+use Prim.Native.Nat.{ℕ, zero, suc, _-_}
 use mathlib.Core.Path.{_≡_, refl, sym, ap, ap₂, _∙_}
 use mathlib.Core.Bool.{Bool, true, false, not, _&&_, _||_}
 use mathlib.Core.Logic.{_↔_}
 use mathlib.Core.List.{List, [], _++_}
 use mathlib.Core.Option.{Option, none, some}
 use native.Mathlib.Omega.{arith}
-use lib.Dec.{eqb, ltb}
-use borrow.Author.Tests.{eq-eqb, eqb-true, ltb-true, ltb-false}
+use lib.Dec.{eqb}
 use Rattle.grammar.specs.Limits.{chain-structs}
 use Rattle.grammar.specs.Notation.{all, same}
 use Rattle.rules.specs.Names.{sameName}
-use Rattle.rules.specs.Rows.{upFrom, base, inlineRows, childCount, children, members, after, nameOf}
+use Rattle.rules.specs.Rows.{base, walk, children, members, after, nameOf}
 use Rattle.rules.specs.Rules.{any, is, namesOf, noClash, base-structs, chainFits}
-use Rattle.rules.proofs.Lists.{none-not-some, any-true, any-of, is-true, in-upFrom, upFrom-bounds}
-use Rattle.rules.proofs.First.{decided}
+use Rattle.rules.proofs.Lists.{none-not-some, is-true}
+use Rattle.rows.specs.Rows.{First, Counted}
 use Rattle.rows.specs.Marks.{freshOf, runsApart}
 use Rattle.table.specs.Chains.{chainEnds, hasChild, hasMember, isMember, listsApart, childrenNew, membersNew}
 use Rattle.rows.proofs.ListLaws.{all-map, all-map-append, any-map-append, any-append, all-same, all-true, all-both, not-any, not-not, not-or, no-clash-is, is-guard}
-use Rattle.rows.proofs.ChildLaws.{children-run}
+use Rattle.rows.proofs.ChildLaws.{children-walk}
 
 -- a walk by structs left and link: `none` at link 0, `out` where no struct is left, and `on` of the walk from the base and the struct's row
 pub record Walk (T : List ℕ) (f : ℕ → ℕ → Bool) (none out : Bool) (on : Bool → ℕ → Bool) : Type 0 where
@@ -83,20 +82,20 @@ module _ (T : List ℕ) where
 -- children and members by name
 module _ (S T : List ℕ) where
   -- the children of row r are the n rows from a on
-  module _ (r : ℕ) {a n : ℕ} (p : a ≡ suc r + inlineRows T r) (q : n ≡ childCount T r) where
-    fresh-child : (x : List ℕ) → freshOf S T x a (a + n) ≡ not (hasChild S T r x)
+  module _ {r a n : ℕ} (p : First T r a) (q : Counted T r n) where
+    fresh-child : (x : List ℕ) → freshOf S T x a n ≡ not (hasChild S T r x)
     unfolding hasChild
-    fresh-child x = rw (children-run T r p q) (sym (not-any (sameName x) (namesOf S T (upFrom a (a + n - a)))))
+    fresh-child x = rw (children-walk p q) (sym (not-any (sameName x) (namesOf S T (walk T a n))))
 
-    pub has-child-of : {b : Bool} (c : ℕ) → b ≡ freshOf S T (nameOf S T c) a (a + n) → not b ≡ hasChild S T r (nameOf S T c)
+    pub has-child-of : {b : Bool} (c : ℕ) → b ≡ freshOf S T (nameOf S T c) a n → not b ≡ hasChild S T r (nameOf S T c)
     has-child-of c e = rw (e, fresh-child (nameOf S T c)) (not-not (hasChild S T r (nameOf S T c)))
 
     -- and those of row s the m rows from b on
-    pub lists-apart-of : (s : ℕ) {b m : ℕ} {v : Bool} → b ≡ suc s + inlineRows T s → m ≡ childCount T s → v ≡ runsApart S T b (b + m) a (a + n) → v ≡ listsApart S T r s
+    pub lists-apart-of : {s b m : ℕ} {v : Bool} → First T s b → Counted T s m → v ≡ runsApart S T b m a n → v ≡ listsApart S T r s
     unfolding listsApart runsApart
-    lists-apart-of s {b} {m} x y e =
-        e ∙ rw (← children-run T s x y)
-        (all-same (λ i. freshOf S T (nameOf S T i) a (a + n)) (λ i. not (hasChild S T r (nameOf S T i))) (children T s) (λ i. fresh-child (nameOf S T i))
+    lists-apart-of {s} x y e =
+        e ∙ rw (← children-walk x y)
+        (all-same (λ i. freshOf S T (nameOf S T i) a n) (λ i. not (hasChild S T r (nameOf S T i))) (children T s) (λ i. fresh-child (nameOf S T i))
         ∙ sym (all-map (nameOf S T) (λ y. not (hasChild S T r y)) (children T s)))
 
   pub has-member-walk : (x : List ℕ) → Walk T (λ n l. hasMember S T n l x) false false (λ b r. b || hasChild S T r x)
@@ -169,23 +168,3 @@ module _ (T : List ℕ) (m : ℕ) where
 
   pub is-member-is : (n l : ℕ) (ms : List ℕ) → members T n l ≡ some ms → isMember T n l m ≡ any (eqb m) ms
   is-member-is n l ms e = walk-members (any (eqb m)) _||_ refl (any-append (eqb m)) is-member-walk n l ms e
-
--- row m among the children of row r: before the first one, or from it on
-module _ (T : List ℕ) (r : ℕ) {m a : ℕ} (p : a ≡ suc r + inlineRows T r) where
-  only : (n : ℕ) → any (eqb m) (upFrom a n) ≡ true → (a ≤ m) × (m < a + n)
-  only n e =
-      let x = any-true (eqb m) (upFrom a n) e in
-      let y : m ≡ x .0 = eqb-true m (x .0) (x .2) in
-      omega (arith, upFrom-bounds n a (x .0) (x .1))
-
-  pub child-before : m < a → false ≡ any (eqb m) (children T r)
-  unfolding children
-  child-before h = rw (← p) (sym (decided (any (eqb m) (upFrom a (childCount T r))) (λ e. omega (arith, only (childCount T r) e))))
-
-  pub child-from : {n : ℕ} → n ≡ childCount T r → a ≤ m → ltb (m - a) n ≡ any (eqb m) (children T r)
-  unfolding children
-  child-from {n} q h = rw (← p, ← q) (go (ltb (m - a) n) refl)
-    where
-      go : (b : Bool) → ltb (m - a) n ≡ b → b ≡ any (eqb m) (upFrom a n)
-      go true e = sym (any-of (eqb m) (upFrom a n) m (in-upFrom n a m h (omega (arith, ltb-true (m - a) n e))) (eq-eqb m m refl))
-      go false e = sym (decided (any (eqb m) (upFrom a n)) (λ t. omega (arith, only n t, ltb-false (m - a) n e)))

@@ -10,9 +10,9 @@ use lib.Dec.{eqb}
 use lib.ListN.{length}
 use borrow.Author.Tests.{ne-eqb}
 use Rattle.grammar.specs.Notation.{same}
-use Rattle.rules.proofs.TableRows.{inline-struct}
+use Rattle.rules.proofs.TableRows.{unnamed-struct}
 use Rattle.rules.specs.Names.{goodName}
-use Rattle.rules.specs.Rows.{rowCount, kind, inline, nameOf}
+use Rattle.rules.specs.Rows.{rowCount, kind, unnamed, nameOf}
 use Rattle.rules.specs.Rules.{isDefinition, goodNames}
 use Rattle.rules.specs.SchemaTable.{placeIn, later}
 use Rattle.table.specs.Definitions.{nameFits, placeFrom}
@@ -26,10 +26,10 @@ unfolding goodNames
 good-names-upTo S T = upTo-rows (nameFits S T) T
 
 module _ (S T : List ℕ) (r : ℕ) where
-  pub inline-fits : inline T r ≡ true → true ≡ nameFits S T r
-  inline-fits i = rw i
+  pub unnamed-fits : unnamed T r ≡ true → true ≡ nameFits S T r
+  unnamed-fits i = rw i
 
-  pub name-fits-at : (digits b : Bool) (x : List ℕ) → inline T r ≡ false → x ≡ nameOf S T r → digits ≡ (eqb (kind T r) 2 || eqb (kind T r) 6)
+  pub name-fits-at : (digits b : Bool) (x : List ℕ) → unnamed T r ≡ false → x ≡ nameOf S T r → digits ≡ (eqb (kind T r) 2 || eqb (kind T r) 6)
       → b ≡ goodName digits x → b ≡ nameFits S T r
   name-fits-at digits b x i p q e = rw (i, ← p, ← q) e
 
@@ -108,17 +108,17 @@ module _ (x : List ℕ) where
 
 -- kinds of definitions
 module _ (T : List ℕ) (r k : ℕ) (e : k ≡ kind T r) where
-  not-inline : (k ≡ 3 → ⊥) → inline T r ≡ false
-  not-inline n = go (inline T r) refl
+  not-unnamed : (k ≡ 3 → ⊥) → unnamed T r ≡ false
+  not-unnamed n = go (unnamed T r) refl
     where
-      go : (b : Bool) → inline T r ≡ b → b ≡ false
-      go true i = absurd (n (e ∙ inline-struct T r i))
+      go : (b : Bool) → unnamed T r ≡ b → b ≡ false
+      go true i = absurd (n (e ∙ unnamed-struct T r i))
       go false i = refl
 
   pub own-definition : ofDefinition k ≡ true → (k ≡ 3 → ⊥) → true ≡ isDefinition T r
-  own-definition d n = rw (not-inline n, ← e, d)
+  own-definition d n = rw (not-unnamed n, ← e, d)
 
-  pub struct-definition : k ≡ 3 → not (inline T r) ≡ isDefinition T r
+  pub struct-definition : k ≡ 3 → not (unnamed T r) ≡ isDefinition T r
   struct-definition d = rw (← e, d)
 
   pub no-definition : (k ≡ 1 → ⊥) → (k ≡ 3 → ⊥) → (k ≡ 5 → ⊥) → (k ≡ 7 → ⊥) → (k ≡ 9 → ⊥) → false ≡ isDefinition T r

@@ -13,14 +13,15 @@ use Rattle.grammar.proofs.Booleans.{clash as contradiction}
 use Rattle.buckets.specs.Buckets.{buckets, Added, Free}
 use Rattle.rules.specs.Types.{built-ins}
 use Rattle.rules.specs.Names.{clash}
-use Rattle.rules.specs.Rows.{upFrom, rowCount, inlineRows, childCount, children, nameOf}
+use Rattle.rules.specs.Rows.{upFrom, rowCount, walk, children, nameOf}
 use Rattle.rules.specs.Rules.{those, isDefinition, namesOf, noClash, distinctNames}
 use Rattle.rules.specs.SchemaTable.{placeIn}
 use Rattle.rows.specs.Marks.{markOf}
 use Rattle.rows.specs.Index.{itself, RowIndex, freshIn, Entered}
 use Rattle.table.specs.Definitions.{definitionRows, withRow, DefinitionIndex, RowEntered, clearIn, DefinitionEntered, definitionsClear, childrenApart}
 use Rattle.rows.proofs.Walks.{upFrom-on, upFrom-end, upTo, upTo-of, upTo-back, upTo-none, upTo-miss}
-use Rattle.rows.proofs.RowFacts.{children-from}
+use Rattle.rows.specs.Rows.{First, Counted}
+use Rattle.rows.proofs.ChildLaws.{children-walk}
 use Rattle.rows.proofs.NameFacts.{fresh}
 use Rattle.table.proofs.DefinitionFacts.{taken-of-place, fresh-of-place}
 use Rattle.rows.proofs.IndexLaws.{index-none, index-more}
@@ -184,9 +185,8 @@ module _ (S T : List ℕ) where
     }
 
   -- rule 6 of children, and in two parts
-  pub apart-children : (r a e : ℕ) (b : Bool) → a ≡ suc r + inlineRows T r → e ≡ a + childCount T r
-      → b ≡ apart clash (namesOf S T (upFrom a (e - a))) → b ≡ apart clash (namesOf S T (children T r))
-  apart-children r a e b p q t = rw (children-from T r a e p q) t
+  pub apart-children : {r a n : ℕ} {b : Bool} → First T r a → Counted T r n → b ≡ apart clash (namesOf S T (walk T a n)) → b ≡ apart clash (namesOf S T (children T r))
+  apart-children p q t = rw (children-walk p q) t
 
   pub distinct-not : definitionsClear S T ≡ false → false ≡ distinctNames S T
   unfolding distinctNames

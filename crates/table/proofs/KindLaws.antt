@@ -14,13 +14,14 @@ use Rattle.grammar.specs.Notation.{all, apart}
 use Rattle.grammar.specs.Tree.{Kind}
 use Rattle.grammar.specs.Tree.Kind.{object, array, string, number, boolean, null-kind}
 use Rattle.rules.specs.Types.{built-in-kinds, column}
-use Rattle.rules.specs.Rows.{upFrom, kind, count, typeRef, returns, children, typeKind}
+use Rattle.rules.specs.Rows.{upFrom, kind, count, typeRef, returns, walk, children, typeKind}
 use Rattle.rules.specs.Rules.{is, sameKinds, kindsOf, alternateFits, returnFits}
 use Rattle.rules.proofs.Lists.{all-true, in-upFrom}
 use Rattle.rules.proofs.Grid.{built-in-kind, row-kind}
 use Rattle.table.specs.RuleParts.{columnOr6, rowColumn, kindNew, kindsFit}
 use Rattle.rows.proofs.ListLaws.{all-map, all-same, eqb-sym}
-use Rattle.rows.proofs.Walks.{upFrom-end, upFrom-on}
+use Rattle.rows.specs.Rows.{Follows}
+use Rattle.rows.proofs.LoopLaws.{WalkLeft, left-at, left-hit, left-ends}
 
 -- the column of a type
 module _ (T : List ℕ) where
@@ -96,25 +97,22 @@ module _ {x y k : ℕ} (p : x ≡ y) where
   pub column-new : (x ≡ k → ⊥) → not (eqb y k) ≡ true
   column-new n = rw (ne-eqb y k (omega arith))
 
--- `whole` is true where the alternatives from b up to e fit
-pub record KindsLeft (T : List ℕ) (whole : Bool) (b e : ℕ) : Type 0 where
-  pub left : whole ≡ kindsFit T (upFrom b (e - b))
-
-module _ {T : List ℕ} {whole : Bool} {b e : ℕ} (l : KindsLeft T whole b e) where
-  pub kinds-end : e ≤ b → true ≡ whole
+-- a walk over alternatives: `whole` is true where those left fit
+module _ {T : List ℕ} {whole : Bool} {c n : ℕ} (l : WalkLeft (kindsFit T) T whole c n) where
+  pub kinds-end : n ≤ 0 → true ≡ whole
   unfolding kindsFit
-  kinds-end h = sym (l .left ∙ rw (upFrom-end b e h))
+  kinds-end h = left-ends l h
 
-  module _ (h : b < e) {k : ℕ} (p : k ≡ columnOr6 (typeKind T (typeRef T b))) where
+  module _ (h : 0 < n) {k : ℕ} (p : k ≡ columnOr6 (typeKind T (typeRef T c))) where
     pub kinds-fail : k ≡ 6 → false ≡ whole
-    kinds-fail z = sym (l .left ∙ rw (upFrom-on b e h) (kinds-none T b (upFrom (b + 1) (e - (b + 1))) p z))
+    kinds-fail z = left-hit l h (λ rs. kinds-none T c rs p z)
 
-    module _ (n : k ≡ 6 → ⊥) where
-      pub kinds-clash : kindNew T k (upFrom (b + 1) (e - (b + 1))) ≡ false → false ≡ whole
-      kinds-clash f = sym (l .left ∙ rw (upFrom-on b e h) (kinds-more T b (upFrom (b + 1) (e - (b + 1))) p n ∙ rw f))
+    module _ (m : k ≡ 6 → ⊥) {c′ : ℕ} (f : Follows T c c′) where
+      pub kinds-clash : kindNew T k (walk T c′ (n - 1)) ≡ false → false ≡ whole
+      kinds-clash e = sym (left-at l h (f .is) ∙ kinds-more T c (walk T c′ (n - 1)) p m ∙ rw e)
 
-      pub kinds-on : kindNew T k (upFrom (b + 1) (e - (b + 1))) ≡ true → KindsLeft T whole (b + 1) e
-      kinds-on f = record { left = l .left ∙ rw (upFrom-on b e h) (kinds-more T b (upFrom (b + 1) (e - (b + 1))) p n ∙ rw f) }
+      pub kinds-on : kindNew T k (walk T c′ (n - 1)) ≡ true → WalkLeft (kindsFit T) T whole c′ (n - 1)
+      kinds-on e = record { left = left-at l h (f .is) ∙ kinds-more T c (walk T c′ (n - 1)) p m ∙ rw e }
 
 -- an alternate: some alternative, and alternatives that fit
 module _ (T : List ℕ) (r : ℕ) {n : ℕ} (p : n ≡ count T r) where

@@ -3,65 +3,45 @@
 use Prim.Native.Nat.{ℕ, zero, suc, _+_, _-_, _*_, _≤_, _<_}
 use mathlib.Core.Path.{_≡_, refl, sym, ap, _∙_}
 use mathlib.Core.Bool.{Bool, true, false, not, _&&_, _||_, and-false}
-use mathlib.Core.Logic.{inl, inr, ⊎-elim}
+use mathlib.Core.Logic.{⊎-elim}
 use mathlib.Core.List.{List, [], _∷_}
 use native.Mathlib.Nat.{eq-or-lt-of-le}
 use native.Mathlib.Numerals.{add-one}
 use native.Mathlib.Omega.{arith}
 use lib.Dec.{eqb}
 use lib.ListN.{getD, List·getD-eq-default}
-use types.Run.{OneOf}
 use borrow.Author.Tests.{eq-eqb, ne-eqb}
 use Rattle.grammar.specs.Limits.{row-words}
 use Rattle.grammar.specs.Notation.{all}
-use Rattle.rules.specs.Rows.{upFrom, rowCount, word, kind, inline, inlineRows, childCount}
-use Rattle.rules.specs.Sound.{childrenFit, definitionAt, laidOut, lastUsed, restZero}
-use Rattle.rows.proofs.Walks.{upTo, upTo-of}
-use Rattle.rows.proofs.RowFacts.{children-from}
-
--- children from a up to e, of the kind after their row's
-pub fit-upTo : (T : List ℕ) (r a e : ℕ) → a ≡ suc r + inlineRows T r → e ≡ a + childCount T r → childrenFit T r ≡ upTo (λ c. eqb (kind T c) (suc (kind T r))) a e
-unfolding upTo
-fit-upTo T r a e p q = rw (children-from T r a e p q)
+use Rattle.rules.specs.Rows.{upFrom, rowCount, word, kind, owns, pastChildren}
+use Rattle.rules.specs.Rules.{isDefinition}
+use Rattle.rules.specs.Sound.{childrenFit, inlineFits, definitionAt, laidOut, lastUsed, restZero}
+use Rattle.rules.proofs.TableRows.{past-children-above}
+use Rattle.rows.specs.Rows.{Follows}
+use Rattle.rows.proofs.Walks.{granted, denied, upTo, upTo-of}
 
 -- kinds of definitions
-abbrev pub DefinitionKind : ℕ → Type 0
-DefinitionKind = OneOf (1 ∷ 3 ∷ 5 ∷ 7 ∷ 9 ∷ [])
-
 abbrev pub ofDefinition : ℕ → Bool
 ofDefinition k = eqb k 1 || eqb k 3 || eqb k 5 || eqb k 7 || eqb k 9
 
-pub definition-kind : (k : ℕ) → DefinitionKind k → ofDefinition k ≡ true
-definition-kind k =
-    ⊎-elim (λ (e : k ≡ 1). rw e) (⊎-elim (λ (e : k ≡ 3). rw e) (⊎-elim (λ (e : k ≡ 5). rw e) (⊎-elim (λ (e : k ≡ 7). rw e) (λ (e : k ≡ 9). rw e))))
-
-pub other-kind : (k : ℕ) → (DefinitionKind k → ⊥) → ofDefinition k ≡ false
-other-kind k n =
-    rw (
-      ne-eqb k 1 (λ e. n (inl e)),
-      ne-eqb k 3 (λ e. n (inr (inl e))),
-      ne-eqb k 5 (λ e. n (inr (inr (inl e)))),
-      ne-eqb k 7 (λ e. n (inr (inr (inr (inl e))))),
-      ne-eqb k 9 (λ e. n (inr (inr (inr (inr e))))),
-    )
-
 -- where a definition begins
-module _ (T : List ℕ) (r k : ℕ) (p : k ≡ kind T r) where
-  pub no-definition-at : (DefinitionKind k → ⊥) → false ≡ definitionAt T r
-  no-definition-at n = let d : ofDefinition (kind T r) ≡ false = ap ofDefinition (sym p) ∙ other-kind k n in rw d
+module _ (T : List ℕ) (r : ℕ) where
+  module _ {b : Bool} (o : b ≡ owns T r) where
+    pub inline-none : not b ≡ true → true ≡ inlineFits T r
+    inline-none t = rw (denied o t)
 
-  module _ (o : DefinitionKind k) (f : childrenFit T r ≡ true) where
-    definition-rest : definitionAt T r ≡ (not (inline T (r + 1)) || childrenFit T (r + 1))
-    definition-rest = let d : ofDefinition (kind T r) ≡ true = ap ofDefinition (sym p) ∙ definition-kind k o in rw (d, f, add-one)
+    pub inline-fit : not b ≡ false → {s : ℕ} {f : Bool} → Follows T r s → f ≡ childrenFit T s → f ≡ inlineFits T r
+    inline-fit t p q = rw (granted o t, ← p .is) q
 
-    pub definition-inline : inline T (r + 1) ≡ true → childrenFit T (r + 1) ≡ definitionAt T r
-    definition-inline i = sym (definition-rest ∙ rw i)
+  pub definition-no : isDefinition T r ≡ false → false ≡ definitionAt T r
+  definition-no d = rw d
 
-    pub definition-plain : inline T (r + 1) ≡ false → true ≡ definitionAt T r
-    definition-plain i = sym (definition-rest ∙ rw i)
+  module _ (d : isDefinition T r ≡ true) where
+    pub definition-inline : inlineFits T r ≡ false → false ≡ definitionAt T r
+    definition-inline i = rw (i, and-false)
 
-pub children-unfit : (T : List ℕ) (r : ℕ) → childrenFit T r ≡ false → false ≡ definitionAt T r
-children-unfit T r f = rw (f, and-false)
+    pub definition-fit : inlineFits T r ≡ true → {f : Bool} → f ≡ childrenFit T r → f ≡ definitionAt T r
+    definition-fit i q = rw (d, i) q
 
 -- what is left to lay out from row r on
 pub record Left (T : List ℕ) (r : ℕ) : Type 0 where
@@ -73,14 +53,14 @@ module _ (T : List ℕ) where
   pub left-all : Left T 0
   left-all = record { most = rowCount T; enough = omega arith; equal = refl }
 
-  laid-on : (n r : ℕ) → r < rowCount T → laidOut T (suc n) r ≡ (definitionAt T r && laidOut T n (suc r + inlineRows T r + childCount T r))
+  laid-on : (n r : ℕ) → r < rowCount T → laidOut T (suc n) r ≡ (definitionAt T r && laidOut T n (pastChildren T r))
   unfolding laidOut
   laid-on n r h = rw (ne-eqb r (rowCount T) (λ e. omega arith))
 
   laid-past : (n r : ℕ) → rowCount T < r → laidOut T n r ≡ false
   unfolding laidOut
   laid-past zero r h = ne-eqb r (rowCount T) (λ e. omega arith)
-  laid-past (suc n) r h = rw (ne-eqb r (rowCount T) (λ e. omega arith), laid-past n (suc r + inlineRows T r + childCount T r) (omega arith), and-false)
+  laid-past (suc n) r h = rw (ne-eqb r (rowCount T) (λ e. omega arith), laid-past n (pastChildren T r) (omega (arith, past-children-above T r)), and-false)
 
   laid-there : (n : ℕ) → laidOut T n (rowCount T) ≡ true
   unfolding laidOut
@@ -95,12 +75,12 @@ module _ (T : List ℕ) where
         go zero k = absurd (omega arith)
         go (suc n) k = laid-on n r h ∙ rw d
 
-    pub left-on : (next : ℕ) → next ≡ suc r + inlineRows T r + childCount T r → r < rowCount T → definitionAt T r ≡ true → Left T next
+    pub left-on : (next : ℕ) → next ≡ pastChildren T r → r < rowCount T → definitionAt T r ≡ true → Left T next
     left-on next p h d = go (l .most) (l .enough) (l .equal)
       where
         go : (n : ℕ) → rowCount T ≤ r + n → laidOut T (rowCount T) 0 ≡ laidOut T n r → Left T next
         go zero k e = absurd (omega arith)
-        go (suc n) k e = record { most = n; enough = omega arith; equal = e ∙ laid-on n r h ∙ rw (d, p) }
+        go (suc n) k e = record { most = n; enough = omega (arith, past-children-above T r); equal = e ∙ laid-on n r h ∙ rw (d, p) }
 
     pub left-none : rowCount T ≤ r → eqb r (rowCount T) ≡ laidOut T (rowCount T) 0
     left-none h = ⊎-elim there (λ (k : rowCount T < r). ne-eqb r (rowCount T) (λ e. omega arith) ∙ sym (l .equal ∙ laid-past (l .most) r k)) (eq-or-lt-of-le h)

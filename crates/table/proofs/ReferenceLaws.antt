@@ -1,17 +1,16 @@
 -- What each return of references.rt says of the references of a row.
 -- A law for each return, over the numbers that were read; each puts the tests that led there into the definition.
-use Prim.Native.Nat.{ℕ, suc, _+_, _-_, _≤_, _<_}
+use Prim.Native.Nat.{ℕ, _-_, _≤_, _<_}
 use mathlib.Core.Path.{_≡_, refl, sym, _∙_}
 use mathlib.Core.Bool.{Bool, true, false, not, _&&_, _||_, and-true, and-false, or-false}
 use mathlib.Core.List.{List}
-use native.Mathlib.Numerals.{add-one}
 use native.Mathlib.Omega.{arith}
 use lib.Dec.{eqb, leb}
 use borrow.Author.Tests.{lt-ltb, le-leb, lt-leb, eq-eqb, ne-eqb, eqb-true, eqb-false}
 use Rattle.grammar.proofs.Booleans.{within-is, within-above}
-use Rattle.rules.specs.Rows.{kind, base, typeRef, arrayMark, optional, unionBase, discriminator, branchStruct, arguments, allowOob, returns, returnsArray, inline}
-use Rattle.rules.specs.Sound.{toStruct, toOwnInline, toType, referencesFit}
-use Rattle.rules.proofs.TableRows.{inline-struct}
+use Rattle.rules.specs.Rows.{kind, base, typeRef, arrayMark, optional, unionBase, discriminator, branchStruct, arguments, allowOob, returns, returnsArray, unnamed, owns}
+use Rattle.rules.specs.Sound.{toStruct, toType, referencesFit}
+use Rattle.rules.proofs.TableRows.{unnamed-struct}
 use Rattle.rules.proofs.First.{decided}
 use Rattle.table.specs.RuleParts.{memberRefers, unionRefers, argumentsRefer, commandRefers}
 
@@ -24,19 +23,12 @@ module _ (T : List ℕ) where
     pub no-struct : (w ≡ 3 → ⊥) → false ≡ toStruct T l
     no-struct n = rw (lt-ltb 0 l (omega arith), ← p, ne-eqb w 3 n)
 
-    pub struct-is : w ≡ 3 → {b : Bool} → b ≡ inline T (l - 1) → not b ≡ toStruct T l
+    pub struct-is : w ≡ 3 → {b : Bool} → b ≡ unnamed T (l - 1) → not b ≡ toStruct T l
     struct-is q i = rw (lt-ltb 0 l (omega arith), ← p, eq-eqb w 3 q, i)
 
-  module _ (r : ℕ) {l : ℕ} where
-    pub own-not : (l ≡ r + 2 → ⊥) → false ≡ toOwnInline T r l
-    own-not n = rw (ne-eqb l (suc (suc r)) (omega arith))
-
-    pub own-is : l ≡ r + 2 → {b : Bool} → b ≡ inline T (r + 1) → b ≡ toOwnInline T r l
-    own-is e i = rw (eq-eqb l (suc (suc r)) (omega arith), i, add-one)
-
   -- types
-  not-inline : (r : ℕ) → (kind T r ≡ 3 → ⊥) → inline T r ≡ false
-  not-inline r n = decided (inline T r) (λ e. n (inline-struct T r e))
+  not-unnamed : (r : ℕ) → (kind T r ≡ 3 → ⊥) → unnamed T r ≡ false
+  not-unnamed r n = decided (unnamed T r) (λ e. n (unnamed-struct T r e))
 
   pub built-in-type : {t : ℕ} → t < 16 → not (eqb t 0) ≡ toType T t
   built-in-type {t} h = go (eqb t 0) refl
@@ -46,13 +38,13 @@ module _ (T : List ℕ) where
       go false e = let n : t ≡ 0 → ⊥ = eqb-false t 0 e in rw (within-is 1 15 t (omega arith) (omega arith))
 
   module _ {t w : ℕ} (h : 16 ≤ t) (p : w ≡ kind T (t - 16)) where
-    row-type : toType T t ≡ (eqb w 1 || eqb w 3 || eqb w 5 || eqb w 7) && not (inline T (t - 16))
+    row-type : toType T t ≡ (eqb w 1 || eqb w 3 || eqb w 5 || eqb w 7) && not (unnamed T (t - 16))
     row-type = rw (within-above 1 15 t (omega arith), le-leb 16 t h, p)
 
     pub other-type : eqb w 1 || eqb w 3 || eqb w 5 || eqb w 7 ≡ true → (w ≡ 3 → ⊥) → true ≡ toType T t
-    other-type q n = sym (row-type ∙ rw (q, not-inline (t - 16) (rw p at n)))
+    other-type q n = sym (row-type ∙ rw (q, not-unnamed (t - 16) (rw p at n)))
 
-    pub struct-type : w ≡ 3 → {b : Bool} → b ≡ inline T (t - 16) → not b ≡ toType T t
+    pub struct-type : w ≡ 3 → {b : Bool} → b ≡ unnamed T (t - 16) → not b ≡ toType T t
     struct-type q i = sym (row-type ∙ rw (q, i))
 
     pub no-type : (w ≡ 1 → ⊥) × (w ≡ 3 → ⊥) × (w ≡ 5 → ⊥) × (w ≡ 7 → ⊥) → false ≡ toType T t
@@ -76,11 +68,11 @@ module _ (T : List ℕ) (r : ℕ) where
 
   -- a union: its base and its discriminator
   module _ {l : ℕ} (p : l ≡ unionBase T r) where
-    pub union-no-base : toOwnInline T r l || toStruct T l ≡ false → false ≡ unionRefers T r
+    pub union-no-base : owns T r || toStruct T l ≡ false → false ≡ unionRefers T r
     unfolding unionRefers
     union-no-base e = rw (← p, e)
 
-    module _ (e : toOwnInline T r l || toStruct T l ≡ true) {d : ℕ} (q : d ≡ discriminator T r) where
+    module _ (e : owns T r || toStruct T l ≡ true) {d : ℕ} (q : d ≡ discriminator T r) where
       pub union-no-tag : d ≡ 0 → false ≡ unionRefers T r
       unfolding unionRefers
       union-no-tag z = rw (← p, e, ← q, z)
@@ -95,7 +87,7 @@ module _ (T : List ℕ) (r : ℕ) where
     unfolding argumentsRefer
     arguments-none e = rw (← p, e)
 
-    pub arguments-link : (l ≡ 0 → ⊥) → {b : Bool} → b ≡ toOwnInline T r l || toStruct T l → b ≡ argumentsRefer T r
+    pub arguments-link : (l ≡ 0 → ⊥) → {b : Bool} → b ≡ owns T r || toStruct T l → b ≡ argumentsRefer T r
     unfolding argumentsRefer
     arguments-link n q = rw (← p, ne-eqb l 0 n) q
 

@@ -11,9 +11,9 @@ use Rattle.grammar.specs.Tree.{Kind}
 use Rattle.grammar.specs.Tree.Kind.{object, string}
 use Rattle.rules.specs.Types.{column}
 use Rattle.rules.specs.Rows.{rowCount, kind, start, size, isEnum, typeRef, arrayMark, optional, unionBase, discriminator, branchStruct}
-use Rattle.rules.specs.Rows.{arguments, allowOob, returns, returnsArray, typeKind, nameOf}
+use Rattle.rules.specs.Rows.{arguments, allowOob, returns, returnsArray, owns, typeKind, nameOf}
 use Rattle.rules.specs.Rules.{is, everyRow, sameKinds, kindsOf, discriminatorRow, goodNames, distinctNames, goodChains, goodUnions, goodAlternates, goodReturns}
-use Rattle.rules.specs.Sound.{laidOut, restZero, isFlag, toStruct, toOwnInline, toType, referencesFit}
+use Rattle.rules.specs.Sound.{laidOut, restZero, isFlag, toStruct, toType, referencesFit}
 use Rattle.table.specs.Chains.{chainEnds, hasChild, isMember, membersNew}
 
 -- the grid's column of a JSON kind, 6 for none
@@ -31,10 +31,10 @@ module _ (T : List ℕ) where
   memberRefers r = toType T (typeRef T r) && isFlag T (arrayMark T r) && isFlag T (optional T r)
 
   unfoldable pub unionRefers : ℕ → Bool
-  unionRefers r = (toOwnInline T r (unionBase T r) || toStruct T (unionBase T r)) && ltb 0 (discriminator T r) && eqb (kind T (discriminator T r - 1)) 4
+  unionRefers r = (owns T r || toStruct T (unionBase T r)) && ltb 0 (discriminator T r) && eqb (kind T (discriminator T r - 1)) 4
 
   unfoldable pub argumentsRefer : ℕ → Bool
-  argumentsRefer r = eqb (arguments T r) 0 || toOwnInline T r (arguments T r) || toStruct T (arguments T r)
+  argumentsRefer r = eqb (arguments T r) 0 || owns T r || toStruct T (arguments T r)
 
   unfoldable pub commandRefers : ℕ → Bool
   commandRefers r =

@@ -1,15 +1,17 @@
 // Alternates: rule 10.
 use rows::rows::child_count;
 use rows::rows::first_child;
+use rows::rows::next_row;
 use rows::rows::wide;
 use rows::rows::word;
 use rules::FIRST_ROW;
 use rules::ROW_WORDS;
 ghost use mathlib.Core.Path.{_≡_};
-ghost use Prim.Native.Nat.{_-_, _<_, _^_};
+ghost use Prim.Native.Nat.{_<_, _^_};
 ghost use lib.ListN.{length};
-ghost use Rattle.rules.specs.Rows.{upFrom, typeKind};
+ghost use Rattle.rules.specs.Rows.{walk, typeKind};
 ghost use Rattle.rules.specs.Rules.{alternateFits, goodAlternates};
+ghost use Rattle.rows.specs.Rows.{Room};
 ghost use Rattle.table.specs.RuleParts.{columnOr6, rowColumn, kindNew, kindsFit};
 
 // The JSON kind of a type, as its column of the grid; 6 if it has none.
@@ -39,34 +41,41 @@ fn row_kind(k: u32) -> u32
     }
 }
 
-// Whether no alternative from b up to e has the JSON kind k.
-fn kind_is_new(rows: &[u32], k: u32, b: usize, e: usize) -> bool
-    ensures { λ r. ⌜ r ≡ kindNew (now (rows .entry)) k (upFrom b (e - b)) ⌝ }
+// Whether none of n alternatives from b on has the JSON kind k.
+fn kind_is_new(rows: &[u32], k: u32, b: usize, n: usize) -> bool
+    requires { ⌜ Room b n ⌝ }
+    ensures { λ r. ⌜ r ≡ kindNew (now (rows .entry)) k (walk (now (rows .entry)) b n) ⌝ }
 {
     let mut i = b;
-    while i < e {
+    let mut left = n;
+    while 0 < left {
         if type_kind(rows, wide(word(rows, i, 3))) == k {
             return false;
         }
-        i += 1;
+        i = next_row(rows, i);
+        left -= 1;
     }
     true
 }
 
-// Whether the alternatives from a up to e each have a JSON kind, and no two the same.
-fn kinds_apart(rows: &[u32], a: usize, e: usize) -> bool
-    ensures { λ r. ⌜ r ≡ kindsFit (now (rows .entry)) (upFrom a (e - a)) ⌝ }
+// Whether n alternatives from a on each have a JSON kind, and no two the same.
+fn kinds_apart(rows: &[u32], a: usize, n: usize) -> bool
+    requires { ⌜ Room a n ⌝ }
+    ensures { λ r. ⌜ r ≡ kindsFit (now (rows .entry)) (walk (now (rows .entry)) a n) ⌝ }
 {
     let mut i = a;
-    while i < e {
+    let mut left = n;
+    while 0 < left {
         let k = type_kind(rows, wide(word(rows, i, 3)));
         if k == 6 {
             return false;
         }
-        if !kind_is_new(rows, k, i + 1, e) {
+        let b = next_row(rows, i);
+        left -= 1;
+        if !kind_is_new(rows, k, b, left) {
             return false;
         }
-        i += 1;
+        i = b;
     }
     true
 }
@@ -78,8 +87,7 @@ fn alternate_fits(rows: &[u32], r: usize) -> bool
     if word(rows, r, 3) == 0 {
         return false;
     }
-    let a = first_child(rows, r);
-    kinds_apart(rows, a, a + child_count(rows, r))
+    kinds_apart(rows, first_child(rows, r), child_count(rows, r))
 }
 
 pub fn good_alternates(rows: &[u32]) -> bool

@@ -3,15 +3,17 @@ use rows::marks::is_fresh;
 use rows::marks::runs_apart;
 use rows::rows::child_count;
 use rows::rows::first_child;
+use rows::rows::next_row;
 use rows::rows::wide;
 use rows::rows::word;
 use rules::CHAIN_STRUCTS;
 use rules::ROW_WORDS;
 ghost use mathlib.Core.Path.{_≡_};
 ghost use Prim.Native.Nat.{_<_, _^_};
+ghost use lib.Dec.{eqb};
 ghost use lib.ListN.{length};
-ghost use Rattle.rules.specs.Rows.{nameOf};
-ghost use Rattle.rules.specs.Rules.{chainFits, goodChains};
+ghost use Rattle.rules.specs.Rows.{children, nameOf};
+ghost use Rattle.rules.specs.Rules.{any, chainFits, goodChains};
 ghost use Rattle.rows.specs.Marks.{Marks};
 ghost use Rattle.table.specs.Chains.{chainEnds, hasChild, isMember, listsApart, childrenNew, membersNew};
 
@@ -36,8 +38,14 @@ pub fn has_child(schema: &[u8], rows: &[u32], marks: &[u32], r: usize, c: usize)
     requires { ⌜ (r < 2 ^ 39) × Marks (now schema) (now rows) (now marks) ⌝ }
     ensures { λ b. ⌜ b ≡ hasChild (now (schema .entry)) (now (rows .entry)) r (nameOf (now (schema .entry)) (now (rows .entry)) c) ⌝ }
 {
-    let a = first_child(rows, r);
-    !is_fresh(schema, rows, marks, c, a, a + child_count(rows, r))
+    !is_fresh(
+        schema,
+        rows,
+        marks,
+        c,
+        first_child(rows, r),
+        child_count(rows, r),
+    )
 }
 
 // Whether no child of row r has the name of a child of row s.
@@ -46,10 +54,27 @@ fn lists_apart(schema: &[u8], rows: &[u32], marks: &[u32], r: usize, s: usize) -
     ensures { λ b. ⌜ b ≡ listsApart (now (schema .entry)) (now (rows .entry)) s r ⌝ }
 {
     let a = first_child(rows, r);
-    let e = a + child_count(rows, r);
+    let m = child_count(rows, r);
     let b = first_child(rows, s);
-    let f = b + child_count(rows, s);
-    runs_apart(schema, rows, marks, a, e, b, f)
+    let n = child_count(rows, s);
+    runs_apart(schema, rows, marks, a, m, b, n)
+}
+
+// Whether row m is a child of row r.
+fn is_child(rows: &[u32], r: usize, m: usize) -> bool
+    requires { ⌜ r < 2 ^ 39 ⌝ }
+    ensures { λ b. ⌜ b ≡ any (eqb m) (children (now (rows .entry)) r) ⌝ }
+{
+    let mut c = first_child(rows, r);
+    let mut left = child_count(rows, r);
+    while 0 < left {
+        if c == m {
+            return true;
+        }
+        c = next_row(rows, c);
+        left -= 1;
+    }
+    false
 }
 
 // Whether row m is a member of the struct with that link, its own or inherited.
@@ -67,11 +92,7 @@ pub fn is_member(rows: &[u32], link: usize, left: usize, m: usize) -> bool
     if is_member(rows, wide(word(rows, s, 4)), left - 1, m) {
         return true;
     }
-    let a = first_child(rows, s);
-    if m < a {
-        return false;
-    }
-    m - a < child_count(rows, s)
+    is_child(rows, s, m)
 }
 
 // Whether no child of row r has the name of a member of the struct with the link `other`, its own or inherited.

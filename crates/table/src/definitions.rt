@@ -9,7 +9,7 @@ use rows::names::name_of;
 use rows::names::same_bytes;
 use rows::rows::child_count;
 use rows::rows::first_child;
-use rows::rows::is_inline;
+use rows::rows::is_unnamed;
 use rows::rows::word;
 use rules::ROW_WORDS;
 use strings::classes::class_table;
@@ -99,7 +99,7 @@ fn name_fits(schema: &[u8], rows: &[u32], classes: &[u8; 256], r: usize) -> bool
     requires { ⌜ (r < 2 ^ 39) × (now classes ≡ tabulate classOf 0 256) ⌝ }
     ensures { λ b. ⌜ b ≡ nameFits (now (schema .entry)) (now (rows .entry)) r ⌝ }
 {
-    if is_inline(rows, r) {
+    if is_unnamed(rows, r) {
         return true;
     }
     good_name(
@@ -117,7 +117,7 @@ pub fn is_definition(rows: &[u32], r: usize) -> bool
     let k = word(rows, r, 0);
     match k {
         1 => true,
-        3 => !is_inline(rows, r),
+        3 => !is_unnamed(rows, r),
         5 => true,
         7 => true,
         9 => true,
@@ -198,7 +198,8 @@ fn children_apart(schema: &[u8], rows: &[u32], marks: &[u32], links: &mut [u32])
     let mut r = 0;
     while r < n {
         let a = first_child(rows, r);
-        if !all_apart(schema, rows, marks, links, a, a + child_count(rows, r)) {
+        let m = child_count(rows, r);
+        if !all_apart(schema, rows, marks, links, a, m) {
             return false;
         }
         r += 1;

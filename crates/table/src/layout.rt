@@ -1,55 +1,61 @@
 // The layout: rows fall into definitions, each followed by its inline struct and its children.
+use crate::definitions::is_definition;
 use rows::rows::child_count;
 use rows::rows::first_child;
-use rows::rows::inline_rows;
-use rows::rows::is_inline;
+use rows::rows::next_row;
+use rows::rows::owns_struct;
+use rows::rows::past_children;
 use rows::rows::wide;
 use rows::rows::word;
 use rules::ROW_WORDS;
 ghost use mathlib.Core.Path.{_≡_};
-ghost use Prim.Native.Nat.{_<_, _^_};
+ghost use Prim.Native.Nat.{_+_, _<_, _^_};
 ghost use lib.ListN.{length};
 ghost use mathlib.Core.List.{[]};
 ghost use Rattle.rules.specs.Rows.{rowCount};
-ghost use Rattle.rules.specs.Sound.{childrenFit, definitionAt, laidOut, lastUsed, restZero};
+ghost use Rattle.rules.specs.Sound.{childrenFit, inlineFits, definitionAt, laidOut, lastUsed, restZero};
 
 // Whether every child of row r is of the kind after r's.
 fn children_fit(rows: &[u32], r: usize) -> bool
-    requires { ⌜ r < 2 ^ 39 ⌝ }
+    requires { ⌜ r < 2 ^ 61 + 2 ^ 34 ⌝ }
     ensures { λ b. ⌜ b ≡ childrenFit (now (rows .entry)) r ⌝ }
 {
     let k = wide(word(rows, r, 0)) + 1;
-    let a = first_child(rows, r);
-    let e = a + child_count(rows, r);
-    let mut c = a;
-    while c < e {
+    let mut c = first_child(rows, r);
+    let mut left = child_count(rows, r);
+    while 0 < left {
         if wide(word(rows, c, 0)) != k {
             return false;
         }
-        c += 1;
+        c = next_row(rows, c);
+        left -= 1;
     }
     true
 }
 
-// Whether a definition begins at row r.
+// Whether the children of row r's inline struct fit, if it has one.
+fn inline_fits(rows: &[u32], r: usize) -> bool
+    requires { ⌜ r < 2 ^ 38 ⌝ }
+    ensures { λ b. ⌜ b ≡ inlineFits (now (rows .entry)) r ⌝ }
+{
+    if !owns_struct(rows, r) {
+        return true;
+    }
+    children_fit(rows, next_row(rows, r))
+}
+
+// Whether a definition begins at row r. Its inline struct is judged before its children, which are found by a walk over that one's.
 fn definition_at(rows: &[u32], r: usize) -> bool
     requires { ⌜ r < 2 ^ 38 ⌝ }
     ensures { λ b. ⌜ b ≡ definitionAt (now (rows .entry)) r ⌝ }
 {
-    let k = word(rows, r, 0);
-    match k {
-        1 | 3 | 5 | 7 | 9 => {}
-        _ => {
-            return false;
-        }
-    }
-    if !children_fit(rows, r) {
+    if !is_definition(rows, r) {
         return false;
     }
-    if is_inline(rows, r + 1) {
-        return children_fit(rows, r + 1);
+    if !inline_fits(rows, r) {
+        return false;
     }
-    true
+    children_fit(rows, r)
 }
 
 // Whether the rows fall into definitions.
@@ -63,7 +69,7 @@ pub fn is_laid_out(rows: &[u32]) -> bool
         if !definition_at(rows, r) {
             return false;
         }
-        r = first_child(rows, r) + child_count(rows, r);
+        r = past_children(rows, r);
     }
     r == n
 }

@@ -1,12 +1,14 @@
 // References: every link and every type reference is to a row of a fitting kind, and flags are 0 or 1.
-use rows::rows::is_inline;
+use rows::rows::is_unnamed;
+use rows::rows::owns_struct;
 use rows::rows::wide;
 use rows::rows::word;
 use rules::FIRST_ROW;
 ghost use mathlib.Core.Path.{_≡_};
 ghost use mathlib.Core.Bool.{_||_};
 ghost use Prim.Native.Nat.{_<_, _^_};
-ghost use Rattle.rules.specs.Sound.{toStruct, toOwnInline, toType, referencesFit};
+ghost use Rattle.rules.specs.Rows.{owns};
+ghost use Rattle.rules.specs.Sound.{toStruct, toType, referencesFit};
 ghost use Rattle.table.specs.RuleParts.{memberRefers, unionRefers, argumentsRefer, commandRefers};
 
 // A link to a struct that has a name.
@@ -20,26 +22,15 @@ pub fn to_struct(rows: &[u32], link: usize) -> bool
     if word(rows, link - 1, 0) != 3 {
         return false;
     }
-    !is_inline(rows, link - 1)
-}
-
-// A link of row r to its own inline struct.
-fn to_own_inline(rows: &[u32], r: usize, link: usize) -> bool
-    requires { ⌜ r < 2 ^ 38 ⌝ }
-    ensures { λ b. ⌜ b ≡ toOwnInline (now (rows .entry)) r link ⌝ }
-{
-    if link != r + 2 {
-        return false;
-    }
-    is_inline(rows, r + 1)
+    !is_unnamed(rows, link - 1)
 }
 
 // A link of row r to its own inline struct or to a struct that has a name.
 fn to_own_or_struct(rows: &[u32], r: usize, link: usize) -> bool
     requires { ⌜ (r < 2 ^ 38) × (link < 2 ^ 39) ⌝ }
-    ensures { λ b. ⌜ b ≡ toOwnInline (now (rows .entry)) r link || toStruct (now (rows .entry)) link ⌝ }
+    ensures { λ b. ⌜ b ≡ owns (now (rows .entry)) r || toStruct (now (rows .entry)) link ⌝ }
 {
-    if to_own_inline(rows, r, link) {
+    if owns_struct(rows, r) {
         return true;
     }
     to_struct(rows, link)
@@ -56,7 +47,7 @@ pub fn to_type(rows: &[u32], t: usize) -> bool
     let k = word(rows, t - FIRST_ROW, 0);
     match k {
         1 => true,
-        3 => !is_inline(rows, t - FIRST_ROW),
+        3 => !is_unnamed(rows, t - FIRST_ROW),
         5 => true,
         7 => true,
         _ => false,

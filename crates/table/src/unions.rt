@@ -5,6 +5,7 @@ use crate::chains::is_member;
 use crate::chains::members_new;
 use rows::rows::child_count;
 use rows::rows::first_child;
+use rows::rows::next_row;
 use rows::rows::wide;
 use rows::rows::word;
 use rules::CHAIN_STRUCTS;
@@ -70,14 +71,14 @@ fn branches_fit(schema: &[u8], rows: &[u32], marks: &[u32], r: usize, e: usize, 
     requires { ⌜ (r < 2 ^ 38) × (e < 2 ^ 39) × (base < 2 ^ 39) × Marks (now schema) (now rows) (now marks) ⌝ }
     ensures { λ b. ⌜ b ≡ all (branchNew (now (schema .entry)) (now (rows .entry)) e base) (children (now (rows .entry)) r) ⌝ }
 {
-    let a = first_child(rows, r);
-    let end = a + child_count(rows, r);
-    let mut b = a;
-    while b < end {
+    let mut b = first_child(rows, r);
+    let mut left = child_count(rows, r);
+    while 0 < left {
         if !branch_fits(schema, rows, marks, b, e, base) {
             return false;
         }
-        b += 1;
+        b = next_row(rows, b);
+        left -= 1;
     }
     true
 }

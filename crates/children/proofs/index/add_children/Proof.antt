@@ -1,31 +1,29 @@
--- `index::add_children` meets its contract: the rows before c are in the index.
--- The measure is the number of rows left.
-use borrow.Author.Needs.{needs}
-use Prim.Native.Nat.{_-_, _≤_}
-use Rattle.children.proofs.FillLaws.{run-start, run-more, run-end}
-use Rattle.children.specs.Filling.{RunAdded}
+-- `index::add_children` meets its contract: the children before c are in the index.
 use mathlib.Core.Path.{_∙_}
 use native.Mathlib.Omega.{arith}
+use Rattle.rules.proofs.TableRows.{past-children-above}
+use Rattle.rows.specs.Rows.{Room}
+use Rattle.rows.proofs.LoopLaws.{room-next}
+use Rattle.rows.proofs.ChildLaws.{children-room}
+use Rattle.children.proofs.FillLaws.{RunAdded, run-start, run-within, run-more, run-end}
+use borrow.Author.Needs.{needs}
 use Rattle.children.proofs.index.add_children.Statement.{statement}
 use Rattle.children.proofs.index.add_children.Tie as tie
 
 abbrev Inv-loop : tie.InvT-loop
-Inv-loop schema rows index₀ r a e c₀ index c = (c ≤ e) × RunAdded schema rows index₀ r a c index
+Inv-loop schema rows index₀ r c₀ left₀ index c left = Room c left × RunAdded schema rows index₀ r c left index
 
 abbrev μ-loop : tie.MeasureT-loop
-μ-loop schema rows index₀ r a e c₀ index c = e - c
+μ-loop schema rows index₀ r c₀ left₀ index c left = left
 
 first-child-requires : tie.Need-first-child-requires Inv-loop μ-loop
-first-child-requires c κs = omega (arith, c .before .before .before .pre .1)
+first-child-requires c κs = omega (arith, c .before .before .before .pre .1, past-children-above (c .before .before .before .args .rows .now) (c .before .before .before .args .r))
 
 child-count-requires : tie.Need-child-count-requires Inv-loop μ-loop
 child-count-requires c κs = search needs
 
-add-e : tie.Need-add-e Inv-loop μ-loop
-add-e c = omega (arith, c .before .before .before .before .before .pre .1)
-
 loop-holds : tie.Need-loop-holds Inv-loop μ-loop
-loop-holds c = (omega arith, run-start)
+loop-holds c = (children-room (c .before .first-child .ensures) (c .child-count .ensures), run-start (c .before .first-child .ensures) (c .child-count .ensures))
 
 name-of-requires : tie.Need-name-of-requires Inv-loop μ-loop
 name-of-requires c κs = search needs
@@ -37,27 +35,28 @@ owner-mark-requires : tie.Need-owner-mark-requires Inv-loop μ-loop
 owner-mark-requires c κs = search needs
 
 put-child-requires : tie.Need-put-child-requires Inv-loop μ-loop
-put-child-requires c κs =
-    let i = c .before .before .before .before .before .loop .inv in
-    (i .1 .room ∙ c .before .before .before .before .before .before .before .before .before .before .before .pre .0, omega (arith, c .before .before .before .before .before .before .before .before .before .before .before .pre .1, c .before .before .before .before .before .before .before .first-child .ensures, c .before .before .before .before .before .before .child-count .ensures))
+put-child-requires c κs = (c .before .before .before .before .before .loop .inv .1 .room ∙ c .before .before .before .before .before .before .before .before .before .before .before .pre .0, run-within (c .before .before .before .before .before .loop .inv .1) (c .before .before .before .before .loop-test .taken) (c .before .before .before .before .before .before .before .before .before .before .before .pre .1))
 
-add-c : tie.Need-add-c Inv-loop μ-loop
-add-c c = omega (arith, c .before .before .before .before .before .before .before .before .before .before .before .before .before .before .pre .1, c .before .before .before .before .before .before .before .before .before .before .first-child .ensures, c .before .before .before .before .before .before .before .before .before .child-count .ensures)
+next-row-requires : tie.Need-next-row-requires Inv-loop μ-loop
+next-row-requires c κs = search needs
+
+sub-left : tie.Need-sub-left Inv-loop μ-loop
+sub-left c = search needs
 
 loop-less : tie.Need-loop-less Inv-loop μ-loop
 loop-less c = search needs
 
 loop-again : tie.Need-loop-again Inv-loop μ-loop
 loop-again c =
-    let i = c .before .before .before .before .before .before .before .before .loop .inv in
-    let n = c .before .before .before .before .before .before .before .before .before .before .first-child .ensures in
-    (omega arith, run-more (i .1) (omega (arith, c .before .before .before .before .before .before .before .before .before .before .before .before .before .before .pre .1, n, c .before .before .before .before .before .before .before .before .before .child-count .ensures)) (c .before .before .before .before .before .before .name-of .ensures) (c .before .before .before .before .before .name-mark .ensures) (c .before .before .before .before .owner-mark .ensures) (c .before .before .put-child .ensures))
+    let l = c .before .before .before .before .before .before .before .before .loop-test .taken in
+    let f = c .next-row .ensures in
+    (room-next (c .before .before .before .before .before .before .before .before .before .loop .inv .0) l f, run-more (c .before .before .before .before .before .before .before .before .before .loop .inv .1) l (c .before .before .before .before .before .before .before .before .before .before .before .before .before .before .before .pre .1) (c .before .before .before .before .before .before .before .name-of .ensures) (c .before .before .before .before .before .before .name-mark .ensures) (c .before .before .before .before .before .owner-mark .ensures) (c .before .before .before .put-child .ensures) f)
 
 same-length : tie.Need-same-length Inv-loop μ-loop
 same-length c = search needs
 
 returns : tie.Need-returns Inv-loop μ-loop
-returns c = run-end (c .before .loop .inv .1) (c .before .before .before .first-child .ensures) (c .before .before .child-count .ensures) (c .before .loop .inv .0) (omega arith)
+returns c = run-end (c .before .loop .inv .1) (c .loop-test .left)
 
 pub add-children-spec : {M : Type 1} → statement M
 add-children-spec =
@@ -67,13 +66,13 @@ add-children-spec =
     μ-loop
     first-child-requires
     child-count-requires
-    add-e
     loop-holds
     name-of-requires
     name-mark-requires
     owner-mark-requires
     put-child-requires
-    add-c
+    next-row-requires
+    sub-left
     loop-less
     loop-again
     same-length

@@ -9,7 +9,7 @@ child-count-requires c κs = search needs
 
 returns : tie.Need-returns
 unfolding isLong
-returns c = rw (c .child-count .ensures)
+returns c = rw (c .child-count .ensures .is)
 
 pub is-long-spec : {M : Type 1} → statement M
 is-long-spec = tie.close (tie.spec child-count-requires returns)

@@ -1,26 +1,27 @@
 -- `index::put_count` meets its contract: a list has no more mandatory children than children, and the table few rows.
 use borrow.Author.Needs.{needs}
-use Rattle.children.proofs.CountLaws.{own-few}
-use lib.ListN.{set}
 use mathlib.Core.Path.{ap}
 use native.Mathlib.Omega.{arith}
+use lib.ListN.{set}
+use Rattle.rules.proofs.TableRows.{past-children-above, past-children-least}
+use Rattle.children.proofs.CountLaws.{own-few}
 use Rattle.children.proofs.index.put_count.Statement.{statement}
 use Rattle.children.proofs.index.put_count.Tie as tie
 
 scanned-mandatory-requires : tie.Need-scanned-mandatory-requires
-scanned-mandatory-requires c κs = search needs
+scanned-mandatory-requires c κs = omega (arith, c .before .before .pre .0, c .before .before .pre .1, past-children-above (c .before .before .args .rows .now) (c .before .before .args .r))
 
 cast-index : tie.Need-cast-index
-cast-index c = omega (arith, own-few (c .before .before .before .args .rows .now) (c .before .before .before .args .r), c .scanned-mandatory .ensures)
+cast-index c = omega (arith, c .before .before .before .pre .1, own-few (c .before .before .before .args .rows .now) (c .before .before .before .args .r), past-children-least (c .before .before .before .args .rows .now) (c .before .before .before .args .r), c .scanned-mandatory .ensures)
 
 add-index : tie.Need-add-index
-add-index c = search needs
+add-index c = omega (arith, c .before .before .before .pre .0, c .before .before .before .pre .1, past-children-above (c .before .before .before .args .rows .now) (c .before .before .before .args .r))
 
 mul-index : tie.Need-mul-index
-mul-index c = search needs
+mul-index c = omega (arith, c .before .before .before .pre .0, c .before .before .before .pre .1, past-children-above (c .before .before .before .args .rows .now) (c .before .before .before .args .r))
 
 slice-write-index : tie.Need-slice-write-index
-slice-write-index c = search needs
+slice-write-index c = omega (arith, c .before .before .before .pre .0, c .before .before .before .pre .1, past-children-above (c .before .before .before .args .rows .now) (c .before .before .before .args .r))
 
 same-length : tie.Need-same-length
 same-length c = search needs

@@ -1,11 +1,10 @@
 -- `lookup::indexed_child` meets its contract: the chain of the bucket of what is meant, over the rows of the list.
-use mathlib.Core.Path.{ap, _∙_}
-use Prim.Native.Nat.{ℕ}
-use lib.ListN.{getD}
-use Rattle.children.proofs.LookupLaws.{child-indexed}
-use Rattle.children.specs.Index.{linksOf}
-use Rattle.rows.proofs.ChildLaws.{end-fits}
 use borrow.Author.Needs.{needs}
+use Prim.Native.Nat.{ℕ}
+use mathlib.Core.Path.{ap, _∙_}
+use lib.ListN.{getD}
+use Rattle.children.specs.Index.{linksOf}
+use Rattle.children.proofs.LookupLaws.{child-indexed}
 use Rattle.children.proofs.lookup.indexed_child.Statement.{statement}
 use Rattle.children.proofs.lookup.indexed_child.Tie as tie
 
@@ -33,11 +32,8 @@ wide-requires c κs = search needs
 first-child-requires : tie.Need-first-child-requires
 first-child-requires c κs = search needs
 
-child-count-requires : tie.Need-child-count-requires
-child-count-requires c κs = search needs
-
-add-e : tie.Need-add-e
-add-e c = end-fits _ (c .before .before .before .before .before .before .before .before .before .before .before .shared-slice-known2 .given) _ (c .before .before .before .before .before .before .before .before .before .before .before .before .before .pre) (c .before .first-child .ensures) (c .child-count .ensures)
+past-children-requires : tie.Need-past-children-requires
+past-children-requires c κs = search needs
 
 sub-listed-child : tie.Need-sub-listed-child
 sub-listed-child c = search needs
@@ -55,8 +51,7 @@ returns-2 : tie.Need-returns-2
 unfolding linksOf
 returns-2 c =
     let i = c .before .before .before .before .before .before .before .before .before .before .before .before .before .before .before .args .index .now in
-    child-indexed (c .before .before .before .before .before .before .before .before .meaning-mark .ensures) (c .before .before .before .before .before .before .before .owner-mark .ensures) (c .before .before .before .before .wide .ensures ∙ ap (λ (h : ℕ). getD i h 0) (c .before .before .before .before .before .before .bucket-of .ensures)) (c .before .before .before .first-child .ensures)
-    (c .before .before .child-count .ensures) (c .listed-child .ensures)
+    child-indexed (c .before .before .before .before .before .before .before .before .meaning-mark .ensures) (c .before .before .before .before .before .before .before .owner-mark .ensures) (c .before .before .before .before .wide .ensures ∙ ap (λ (h : ℕ). getD i h 0) (c .before .before .before .before .before .before .bucket-of .ensures)) (c .before .before .before .first-child .ensures) (c .before .before .past-children .ensures) (c .listed-child .ensures)
 
 pub indexed-child-spec : {M : Type 1} → statement M
 indexed-child-spec =
@@ -70,8 +65,7 @@ indexed-child-spec =
     shared-slice-read-wide
     wide-requires
     first-child-requires
-    child-count-requires
-    add-e
+    past-children-requires
     sub-listed-child
     part-listed-child-start
     part-listed-child-end

@@ -1,19 +1,17 @@
--- `types::alternative` meets its contract: of the alternatives from the first on, what is left to look at.
--- The measure is the number of rows left.
-use borrow.Author.Needs.{needs}
-use Prim.Native.Nat.{_-_}
-use native.Mathlib.Omega.{arith}
-use Rattle.rows.proofs.LoopLaws.{next-fits}
-use Rattle.rows.proofs.ChildLaws.{end-fits}
+-- `types::alternative` meets its contract: of the alternatives, those left to look at.
+use Rattle.rows.specs.Rows.{Room}
+use Rattle.rows.proofs.LoopLaws.{room-next}
+use Rattle.rows.proofs.ChildLaws.{children-room}
 use Rattle.readings.proofs.TypeLaws.{AlternativesLeft, alternatives-start, alternatives-hit, alternatives-on, alternatives-end}
+use borrow.Author.Needs.{needs}
 use Rattle.readings.proofs.types.alternative.Statement.{statement}
 use Rattle.readings.proofs.types.alternative.Tie as tie
 
 abbrev Inv-loop : tie.InvT-loop
-Inv-loop rows r c a e i₀ i = AlternativesLeft rows r c i e
+Inv-loop rows r c i₀ left₀ i left = Room i left × AlternativesLeft rows r c i left
 
 abbrev μ-loop : tie.MeasureT-loop
-μ-loop rows r c a e i₀ i = e - i
+μ-loop rows r c i₀ left₀ i left = left
 
 first-child-requires : tie.Need-first-child-requires Inv-loop μ-loop
 first-child-requires c κs = search needs
@@ -21,13 +19,8 @@ first-child-requires c κs = search needs
 child-count-requires : tie.Need-child-count-requires Inv-loop μ-loop
 child-count-requires c κs = search needs
 
-add-e : tie.Need-add-e Inv-loop μ-loop
-add-e c =
-    end-fits _ (c .before .before .shared-slice-known .given) _ (c .before .before .before .pre) (c .before .first-child .ensures)
-    (c .child-count .ensures)
-
 loop-holds : tie.Need-loop-holds Inv-loop μ-loop
-loop-holds c = alternatives-start _ (c .before .first-child .ensures) (c .child-count .ensures)
+loop-holds c = (children-room (c .before .first-child .ensures) (c .child-count .ensures), alternatives-start (c .before .first-child .ensures) (c .child-count .ensures))
 
 word-requires : tie.Need-word-requires Inv-loop μ-loop
 word-requires c κs = search needs
@@ -42,28 +35,25 @@ wide-requires-2 : tie.Need-wide-requires-2 Inv-loop μ-loop
 wide-requires-2 c κs = search needs
 
 returns : tie.Need-returns Inv-loop μ-loop
-returns c =
-    let d = c .before .before .before .before in
-    alternatives-hit (d .before .before .loop .inv) (omega arith) (d .word .ensures) (c .before .before .before .wide .ensures)
-    (c .before .before .type-kind .ensures) (c .before .wide2 .ensures) (c .if1 .taken)
+returns c = alternatives-hit (c .before .before .before .before .before .before .loop .inv .1) (c .before .before .before .before .before .loop-test .taken) (c .before .before .before .before .word .ensures) (c .before .before .before .wide .ensures) (c .before .before .type-kind .ensures) (c .before .wide2 .ensures) (c .if1 .taken)
 
-add-i : tie.Need-add-i Inv-loop μ-loop
-add-i c =
-    let d = c .before .before .before .before .before .before .before in
-    next-fits (omega arith)
-    (end-fits _ (d .before .before .shared-slice-known .given) _ (d .before .before .before .pre) (d .before .first-child .ensures) (d .child-count .ensures))
+next-row-requires : tie.Need-next-row-requires Inv-loop μ-loop
+next-row-requires c κs = search needs
+
+sub-left : tie.Need-sub-left Inv-loop μ-loop
+sub-left c = search needs
 
 loop-less : tie.Need-loop-less Inv-loop μ-loop
 loop-less c = search needs
 
 loop-again : tie.Need-loop-again Inv-loop μ-loop
 loop-again c =
-    let d = c .before .before .before .before in
-    alternatives-on (d .before .before .loop .inv) (omega arith) (d .word .ensures) (c .before .before .before .wide .ensures)
-    (c .before .before .type-kind .ensures) (c .before .wide2 .ensures) (c .if1 .left)
+    let l = c .before .before .before .before .before .before .loop-test .taken in
+    let f = c .next-row .ensures in
+    (room-next (c .before .before .before .before .before .before .before .loop .inv .0) l f, alternatives-on (c .before .before .before .before .before .before .before .loop .inv .1) l (c .before .before .before .before .before .word .ensures) (c .before .before .before .before .wide .ensures) (c .before .before .before .type-kind .ensures) (c .before .before .wide2 .ensures) (c .before .if1 .left) f)
 
 returns-2 : tie.Need-returns-2 Inv-loop μ-loop
-returns-2 c = alternatives-end (c .before .loop .inv) (omega arith)
+returns-2 c = alternatives-end (c .before .loop .inv .1) (c .loop-test .left)
 
 pub alternative-spec : {M : Type 1} → statement M
 alternative-spec =
@@ -73,14 +63,14 @@ alternative-spec =
     μ-loop
     first-child-requires
     child-count-requires
-    add-e
     loop-holds
     word-requires
     wide-requires
     type-kind-requires
     wide-requires-2
     returns
-    add-i
+    next-row-requires
+    sub-left
     loop-less
     loop-again
     returns-2)

@@ -4,17 +4,14 @@ use Rattle.references.proofs.SlotLaws.{data-inline, data-named}
 use Rattle.references.proofs.slots.put_data.Statement.{statement}
 use Rattle.references.proofs.slots.put_data.Tie as tie
 
-add-is-inline : tie.Need-add-is-inline
-add-is-inline c = search needs
-
-is-inline-requires : tie.Need-is-inline-requires
-is-inline-requires c κs = search needs
+owns-struct-requires : tie.Need-owns-struct-requires
+owns-struct-requires c κs = search needs
 
 same-length : tie.Need-same-length
 same-length c = search needs
 
 returns : tie.Need-returns
-returns c = data-inline (c .before .before .before .before .before .before .args .r) (c .before .is-inline .ensures) (c .if1 .taken)
+returns c = data-inline (c .before .before .before .before .before .before .args .r) (c .before .owns-struct .ensures) (c .if1 .taken)
 
 mul-put : tie.Need-mul-put
 mul-put c = search needs
@@ -31,14 +28,13 @@ same-length-2 c = search needs
 returns-2 : tie.Need-returns-2
 returns-2 c =
     data-named (c .before .before .before .before .before .before .before .before .before .before .args .r)
-    (c .before .before .before .before .before .is-inline .ensures) (c .before .before .before .before .if1 .left) (c .before .before .put .ensures)
+    (c .before .before .before .before .before .owns-struct .ensures) (c .before .before .before .before .if1 .left) (c .before .before .put .ensures)
 
 pub put-data-spec : {M : Type 1} → statement M
 put-data-spec =
     tie.close
     (tie.spec
-    add-is-inline
-    is-inline-requires
+    owns-struct-requires
     same-length
     returns
     mul-put

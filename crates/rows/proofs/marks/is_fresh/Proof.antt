@@ -1,27 +1,26 @@
--- `table::marks::is_fresh` says whether a row's name clashes with none of the rows from b up to e.
--- The loop tests every row from b on.
-use Prim.Native.Nat.{_-_}
-use mathlib.Core.Path.{_≡_, ap}
+-- `rows::marks::is_fresh` says whether a row's name clashes with none of a walk's.
+-- The loop tests every row of it.
+use mathlib.Core.Path.{ap}
 use mathlib.Core.Bool.{not}
-use borrow.Author.Needs.{needs}
+use native.Mathlib.Omega.{arith}
 use Rattle.rules.specs.Names.{clash}
-use Rattle.rules.specs.Rows.{upFrom, nameOf}
+use Rattle.rules.specs.Rows.{walk, nameOf}
 use Rattle.rules.specs.Rules.{namesOf}
-use Rattle.rows.proofs.Walks.{so, upTo, upTo-hit, upTo-on, upTo-end}
-use Rattle.rows.proofs.NameFacts.{fresh, fresh-upTo}
-use Rattle.rows.proofs.MarkLaws.{named-row}
+use Rattle.rows.specs.Rows.{Room}
+use Rattle.rows.proofs.Walks.{so}
+use Rattle.rows.proofs.NameFacts.{fresh}
+use Rattle.rows.proofs.LoopLaws.{AllWalk, all-miss, all-next, all-over, room-next}
+use Rattle.rows.proofs.MarkLaws.{named-row, fresh-walk}
+use borrow.Author.Needs.{needs}
 use Rattle.rows.proofs.marks.is_fresh.Statement.{statement}
 use Rattle.rows.proofs.marks.is_fresh.Tie as tie
 
 abbrev Inv-loop : tie.InvT-loop
-Inv-loop schema rows marks a b e name mark i₀ i =
-    fresh (nameOf schema rows a) (namesOf schema rows (upFrom b (e - b))) ≡ upTo (λ r. not (clash (nameOf schema rows a) (nameOf schema rows r))) i e
+Inv-loop schema rows marks a b n name mark i₀ left₀ i left =
+    Room i left × AllWalk (fresh (nameOf schema rows a) (namesOf schema rows (walk rows b n))) rows (λ r. not (clash (nameOf schema rows a) (nameOf schema rows r))) i left
 
 abbrev μ-loop : tie.MeasureT-loop
-μ-loop schema rows marks a b e name mark i₀ i = e - i
-
-loop-holds : tie.Need-loop-holds Inv-loop μ-loop
-loop-holds c = let a = c .before .before .before .before .before .args in fresh-upTo (a .schema .now) (a .rows .now) (a .e) (nameOf (a .schema .now) (a .rows .now) (a .a)) (a .b)
+μ-loop schema rows marks a b n name mark i₀ left₀ i left = left
 
 name-of-requires : tie.Need-name-of-requires Inv-loop μ-loop
 name-of-requires c κs = search needs
@@ -29,29 +28,31 @@ name-of-requires c κs = search needs
 mark-of-requires : tie.Need-mark-of-requires Inv-loop μ-loop
 mark-of-requires c κs = search needs
 
+loop-holds : tie.Need-loop-holds Inv-loop μ-loop
+loop-holds c = let a = c .before .before .before .before .before .args in (c .before .before .before .before .before .pre .1, fresh-walk (a .schema .now) (a .rows .now) (nameOf (a .schema .now) (a .rows .now) (a .a)) (a .b) (a .n))
+
 is-named-requires : tie.Need-is-named-requires Inv-loop μ-loop
-is-named-requires c κs = (c .before .before .before .before .before .before .before .pre, c .before .before .mark-of .ensures)
+is-named-requires c κs = (c .before .before .before .before .before .before .before .pre .0, c .before .before .mark-of .ensures)
 
 returns : tie.Need-returns Inv-loop μ-loop
-returns c =
-    let a = c .before .before .before .before .before .before .before .before .before .args in
-    let e = named-row (a .schema .now) (a .rows .now) (a .a) (c .before .before .before .loop .i) (c .before .is-named .ensures) (c .before .before .before .before .before .name-of .ensures) in
-    upTo-hit _ _ _ (c .before .before .before .loop .inv) (c .before .before .loop-test .taken) (ap not (so e (c .if1 .taken)))
+returns c = let e = named-row _ _ _ _ (c .before .is-named .ensures) (c .before .before .before .before .before .name-of .ensures) in all-miss (c .before .before .before .loop .inv .1) (c .before .before .loop-test .taken) (ap not (so e (c .if1 .taken)))
 
-add-i : tie.Need-add-i Inv-loop μ-loop
-add-i c = search needs
+next-row-requires : tie.Need-next-row-requires Inv-loop μ-loop
+next-row-requires c κs = omega (arith, c .before .before .before .loop .inv .0 .low)
+
+sub-left : tie.Need-sub-left Inv-loop μ-loop
+sub-left c = search needs
 
 loop-less : tie.Need-loop-less Inv-loop μ-loop
 loop-less c = search needs
 
 loop-again : tie.Need-loop-again Inv-loop μ-loop
 loop-again c =
-    let a = c .before .before .before .before .before .before .before .before .before .args in
-    let e = named-row (a .schema .now) (a .rows .now) (a .a) (c .before .before .before .loop .i) (c .before .is-named .ensures) (c .before .before .before .before .before .name-of .ensures) in
-    upTo-on _ _ _ (c .before .before .before .loop .inv) (c .before .before .loop-test .taken) (ap not (so e (c .if1 .left)))
+    let e = named-row _ _ _ _ (c .before .before .is-named .ensures) (c .before .before .before .before .before .before .name-of .ensures) in
+    (room-next (c .before .before .before .before .loop .inv .0) (c .before .before .before .loop-test .taken) (c .next-row .ensures), all-next (c .before .before .before .before .loop .inv .1) (c .before .before .before .loop-test .taken) (ap not (so e (c .before .if1 .left))) (c .next-row .ensures))
 
 returns-2 : tie.Need-returns-2 Inv-loop μ-loop
-returns-2 c = upTo-end _ _ _ (c .before .loop .inv) (c .loop-test .left)
+returns-2 c = all-over (c .before .loop .inv .1) (c .loop-test .left)
 
 pub is-fresh-spec : {M : Type 1} → statement M
 is-fresh-spec =
@@ -64,7 +65,8 @@ is-fresh-spec =
     loop-holds
     is-named-requires
     returns
-    add-i
+    next-row-requires
+    sub-left
     loop-less
     loop-again
     returns-2)

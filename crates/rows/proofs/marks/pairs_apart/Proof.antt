@@ -1,46 +1,47 @@
--- `table::marks::pairs_apart` says whether no two names of the rows from a up to e clash.
--- The loop tests of every row from a on that its name is fresh among those after it.
-use Prim.Native.Nat.{_-_}
-use mathlib.Core.Path.{_≡_}
+-- `rows::marks::pairs_apart` says whether no two names of a walk clash.
+-- The loop tests of every row of it that its name is fresh among those after it.
+use mathlib.Core.Path.{refl}
+use native.Mathlib.Omega.{arith}
+use Rattle.rules.specs.Rows.{walk}
+use Rattle.rows.specs.Rows.{Room}
+use Rattle.rows.proofs.Walks.{granted, denied}
+use Rattle.rows.proofs.LoopLaws.{WalkLeft, left-ends, room-next}
+use Rattle.rows.proofs.MarkLaws.{namesApart, pairs-walk, pairs-miss, pairs-next}
 use borrow.Author.Needs.{needs}
-use Rattle.grammar.specs.Notation.{apart}
-use Rattle.rules.specs.Names.{clash}
-use Rattle.rules.specs.Rows.{upFrom}
-use Rattle.rules.specs.Rules.{namesOf}
-use Rattle.rows.proofs.Walks.{granted, denied, upTo, upTo-hit, upTo-on, upTo-end}
-use Rattle.rows.proofs.NameFacts.{freshAfter, apart-upTo}
 use Rattle.rows.proofs.marks.pairs_apart.Statement.{statement}
 use Rattle.rows.proofs.marks.pairs_apart.Tie as tie
 
 abbrev Inv-loop : tie.InvT-loop
-Inv-loop schema rows marks a e i₀ i = apart clash (namesOf schema rows (upFrom a (e - a))) ≡ upTo (freshAfter schema rows e) i e
+Inv-loop schema rows marks a n i₀ left₀ i left = Room i left × WalkLeft (namesApart schema rows) rows (namesApart schema rows (walk rows a n)) i left
 
 abbrev μ-loop : tie.MeasureT-loop
-μ-loop schema rows marks a e i₀ i = e - i
+μ-loop schema rows marks a n i₀ left₀ i left = left
 
 loop-holds : tie.Need-loop-holds Inv-loop μ-loop
-loop-holds c = let a = c .before .before .before .args in apart-upTo (a .schema .now) (a .rows .now) (a .e) (a .a)
+loop-holds c = (c .before .before .before .pre .1, pairs-walk _ _ _ _)
 
-add-is-fresh : tie.Need-add-is-fresh Inv-loop μ-loop
-add-is-fresh c = search needs
+next-row-requires : tie.Need-next-row-requires Inv-loop μ-loop
+next-row-requires c κs = omega (arith, c .before .loop .inv .0 .low)
+
+sub-left : tie.Need-sub-left Inv-loop μ-loop
+sub-left c = search needs
 
 is-fresh-requires : tie.Need-is-fresh-requires Inv-loop μ-loop
-is-fresh-requires c κs = search needs
+is-fresh-requires c κs = (c .before .before .before .before .before .before .pre .0, room-next (c .before .before .loop .inv .0) (c .before .loop-test .taken) (c .next-row .ensures))
 
 returns : tie.Need-returns Inv-loop μ-loop
-returns c = upTo-hit _ _ _ (c .before .before .before .loop .inv) (c .before .before .loop-test .taken) (denied (c .before .is-fresh .ensures) (c .if1 .taken))
-
-add-i : tie.Need-add-i Inv-loop μ-loop
-add-i c = search needs
+returns c = pairs-miss _ _ (c .before .before .before .before .loop .inv .1) (c .before .before .before .loop-test .taken) (c .before .before .next-row .ensures) (c .before .is-fresh .ensures) (denied refl (c .if1 .taken))
 
 loop-less : tie.Need-loop-less Inv-loop μ-loop
 loop-less c = search needs
 
 loop-again : tie.Need-loop-again Inv-loop μ-loop
-loop-again c = upTo-on _ _ _ (c .before .before .before .loop .inv) (c .before .before .loop-test .taken) (granted (c .before .is-fresh .ensures) (c .if1 .left))
+loop-again c =
+    let l = c .before .before .before .loop-test .taken in
+    (room-next (c .before .before .before .before .loop .inv .0) l (c .before .before .next-row .ensures), pairs-next _ _ (c .before .before .before .before .loop .inv .1) l (c .before .before .next-row .ensures) (c .before .is-fresh .ensures) (granted refl (c .if1 .left)))
 
 returns-2 : tie.Need-returns-2 Inv-loop μ-loop
-returns-2 c = upTo-end _ _ _ (c .before .loop .inv) (c .loop-test .left)
+returns-2 c = left-ends (c .before .loop .inv .1) (c .loop-test .left)
 
 pub pairs-apart-spec : {M : Type 1} → statement M
 pairs-apart-spec =
@@ -49,10 +50,10 @@ pairs-apart-spec =
     Inv-loop
     μ-loop
     loop-holds
-    add-is-fresh
+    next-row-requires
+    sub-left
     is-fresh-requires
     returns
-    add-i
     loop-less
     loop-again
     returns-2)

@@ -1,6 +1,7 @@
 -- `table::rows::child_count` counts a row's children.
 -- By kind: the count stands in word 4 or 5, and other kinds have none.
 use mathlib.Core.Path.{sym, _∙_}
+use native.Mathlib.Omega.{arith}
 use borrow.Author.Needs.{needs}
 use borrow.Author.Tests.{ne-eqb}
 use Rattle.rules.specs.Rows.{childCount}
@@ -36,25 +37,25 @@ wide-requires-4 c κs = search needs
 
 returns : tie.Need-returns
 unfolding childCount
-returns c = simp (sym (c .before .before .before .word .ensures) ∙ c .before .before .match .keys1, c .wide .ensures, c .before .word2 .ensures)
+returns c = record { is = simp (sym (c .before .before .before .word .ensures) ∙ c .before .before .match .keys1, c .wide .ensures, c .before .word2 .ensures); few = search needs }
 
 returns-2 : tie.Need-returns-2
 unfolding childCount
-returns-2 c = simp (sym (c .before .before .before .word .ensures) ∙ c .before .before .match .keys2, c .wide2 .ensures, c .before .word3 .ensures)
+returns-2 c = record { is = simp (sym (c .before .before .before .word .ensures) ∙ c .before .before .match .keys2, c .wide2 .ensures, c .before .word3 .ensures); few = search needs }
 
 returns-3 : tie.Need-returns-3
 unfolding childCount
-returns-3 c = simp (sym (c .before .before .before .word .ensures) ∙ c .before .before .match .keys3, c .wide3 .ensures, c .before .word4 .ensures)
+returns-3 c = record { is = simp (sym (c .before .before .before .word .ensures) ∙ c .before .before .match .keys3, c .wide3 .ensures, c .before .word4 .ensures); few = search needs }
 
 returns-4 : tie.Need-returns-4
 unfolding childCount
-returns-4 c = simp (sym (c .before .before .before .word .ensures) ∙ c .before .before .match .keys4, c .wide4 .ensures, c .before .word5 .ensures)
+returns-4 c = record { is = simp (sym (c .before .before .before .word .ensures) ∙ c .before .before .match .keys4, c .wide4 .ensures, c .before .word5 .ensures); few = search needs }
 
 returns-5 : tie.Need-returns-5
 unfolding childCount
 returns-5 c =
     let n = c .match .rest in
-    simp (sym (c .before .word .ensures), ne-eqb _ 1 (n .0 .0 .0 .1), ne-eqb _ 3 (n .0 .0 .1), ne-eqb _ 5 (n .0 .1), ne-eqb _ 7 (n .1))
+    record { is = simp (sym (c .before .word .ensures), ne-eqb _ 1 (n .0 .0 .0 .1), ne-eqb _ 3 (n .0 .0 .1), ne-eqb _ 5 (n .0 .1), ne-eqb _ 7 (n .1)); few = omega arith }
 
 pub child-count-spec : {M : Type 1} → statement M
 child-count-spec =

@@ -1,18 +1,17 @@
--- `is_member` meets its contract: a walk up the chain of bases, which asks each struct's own run of children last.
+-- `is_member` meets its contract: a walk up the chain of bases, which asks each struct's own children last.
 -- The measure is the number of structs left.
 use Prim.Native.Nat.{ℕ, _<_}
 use mathlib.Core.Path.{sym, _∙_}
 use borrow.Author.Needs.{needs}
+use Rattle.table.proofs.ChainLaws.{walk-none, walk-out, walk-on, is-member-walk}
 use borrow.Fn.Kinds.{In}
 use borrow.Fn.PlainCycle.{Measures, is, falls, and}
-use Rattle.table.proofs.ChainLaws.{walk-none, walk-out, walk-on, is-member-walk, child-before, child-from}
 use Rattle.table.proofs.chains.is_member.Reads as is-member
 use Rattle.table.proofs.chains.is_member.Kinds as is-member-kinds
 use Rattle.table.proofs.chains.+is_member.Lts-is_member as is-member-lts
-use Rattle.rows.proofs.rows.child_count.Reads as child-count-reads
-use Rattle.rows.proofs.rows.first_child.Reads as first-child-reads
 use Rattle.rows.proofs.rows.wide.Reads as wide-reads
 use Rattle.rows.proofs.rows.word.Reads as word-reads
+use Rattle.table.proofs.chains.is_child.Reads as is-child-reads
 use Rattle.table.proofs.chains.+is_member.{statement}
 use Rattle.table.proofs.chains.+is_member.Tie.{close}
 
@@ -27,18 +26,7 @@ is-member-below t =
     and 1 is-member-kinds.ps (falls 1 is-member-kinds.ps _<_ μ-is-member t) is-member.Pre
 
 abbrev is-member-calls : ℕ → is-member-lts.Claims
-is-member-calls t = (
-  word-reads.Asked,
-  word-reads.Learnt,
-  wide-reads.Asked,
-  wide-reads.Learnt,
-  is-member-below t,
-  is-member.Post,
-  first-child-reads.Asked,
-  first-child-reads.Learnt,
-  child-count-reads.Asked,
-  child-count-reads.Learnt,
-)
+is-member-calls t = (word-reads.Asked, word-reads.Learnt, wide-reads.Asked, wide-reads.Learnt, is-member-below t, is-member.Post, is-child-reads.Asked, is-child-reads.Learnt)
 
 is-member-returns : (t : ℕ) → is-member-lts.Need-returns (is-member-calls t) (is-member-at t) is-member.Post
 is-member-returns t c = walk-none (is-member-walk _ _) (c .if1 .taken)
@@ -62,30 +50,14 @@ is-member-is-member-requires : (t : ℕ) → is-member-lts.Need-is-member-requir
 is-member-is-member-requires t c κs = search needs
 
 is-member-returns-3 : (t : ℕ) → is-member-lts.Need-returns-3 (is-member-calls t) (is-member-at t) is-member.Post
-is-member-returns-3 t c =
-    walk-on (is-member-walk _ _) (c .before .before .before .before .before .if1 .left) (c .before .before .before .before .if2 .left)
-    (c .before .before .wide .ensures ∙ c .before .before .before .word .ensures) (sym (c .if3 .taken) ∙ c .before .is-member .ensures)
+is-member-returns-3 t c = walk-on (is-member-walk _ _) (c .before .before .before .before .before .if1 .left) (c .before .before .before .before .if2 .left) (c .before .before .wide .ensures ∙ c .before .before .before .word .ensures) (sym (c .if3 .taken) ∙ c .before .is-member .ensures)
 
-is-member-first-child-requires : (t : ℕ) → is-member-lts.Need-first-child-requires (is-member-calls t) (is-member-at t) is-member.Post
-is-member-first-child-requires t c κs = search needs
+is-member-is-child-requires : (t : ℕ) → is-member-lts.Need-is-child-requires (is-member-calls t) (is-member-at t) is-member.Post
+is-member-is-child-requires t c κs = search needs
 
 is-member-returns-4 : (t : ℕ) → is-member-lts.Need-returns-4 (is-member-calls t) (is-member-at t) is-member.Post
 is-member-returns-4 t c =
-    child-before _ _ (c .before .first-child .ensures) (c .if4 .taken) ∙ walk-on (is-member-walk _ _)
-    (c .before .before .before .before .before .before .before .if1 .left) (c .before .before .before .before .before .before .if2 .left)
-    (c .before .before .before .before .wide .ensures ∙ c .before .before .before .before .before .word .ensures)
-    (sym (c .before .before .if3 .left) ∙ c .before .before .before .is-member .ensures)
-
-is-member-child-count-requires : (t : ℕ) → is-member-lts.Need-child-count-requires (is-member-calls t) (is-member-at t) is-member.Post
-is-member-child-count-requires t c κs = search needs
-
-is-member-returns-5 : (t : ℕ) → is-member-lts.Need-returns-5 (is-member-calls t) (is-member-at t) is-member.Post
-is-member-returns-5 t c =
-    child-from _ _ (c .before .before .first-child .ensures) (c .child-count .ensures) (c .before .if4 .left) ∙ walk-on (is-member-walk _ _)
-    (c .before .before .before .before .before .before .before .before .if1 .left)
-    (c .before .before .before .before .before .before .before .if2 .left)
-    (c .before .before .before .before .before .wide .ensures ∙ c .before .before .before .before .before .before .word .ensures)
-    (sym (c .before .before .before .if3 .left) ∙ c .before .before .before .before .is-member .ensures)
+    c .is-child .ensures ∙ walk-on (is-member-walk _ _) (c .before .before .before .before .before .before .if1 .left) (c .before .before .before .before .before .if2 .left) (c .before .before .before .wide .ensures ∙ c .before .before .before .before .word .ensures) (sym (c .before .if3 .left) ∙ c .before .before .is-member .ensures)
 
 pub +is-member-spec : {M : Type 1} → statement M
 +is-member-spec = close μ-is-member λ t. is-member-lts.spec (is-member-calls t) (is-member-at t)
@@ -98,7 +70,5 @@ pub +is-member-spec : {M : Type 1} → statement M
     (is-member-sub-is-member t)
     (is-member-is-member-requires t)
     (is-member-returns-3 t)
-    (is-member-first-child-requires t)
+    (is-member-is-child-requires t)
     (is-member-returns-4 t)
-    (is-member-child-count-requires t)
-    (is-member-returns-5 t)

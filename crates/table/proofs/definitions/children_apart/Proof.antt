@@ -1,7 +1,7 @@
 -- `table::definitions::children_apart` says whether in each list of children no two names are the same.
--- The loop tests every row; sums fit since counts are 32-bit words.
-use Prim.Native.Nat.{_+_, _-_}
-use mathlib.Core.Path.{_≡_, refl, ap}
+-- The loop tests every row.
+use Prim.Native.Nat.{_-_}
+use mathlib.Core.Path.{_≡_, refl}
 use native.Mathlib.Omega.{arith}
 use lib.ListN.{length}
 use Rattle.grammar.specs.Notation.{apart}
@@ -10,7 +10,7 @@ use Rattle.rules.specs.Rows.{children}
 use Rattle.rules.specs.Rules.{namesOf}
 use Rattle.table.specs.Definitions.{childrenApart}
 use Rattle.rows.proofs.Walks.{granted, denied, upTo, upTo-hit, upTo-on, upTo-end, upTo-rows}
-use Rattle.rows.proofs.RowFacts.{inlineRows-small, childCount-small}
+use Rattle.rows.proofs.ChildLaws.{children-room}
 use Rattle.table.proofs.DistinctLaws.{apart-children}
 use borrow.Author.Needs.{needs}
 use Rattle.table.proofs.definitions.children_apart.Statement.{statement}
@@ -24,7 +24,7 @@ abbrev μ-loop : tie.MeasureT-loop
 μ-loop schema rows marks links₀ n r₀ links r = n - r
 
 loop-holds : tie.Need-loop-holds Inv-loop μ-loop
-loop-holds c = let a = c .before .before .before .before .args in (refl, upTo-rows _ (a .rows .now))
+loop-holds c = (refl, upTo-rows _ (c .before .before .before .before .args .rows .now))
 
 first-child-requires : tie.Need-first-child-requires Inv-loop μ-loop
 first-child-requires c κs = search needs
@@ -32,26 +32,16 @@ first-child-requires c κs = search needs
 child-count-requires : tie.Need-child-count-requires Inv-loop μ-loop
 child-count-requires c κs = search needs
 
-add-all-apart : tie.Need-add-all-apart Inv-loop μ-loop
-add-all-apart c =
-    let b = c .before .before .before .before .loop in
-    let a = c .before .before .before .before .before .before .before .before .before .args in
-    let s = c .before .before .before .before .before .before .before .shared-slice-known2 .given in
-    omega (arith, inlineRows-small (a .rows .now) s (b .r), childCount-small (a .rows .now) s (b .r))
-
 all-apart-requires : tie.Need-all-apart-requires Inv-loop μ-loop
-all-apart-requires c κs = let p = c .before .before .before .before .before .before .before .before .before .pre in (p .1, omega (arith, c .before .before .before .before .loop .inv .0, p .2))
+all-apart-requires c κs = let p = c .before .before .before .before .before .before .before .before .before .pre in (p .1, children-room (c .before .before .first-child .ensures) (c .before .child-count .ensures), omega (arith, c .before .before .before .before .loop .inv .0, p .2))
 
 same-length : tie.Need-same-length Inv-loop μ-loop
 same-length c = search needs
 
 returns : tie.Need-returns Inv-loop μ-loop
 returns c =
-    let b = c .before .before .before .before .before .before .before .before .loop in
-    let a = c .before .before .before .before .before .before .before .before .before .before .before .before .before .args in
-    let e = apart-children (a .schema .now) (a .rows .now) (b .r) _ _ _ (c .before .before .before .before .before .before .first-child .ensures)
-    (ap (λ n. c .before .before .before .before .before .before .first-child .result + n) (c .before .before .before .before .child-count .ensures)) (c .before .before .before .all-apart .ensures) in
-    upTo-hit _ _ _ (b .inv .1) (c .before .before .before .before .before .before .before .loop-test .taken) (denied e (c .if1 .taken))
+    let e = apart-children _ _ (c .before .before .before .before .before .before .first-child .ensures) (c .before .before .before .before .before .child-count .ensures) (c .before .before .before .all-apart .ensures) in
+    upTo-hit _ _ _ (c .before .before .before .before .before .before .before .before .loop .inv .1) (c .before .before .before .before .before .before .before .loop-test .taken) (denied e (c .if1 .taken))
 
 add-r : tie.Need-add-r Inv-loop μ-loop
 add-r c = search needs
@@ -61,11 +51,8 @@ loop-less c = search needs
 
 loop-again : tie.Need-loop-again Inv-loop μ-loop
 loop-again c =
-    let b = c .before .before .before .before .before .before .before .before .loop in
-    let a = c .before .before .before .before .before .before .before .before .before .before .before .before .before .args in
-    let e = apart-children (a .schema .now) (a .rows .now) (b .r) _ _ _ (c .before .before .before .before .before .before .first-child .ensures)
-    (ap (λ n. c .before .before .before .before .before .before .first-child .result + n) (c .before .before .before .before .child-count .ensures)) (c .before .before .before .all-apart .ensures) in
-    (search needs, upTo-on _ _ _ (b .inv .1) (c .before .before .before .before .before .before .before .loop-test .taken) (granted e (c .if1 .left)))
+    let e = apart-children _ _ (c .before .before .before .before .before .before .first-child .ensures) (c .before .before .before .before .before .child-count .ensures) (c .before .before .before .all-apart .ensures) in
+    (search needs, upTo-on _ _ _ (c .before .before .before .before .before .before .before .before .loop .inv .1) (c .before .before .before .before .before .before .before .loop-test .taken) (granted e (c .if1 .left)))
 
 same-length-2 : tie.Need-same-length-2 Inv-loop μ-loop
 same-length-2 c = search needs
@@ -82,7 +69,6 @@ children-apart-spec =
     loop-holds
     first-child-requires
     child-count-requires
-    add-all-apart
     all-apart-requires
     same-length
     returns

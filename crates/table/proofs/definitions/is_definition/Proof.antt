@@ -12,8 +12,8 @@ use Rattle.table.proofs.definitions.is_definition.Tie as tie
 word-requires : tie.Need-word-requires
 word-requires c κs = search needs
 
-is-inline-requires : tie.Need-is-inline-requires
-is-inline-requires c κs = search needs
+is-unnamed-requires : tie.Need-is-unnamed-requires
+is-unnamed-requires c κs = search needs
 
 returns : tie.Need-returns
 returns c = let a = c .before .before .before .args in own-definition (a .rows .now) (a .r) 1 (so (c .match .keys1) (c .before .word .ensures)) refl (eqb-false 1 3 refl)
@@ -21,7 +21,7 @@ returns c = let a = c .before .before .before .args in own-definition (a .rows .
 returns-2 : tie.Need-returns-2
 returns-2 c =
     let a = c .before .before .before .before .args in
-    ap not (c .is-inline .ensures) ∙ struct-definition (a .rows .now) (a .r) _ (c .before .before .word .ensures) (c .before .match .keys2)
+    ap not (c .is-unnamed .ensures) ∙ struct-definition (a .rows .now) (a .r) _ (c .before .before .word .ensures) (c .before .match .keys2)
 
 returns-3 : tie.Need-returns-3
 returns-3 c =
@@ -49,7 +49,7 @@ is-definition-spec =
     tie.close
     (tie.spec
     word-requires
-    is-inline-requires
+    is-unnamed-requires
     returns
     returns-2
     returns-3

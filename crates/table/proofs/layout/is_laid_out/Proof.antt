@@ -2,10 +2,10 @@
 -- The loop keeps that what is left from its row on decides, with enough definitions left to count.
 use Prim.Native.Nat.{_-_}
 use native.Mathlib.Omega.{arith}
-use borrow.Author.Needs.{needs}
+use Rattle.rules.proofs.TableRows.{past-children-above}
 use Rattle.rows.proofs.Walks.{granted, denied}
-use Rattle.rows.proofs.RowFacts.{inlineRows-small, childCount-small}
 use Rattle.table.proofs.LayoutFacts.{Left, left-all, left-stuck, left-on, left-none}
+use borrow.Author.Needs.{needs}
 use Rattle.table.proofs.layout.is_laid_out.Statement.{statement}
 use Rattle.table.proofs.layout.is_laid_out.Tie as tie
 
@@ -24,27 +24,14 @@ definition-at-requires c κs = search needs
 returns : tie.Need-returns Inv-loop μ-loop
 returns c = left-stuck _ _ (c .before .before .before .loop .inv) (c .before .before .loop-test .taken) (denied (c .before .definition-at .ensures) (c .if1 .taken))
 
-first-child-requires : tie.Need-first-child-requires Inv-loop μ-loop
-first-child-requires c κs = search needs
-
-child-count-requires : tie.Need-child-count-requires Inv-loop μ-loop
-child-count-requires c κs = search needs
-
-add-r : tie.Need-add-r Inv-loop μ-loop
-add-r c =
-    let c₅ = c .before .before .before .before .before in
-    let b = c₅ .loop in
-    let a = c₅ .before .before .args in
-    let s = c₅ .before .shared-slice-known .given in
-    omega (arith, inlineRows-small (a .rows .now) s (b .r), childCount-small (a .rows .now) s (b .r))
+past-children-requires : tie.Need-past-children-requires Inv-loop μ-loop
+past-children-requires c κs = search needs
 
 loop-less : tie.Need-loop-less Inv-loop μ-loop
-loop-less c = search needs
+loop-less c = omega (arith, c .past-children .ensures, past-children-above (c .before .before .before .before .before .before .args .rows .now) (c .before .before .before .before .loop .r))
 
 loop-again : tie.Need-loop-again Inv-loop μ-loop
-loop-again c =
-    let c₃ = c .before .before .before in
-    left-on _ _ (c₃ .before .before .loop .inv) _ (cc) (c₃ .before .loop-test .taken) (granted (c₃ .definition-at .ensures) (c .before .before .if1 .left))
+loop-again c = left-on _ _ (c .before .before .before .before .loop .inv) _ (c .past-children .ensures) (c .before .before .before .loop-test .taken) (granted (c .before .before .definition-at .ensures) (c .before .if1 .left))
 
 returns-2 : tie.Need-returns-2 Inv-loop μ-loop
 returns-2 c = left-none _ _ (c .before .loop .inv) (c .loop-test .left)
@@ -58,9 +45,7 @@ is-laid-out-spec =
     loop-holds
     definition-at-requires
     returns
-    first-child-requires
-    child-count-requires
-    add-r
+    past-children-requires
     loop-less
     loop-again
     returns-2)

@@ -5,18 +5,18 @@ use borrow.Author.Needs.{needs}
 use Rattle.table.proofs.references.to_own_or_struct.Statement.{statement}
 use Rattle.table.proofs.references.to_own_or_struct.Tie as tie
 
-to-own-inline-requires : tie.Need-to-own-inline-requires
-to-own-inline-requires c κs = search needs
+owns-struct-requires : tie.Need-owns-struct-requires
+owns-struct-requires c κs = search needs
 
 returns : tie.Need-returns
-returns c = rw (sym (c .before .to-own-inline .ensures) ∙ c .if1 .taken)
+returns c = rw (sym (c .before .owns-struct .ensures) ∙ c .if1 .taken)
 
 to-struct-requires : tie.Need-to-struct-requires
 to-struct-requires c κs = search needs
 
 returns-2 : tie.Need-returns-2
-returns-2 c = rw (sym (c .before .before .to-own-inline .ensures) ∙ c .before .if1 .left) (c .to-struct .ensures)
+returns-2 c = rw (sym (c .before .before .owns-struct .ensures) ∙ c .before .if1 .left) (c .to-struct .ensures)
 
 pub to-own-or-struct-spec : {M : Type 1} → statement M
 to-own-or-struct-spec =
-    tie.close (tie.spec to-own-inline-requires returns to-struct-requires returns-2)
+    tie.close (tie.spec owns-struct-requires returns to-struct-requires returns-2)

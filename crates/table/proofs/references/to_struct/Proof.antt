@@ -17,18 +17,18 @@ word-requires c κs = search needs
 returns-2 : tie.Need-returns-2
 returns-2 c = no-struct (c .before .before .before .before .args .rows .now) (c .before .before .if1 .left) (c .before .word .ensures) (c .if2 .taken)
 
-sub-is-inline : tie.Need-sub-is-inline
-sub-is-inline c = search needs
+sub-is-unnamed : tie.Need-sub-is-unnamed
+sub-is-unnamed c = search needs
 
-is-inline-requires : tie.Need-is-inline-requires
-is-inline-requires c κs = search needs
+is-unnamed-requires : tie.Need-is-unnamed-requires
+is-unnamed-requires c κs = search needs
 
 returns-3 : tie.Need-returns-3
 returns-3 c =
     struct-is (c .before .before .before .before .before .args .rows .now) (c .before .before .before .if1 .left) (c .before .before .word .ensures)
-    (c .before .if2 .left) (c .is-inline .ensures)
+    (c .before .if2 .left) (c .is-unnamed .ensures)
 
 pub to-struct-spec : {M : Type 1} → statement M
 to-struct-spec =
     tie.close
-    (tie.spec returns sub-word word-requires returns-2 sub-is-inline is-inline-requires returns-3)
+    (tie.spec returns sub-word word-requires returns-2 sub-is-unnamed is-unnamed-requires returns-3)

@@ -12,8 +12,8 @@ returns c = built-in-type (c .before .before .args .rows .now) (c .if1 .taken)
 word-requires : tie.Need-word-requires
 word-requires c κs = search needs
 
-is-inline-requires : tie.Need-is-inline-requires
-is-inline-requires c κs = search needs
+is-unnamed-requires : tie.Need-is-unnamed-requires
+is-unnamed-requires c κs = search needs
 
 returns-2 : tie.Need-returns-2
 returns-2 c =
@@ -23,7 +23,7 @@ returns-2 c =
 returns-3 : tie.Need-returns-3
 returns-3 c =
     struct-type (c .before .before .before .before .before .args .rows .now) (c .before .before .before .if1 .left) (c .before .before .word .ensures)
-    (c .before .match .keys2) (c .is-inline .ensures)
+    (c .before .match .keys2) (c .is-unnamed .ensures)
 
 returns-4 : tie.Need-returns-4
 returns-4 c =
@@ -44,7 +44,7 @@ to-type-spec =
     (tie.spec
     returns
     word-requires
-    is-inline-requires
+    is-unnamed-requires
     returns-2
     returns-3
     returns-4
