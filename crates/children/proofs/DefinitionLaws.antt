@@ -14,6 +14,7 @@ use borrow.Author.Tests.{ne-eqb, eqb-true, eqb-false, ltb-true, ltb-false, leb-t
 use Rattle.grammar.specs.Limits.{table-rows}
 use Rattle.buckets.specs.Buckets.{buckets}
 use Rattle.buckets.proofs.BucketLaws.{index-empty}
+use Rattle.rules.specs.Kinds.{enum-kind, struct-kind, union-kind, alternate-kind}
 use Rattle.rules.specs.Rows.{rowCount, kind, next, owns, firstChild, childCount, children, pastChildren}
 use Rattle.rules.specs.Sound.{sound, definitionAt, laidOut}
 use Rattle.rules.proofs.Lists.{clash, and-left, and-right}
@@ -29,7 +30,7 @@ use Rattle.children.proofs.FillLaws.{chained-wider}
 module _ (T : List ℕ) where
   none-even : (r : ℕ) → kind T r % 2 ≡ 0 → childCount T r ≡ 0
   unfolding childCount
-  none-even r e = rw (ne-eqb (kind T r) 1 (λ q. omega arith), ne-eqb (kind T r) 3 (λ q. omega arith), ne-eqb (kind T r) 5 (λ q. omega arith), ne-eqb (kind T r) 7 (λ q. omega arith))
+  none-even r e = rw (ne-eqb (kind T r) enum-kind (λ q. omega arith), ne-eqb (kind T r) struct-kind (λ q. omega arith), ne-eqb (kind T r) union-kind (λ q. omega arith), ne-eqb (kind T r) alternate-kind (λ q. omega arith))
 
   long-odd : (r : ℕ) → isLong T r ≡ true → kind T r % 2 ≡ 0 → ⊥
   unfolding isLong

@@ -12,8 +12,9 @@ use Rattle.strings.specs.Strings.{plainString, Means}
 use Rattle.strings.specs.Meanings.{inside}
 use Rattle.strings.proofs.Comparisons.{plain-means}
 use Rattle.strings.specs.Marks.{markMore, markFrom, markOf, MeansMark}
+use Rattle.tokens.specs.NodeKinds.{plain-string-node, other-string-node, plain-key-node, other-key-node}
 use Rattle.tokens.specs.Tokens.{scalarNode, keyNode}
-use Rattle.text.specs.Nodes.{node, Node}
+use Rattle.text.specs.Nodes.{node, Node, nodeEnd, nodeKind, nodeStart}
 use Rattle.lookups.specs.Lookups.{plainKind}
 use Rattle.children.specs.Children.{MeaningAt, InnerBytes}
 use Rattle.children.specs.Children.MeaningAt.{a-key, a-string}
@@ -36,10 +37,10 @@ module _ {name : List ℕ} {mark i : ℕ} (v : BytesLeft name mark i) where
 
 -- what the words of a node say of the key or string there
 pub record Token (m w : List ℕ) (k : ℕ) (cs : List ℕ) : Type 0 where
-  pub means : Means message m (node w k 1) (node w k 2) cs
-  pub plain : plainKind (node w k 0) ≡ true → plainString m (node w k 1) (node w k 2) ≡ true
+  pub means : Means message m (nodeStart w k) (nodeEnd w k) cs
+  pub plain : plainKind (nodeKind w k) ≡ true → plainString m (nodeStart w k) (nodeEnd w k) ≡ true
 
-plain-token : (b : Bool) → (plainKind (cond b 6 7) ≡ true → b ≡ true) × (plainKind (cond b 10 11) ≡ true → b ≡ true)
+plain-token : (b : Bool) → (plainKind (cond b plain-string-node other-string-node) ≡ true → b ≡ true) × (plainKind (cond b plain-key-node other-key-node) ≡ true → b ≡ true)
 plain-token true = (λ _. refl, λ _. refl)
 plain-token false = (λ q. q, λ q. q)
 
@@ -55,8 +56,8 @@ token {m} {w} {k} {cs} = elim [
       plain = λ t. subst₂ (λ (y z : ℕ). plainString m y z ≡ true) (sym (u .has-start)) (sym (u .has-end)) (p (sym (ap plainKind (u .has-kind)) ∙ t));
     }
 
-module _ {m w : List ℕ} {k a e : ℕ} (pa : a ≡ node w k 1) (pe : e ≡ node w k 2) where
-  pub token-mark : {kind x : ℕ} {plain : Bool} → kind ≡ node w k 0 → plain ≡ plainKind kind → MeansMark message m a e plain x → MeaningMark m w k x
+module _ {m w : List ℕ} {k a e : ℕ} (pa : a ≡ nodeStart w k) (pe : e ≡ nodeEnd w k) where
+  pub token-mark : {kind x : ℕ} {plain : Bool} → kind ≡ nodeKind w k → plain ≡ plainKind kind → MeansMark message m a e plain x → MeaningMark m w k x
   token-mark {x = x} {plain} pk pp h = record {
     told = λ cs u. let t = token u in
         subst₂ (λ (y z : ℕ). MeansMark message m y z plain x) pa pe h .told cs (t .means) (λ q. t .plain (sym (pp ∙ ap plainKind pk) ∙ q));

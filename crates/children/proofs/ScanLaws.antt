@@ -13,7 +13,7 @@ use Rattle.rules.specs.Sound.{sound}
 use Rattle.rows.specs.Rows.{Follows, First, Counted}
 use Rattle.rows.proofs.LoopLaws.{WalkLeft, left-hit, left-on, left-ends}
 use Rattle.rows.proofs.ChildLaws.{left-children}
-use Rattle.text.specs.Nodes.{node}
+use Rattle.text.specs.Nodes.{nodeKind}
 use Rattle.lookups.specs.Lookups.{plainKind, NodeMeans}
 use Rattle.children.specs.Children.{MeaningAt, InnerBytes, RowNamed, ChildNamed, ChildScanned}
 use Rattle.children.specs.Children.MeaningAt.{a-key, a-string}
@@ -64,7 +64,7 @@ module _ {S T m w : List ℕ} {r k c n : ℕ} (v : ChildLeft S T m w r k c n) wh
     child-on q f = record { left = λ cs u. name-on (v .left cs u) h (named u) q f }
 
 -- a plain key or string means its bytes
-pub scan-plain : {S T m w : List ℕ} {r k kind x : ℕ} {plain : Bool} {bytes : List ℕ} → kind ≡ node w k 0 → plain ≡ plainKind kind → plain ≡ true → InnerBytes m w k bytes
+pub scan-plain : {S T m w : List ℕ} {r k kind x : ℕ} {plain : Bool} {bytes : List ℕ} → kind ≡ nodeKind w k → plain ≡ plainKind kind → plain ≡ true → InnerBytes m w k bytes
     → ChildNamed S T bytes r x → ChildScanned S T m w r k x
 scan-plain {S} {T} {r = r} pk pp t g p = record {
   told = λ cs o u. p .told o ∙ ap (λ (l : List ℕ). memberIn S T l (children T r)) (g .told cs u (sym (pp ∙ ap plainKind pk) ∙ t));

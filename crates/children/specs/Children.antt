@@ -10,7 +10,7 @@ use Rattle.grammar.specs.Notation.{same}
 use Rattle.rules.specs.Rows.{children, nameOf}
 use Rattle.rules.specs.SchemaTable.{memberIn}
 use Rattle.rules.specs.Sound.{sound}
-use Rattle.text.specs.Nodes.{node, Holds}
+use Rattle.text.specs.Nodes.{node, Holds, nodeKind}
 use Rattle.text.specs.Keys.{KeyAt}
 use Rattle.lookups.specs.Lookups.{plainKind}
 use Rattle.children.specs.Counts.{mandatoryIn}
@@ -23,7 +23,7 @@ pub data MeaningAt (m w : List ℕ) (k : ℕ) (cs : List ℕ) : Type 0 where
 
 -- the bytes of a plain key or string are its code points
 pub record InnerBytes (m w : List ℕ) (k : ℕ) (bytes : List ℕ) : Type 0 where
-  pub told : (cs : List ℕ) → MeaningAt m w k cs → plainKind (node w k 0) ≡ true → bytes ≡ cs
+  pub told : (cs : List ℕ) → MeaningAt m w k cs → plainKind (nodeKind w k) ≡ true → bytes ≡ cs
 
 -- row c has that name
 pub record RowNamed (S T name : List ℕ) (c : ℕ) (b : Bool) : Type 0 where

@@ -12,6 +12,10 @@ use rows::rows::first_child;
 use rows::rows::next_row;
 use rows::rows::wide;
 use rows::rows::word;
+use rules::row;
+use text::nodes::NODE_END;
+use text::nodes::NODE_KIND;
+use text::nodes::NODE_START;
 use text::nodes::node_number;
 use text::nodes::node_word;
 ghost use mathlib.Core.Path.{_≡_};
@@ -42,7 +46,7 @@ fn scanned_child(schema: &[u8], rows: &[u32], m: &[u8], nodes: &[u32], r: usize,
 fn is_named(schema: &[u8], rows: &[u32], c: usize, name: &[u8]) -> bool
     ensures { λ b. ⌜ RowNamed (now (schema .entry)) (now (rows .entry)) (now (name .entry)) c b ⌝ }
 {
-    if wide(word(rows, c, 2)) != name.len() {
+    if wide(word(rows, c, row::SIZE)) != name.len() {
         return false;
     }
     same_bytes(name, name_of(schema, rows, c))
@@ -82,8 +86,8 @@ fn inner_size(a: usize, e: usize) -> usize
 fn inner_bytes<'a>(m: &'a [u8], nodes: &[u32], k: usize) -> &'a [u8]
     ensures { λ w. ⌜ InnerBytes (now (m .entry)) (now (nodes .entry)) k (now w) ⌝ }
 {
-    let a = node_number(nodes, k, 1);
-    let e = node_number(nodes, k, 2);
+    let a = node_number(nodes, k, NODE_START);
+    let e = node_number(nodes, k, NODE_END);
     part_of(m, a + 1, inner_size(a, e))
 }
 
@@ -92,7 +96,7 @@ fn short_child(schema: &[u8], rows: &[u32], m: &[u8], nodes: &[u32], r: usize, k
     requires { ⌜ r < 2 ^ 39 ⌝ }
     ensures { λ x. ⌜ ChildScanned (now (schema .entry)) (now (rows .entry)) (now (m .entry)) (now (nodes .entry)) r k x ⌝ }
 {
-    if plain_kind(node_word(nodes, k, 0)) {
+    if plain_kind(node_word(nodes, k, NODE_KIND)) {
         return named_child(schema, rows, r, inner_bytes(m, nodes, k));
     }
     scanned_child(schema, rows, m, nodes, r, k)
@@ -121,7 +125,7 @@ pub fn child_meant(
 pub fn mandatory_one(rows: &[u32], c: usize) -> usize
     ensures { λ x. ⌜ x ≡ mandatoryIn (now (rows .entry)) (c ∷ []) ⌝ }
 {
-    if word(rows, c, 5) == 0 {
+    if word(rows, c, row::OPTIONAL) == 0 {
         return 1;
     }
     0

@@ -3,6 +3,9 @@ use lookups::values::plain_kind;
 use strings::chars::wide;
 use strings::marks::mark_of;
 use strings::marks::mix;
+use text::nodes::NODE_END;
+use text::nodes::NODE_KIND;
+use text::nodes::NODE_START;
 use text::nodes::node_number;
 use text::nodes::node_word;
 ghost use mathlib.Core.Path.{_≡_};
@@ -32,8 +35,8 @@ pub fn name_mark(name: &[u8]) -> u32
 pub fn meaning_mark(m: &[u8], nodes: &[u32], k: usize) -> u32
     ensures { λ x. ⌜ MeaningMark (now (m .entry)) (now (nodes .entry)) k x ⌝ }
 {
-    let a = node_number(nodes, k, 1);
-    let e = node_number(nodes, k, 2);
-    let plain = plain_kind(node_word(nodes, k, 0));
+    let a = node_number(nodes, k, NODE_START);
+    let e = node_number(nodes, k, NODE_END);
+    let plain = plain_kind(node_word(nodes, k, NODE_KIND));
     mark_of(m, false, a, e, plain)
 }

@@ -10,6 +10,7 @@ use Rattle.grammar.specs.Notation.{text}
 use Rattle.grammar.specs.Tree.{Json, Fields}
 use Rattle.grammar.specs.Machine.Schema.{schema}
 use Rattle.lookups.specs.Lookups.{FindsValue}
+use Rattle.rules.specs.Kinds.{alternative-kind}
 use Rattle.rules.specs.Definitions.{Name, Data, Body, asNames, asMembers, asPairs, asData, asStructName, must, may}
 use Rattle.rules.specs.Definitions.{enumBody, structBody, alternateBody}
 use Rattle.rules.specs.Definitions.Data.{absent}
@@ -62,7 +63,7 @@ module _ {s w : List ℕ} {k v n : ℕ} where
   enum-list o h = list-of 1 0 o h (counted-body valueRow 1 0 n (h .name) enum (λ l. rw (length-map l valueRow)) asNames (valueAt (text "data") (h .fs)))
 
   pub alternate-list : (o : Option (List ℕ)) → BodyAt s w alternateBody k v n o → ListAt s w 7 0 k v o
-  alternate-list o h = list-of 7 0 o h (counted-body (pairRow 8) 7 0 n (h .name) alternate (λ l. rw (length-map l (pairRow 8))) asPairs (valueAt (text "data") (h .fs)))
+  alternate-list o h = list-of 7 0 o h (counted-body (pairRow alternative-kind) 7 0 n (h .name) alternate (λ l. rw (length-map l (pairRow alternative-kind))) asPairs (valueAt (text "data") (h .fs)))
 
   pub struct-list : {base link : ℕ} {r : Bool} → FindsValue schema s w k (text "base") base → BaseFits w base r → r ≡ true → Links w base n link
       → (o : Option (List ℕ)) → BodyAt s w structBody k v n o → ListAt s w 3 link k v o

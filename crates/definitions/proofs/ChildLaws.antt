@@ -7,8 +7,9 @@ use mathlib.Core.Bool.{Bool, true, false}
 use mathlib.Core.List.{List}
 use mathlib.Core.Option.{Option, some}
 use Rattle.grammar.specs.Tree.{Json}
-use Rattle.text.specs.Nodes.{node}
+use Rattle.text.specs.Nodes.{node, nodeKind}
 use Rattle.lookups.specs.Lookups.{stringKind}
+use Rattle.rules.specs.Kinds.{value-kind, member-kind}
 use Rattle.rules.specs.Definitions.{Name, TypeText, quoted, starred, memberOf, asType}
 use Rattle.rules.specs.SchemaTable.{row, flag, isList, typeOf}
 use Rattle.rules.specs.RawTable.{packed}
@@ -43,25 +44,25 @@ value-held {s} {w} e v = subst (λ (i : ℕ). Held s w (v .value) i) (sym e) (he
 
 -- the row of a member does not depend on how its name begins
 member-row : (x e : ℕ) (b : Bool) (t : TypeText)
-    → memberRow (memberOf x e b t) ≡ row 4 (memberOf x e b t .name) (typeOf packed packed (λ _ m. packed m) t) (flag (isList t)) (flag b) 0
+    → memberRow (memberOf x e b t) ≡ row member-kind (memberOf x e b t .name) (typeOf packed packed (λ _ m. packed m) t) (flag (isList t)) (flag b) 0
 member-row x e true t = refl
 member-row x e false t = refl
 
-same-row : {p q r i j k : ℕ} (n : Name) → p ≡ i → q ≡ j → r ≡ k → row 4 n j k i 0 ≡ row 4 n q r p 0
+same-row : {p q r i j k : ℕ} (n : Name) → p ≡ i → q ≡ j → r ≡ k → row 4 n j k i 0 ≡ row member-kind n q r p 0
 same-row n e f g = cc
 
 type-of : {s w : List ℕ} {a : ℕ} {r x : TypeRead} {o : Option (List ℕ)} → TakesType w (a + 1) r → r ≡ x → (v : FieldAt s w memberField a o) → TypeTold (asType (v .value)) x
 type-of {s} {o = o} h e v = subst (λ (y : TypeRead). TypeTold (asType (v .value)) y) e (h .told s (v .value) (held-next (v .held)))
 
 module _ {s w old : List ℕ} {a n : ℕ} where
-  module _ {t : Bool} (q : t ≡ stringKind (node w a 0)) where
+  module _ {t : Bool} (q : t ≡ stringKind (nodeKind w a)) where
     pub value-refused : t ≡ false → PutsRows (ValueAt s w a) old old n 1 Refused
     value-refused f = refused refl (λ (o : Option (List ℕ)) (v : ValueAt s w a o). v .are ∙ rw (no-name (v .held) q f))
 
     pub value-put : {new : List ℕ} → t ≡ true → NamedRowPut w old new a 0 n 2 0 0 0 0 → PutsRows (ValueAt s w a) old new n 1 (Rows (n + 1))
     value-put f h = one-row h (λ (o : Option (List ℕ)) (v : ValueAt s w a o). let u = is-name (v .held) q f in (u .name, u .named, v .are ∙ rw (u .is)))
 
-  module _ (kind : ℕ) {b : ℕ} {t : Bool} (e : b ≡ a + 1) (q : t ≡ stringKind (node w b 0)) where
+  module _ (kind : ℕ) {b : ℕ} {t : Bool} (e : b ≡ a + 1) (q : t ≡ stringKind (nodeKind w b)) where
     pub pair-refused : t ≡ false → PutsRows (FieldAt s w (pairField kind) a) old old n 1 Refused
     pair-refused f = refused refl (λ (o : Option (List ℕ)) (v : FieldAt s w (pairField kind) a o). v .are ∙ rw (no-name (value-held e v) q f))
 
@@ -92,7 +93,7 @@ module _ {s w old : List ℕ} {a n : ℕ} where
         ))
 
 module _ {s w old new : List ℕ} {kind a n : ℕ} {r : Put} where
-  pub child-value : kind ≡ 2 → PutsRows (ValueAt s w a) old new n 1 r → PutsRows (ChildAt s w kind a) old new n 1 r
+  pub child-value : kind ≡ value-kind → PutsRows (ValueAt s w a) old new n 1 r → PutsRows (ChildAt s w kind a) old new n 1 r
   child-value e h = handed (omega arith) go h
     where
       go : (o : Option (List ℕ)) → ChildAt s w kind a o → ValueAt s w a o
@@ -100,7 +101,7 @@ module _ {s w old new : List ℕ} {kind a n : ℕ} {r : Put} where
       go o (member q v) = absurd (omega arith)
       go o (pair p q v) = absurd (p e)
 
-  pub child-member : kind ≡ 4 → PutsRows (FieldAt s w memberField a) old new n 1 r → PutsRows (ChildAt s w kind a) old new n 1 r
+  pub child-member : kind ≡ member-kind → PutsRows (FieldAt s w memberField a) old new n 1 r → PutsRows (ChildAt s w kind a) old new n 1 r
   child-member e h = handed (omega arith) go h
     where
       go : (o : Option (List ℕ)) → ChildAt s w kind a o → FieldAt s w memberField a o
@@ -108,7 +109,7 @@ module _ {s w old new : List ℕ} {kind a n : ℕ} {r : Put} where
       go o (member q v) = v
       go o (pair p q v) = absurd (q e)
 
-  pub child-pair : (kind ≡ 2 → ⊥) → (kind ≡ 4 → ⊥) → PutsRows (FieldAt s w (pairField kind) a) old new n 1 r → PutsRows (ChildAt s w kind a) old new n 1 r
+  pub child-pair : (kind ≡ value-kind → ⊥) → (kind ≡ member-kind → ⊥) → PutsRows (FieldAt s w (pairField kind) a) old new n 1 r → PutsRows (ChildAt s w kind a) old new n 1 r
   child-pair p q h = handed (omega arith) go h
     where
       go : (o : Option (List ℕ)) → ChildAt s w kind a o → FieldAt s w (pairField kind) a o

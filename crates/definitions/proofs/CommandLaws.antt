@@ -9,6 +9,7 @@ use Rattle.grammar.specs.Notation.{text}
 use Rattle.grammar.specs.Tree.{Fields}
 use Rattle.grammar.specs.Machine.Schema.{schema}
 use Rattle.lookups.specs.Lookups.{FindsValue}
+use Rattle.rules.specs.Kinds.{command-kind}
 use Rattle.rules.specs.Definitions.{Name, TypeText, Data, asType, asData, may}
 use Rattle.rules.specs.Definitions.{commandBody}
 use Rattle.rules.specs.Definitions.TypeText.{nothing}
@@ -58,7 +59,7 @@ flagged {s} {fs = fs} f h e u = subst (λ (i : FlagRead). FlagTold (may false as
 
 same-command : {place list oob : ℕ} (n : ℕ) (name : Name) (t : TypeText) (y : Bool) (a : Data) → place ≡ typeOf packed packed (λ _ m. packed m) t → list ≡ flag (isList t) → oob ≡ flag y
     → some (bodyRows n name (command a t y))
-    ≡ some (row 9 name (dataLink packed packed (λ _ m. packed m) n a) oob place list ++ inlineStruct packed packed (λ _ m. packed m) a)
+    ≡ some (row command-kind name (dataLink packed packed (λ _ m. packed m) n a) oob place list ++ inlineStruct packed packed (λ _ m. packed m) a)
 same-command n name t y a e f g = cc
 
 module _ {s w : List ℕ} {k v n r : ℕ} {x : TypeRead} (f : FindsValue schema s w k (text "returns") r) (h : TakesReturn w r x) where
@@ -108,10 +109,10 @@ module _ {s w : List ℕ} {v d n oob place list : ℕ} {old mid : List ℕ} {nex
   command-put {new} {link = link} e q l k o u =
       let i = inline-put h (u .found) q in
       let a : link ≡ dataLink packed packed (λ _ j. packed j) n (i .data-is) = l .told s (u .value) (u .found) (i .data-is) (i .are) in
-      let own : RowPut mid new n (row 9 (u .name) (dataLink packed packed (λ _ j. packed j) n (i .data-is)) oob place list) =
-      subst (λ (x : ℕ). RowPut mid new n (row 9 (u .name) x oob place list)) a (k .told (u .name) (u .named)) in
+      let own : RowPut mid new n (row command-kind (u .name) (dataLink packed packed (λ _ j. packed j) n (i .data-is)) oob place list) =
+      subst (λ (x : ℕ). RowPut mid new n (row command-kind (u .name) x oob place list)) a (k .told (u .name) (u .named)) in
       record {
-        xs = row 9 (u .name) (dataLink packed packed (λ _ j. packed j) n (i .data-is)) oob place list ++ inlineRows (i .data-is);
+        xs = row command-kind (u .name) (dataLink packed packed (λ _ j. packed j) n (i .data-is)) oob place list ++ inlineRows (i .data-is);
         are = u .are ∙ rw (i .are) refl;
         size = omega (arith, i .size);
         put = put-under (omega arith) (i .put) own;

@@ -10,8 +10,9 @@ use lib.ListN.{length, length-append, length-map}
 use Rattle.grammar.specs.Limits.{row-words}
 use Rattle.grammar.specs.Tree.{Json}
 use Rattle.grammar.proofs.Booleans.{none-not-some, some-is}
-use Rattle.text.specs.Nodes.{node}
+use Rattle.text.specs.Nodes.{nodeKind}
 use Rattle.lookups.specs.Lookups.{stringKind}
+use Rattle.rules.specs.Kinds.{value-kind, member-kind}
 use Rattle.rules.specs.Definitions.{Data, asNames, asMembers, asPairs, asData, must, may}
 use Rattle.rules.specs.Definitions.Data.{absent, inline}
 use Rattle.rules.specs.Values.{_>>=_}
@@ -38,7 +39,7 @@ module _ {A : Type 0} (f : A → List ℕ) (wide : (x : A) → length (f x) ≡ 
   wide-of (some l) e = subst (λ (rs : List (List ℕ)). length (concat rs) ≡ row-words * length rs) (some-is e) (all-wide l)
 
 rows-wide : (kind : ℕ) (j : Json) {rs : List (List ℕ)} → childRows kind j ≡ some rs → length (concat rs) ≡ row-words * length rs
-rows-wide kind j {rs} = go (eqb kind 2) (eqb kind 4)
+rows-wide kind j {rs} = go (eqb kind value-kind) (eqb kind member-kind)
   where
     go : (a b : Bool)
         → cond a (asNames j >>= λ vs. some (map valueRow vs)) (cond b (asMembers j >>= λ ms. some (map memberRow ms)) (asPairs j >>= λ ps. some (map (pairRow kind) ps))) ≡ some rs
@@ -117,7 +118,7 @@ module _ {s w : List ℕ} {k : ℕ} where
       go none f q = q
       go (some j) f q = absurd (omega (arith, f .found .0))
 
-  module _ {t : Bool} (z : k ≡ 0 → ⊥) (e : t ≡ stringKind (node w k 0)) where
+  module _ {t : Bool} (z : k ≡ 0 → ⊥) (e : t ≡ stringKind (nodeKind w k)) where
     pub inline-name : t ≡ true → (o : Option (List ℕ)) → InlineAt s w k o → o ≡ some []
     inline-name y o v = go (v .value) (v .found) (v .are)
       where

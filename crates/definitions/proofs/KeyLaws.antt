@@ -13,6 +13,7 @@ use Rattle.grammar.specs.Machine.Schema.{schema}
 use Rattle.text.specs.Nodes.{next, HoldsFields}
 use Rattle.lookups.specs.Lookups.{NodeMeans}
 use Rattle.lookups.proofs.FieldLaws.{FieldsLeft, all-left, left-first, left-on, left-end, left-stuck}
+use Rattle.rules.specs.Kinds.{enum-kind, struct-kind, union-kind, alternate-kind, command-kind}
 use Rattle.rules.specs.Values.{anyOf}
 use Rattle.definitions.specs.Parts.{keysFor, KeyIn, OnlyKeys}
 
@@ -42,8 +43,8 @@ module _ {s w : List ℕ} {ks : List (List ℕ)} {a : ℕ} {r : Bool} (h : KeyIn
 pub key-kind : {s w : List ℕ} {a : ℕ} {r : Bool} (kind x : ℕ) → kind ≡ x → KeyIn s w (keysFor x) a r → KeyIn s w (keysFor kind) a r
 key-kind {s} {w} {a} {r} kind x e h = subst (λ (i : ℕ). KeyIn s w (keysFor i) a r) (sym e) h
 
-pub key-other : {s w : List ℕ} {a : ℕ} {r : Bool} (kind : ℕ) → (kind ≡ 1 → ⊥) → (kind ≡ 3 → ⊥) → (kind ≡ 5 → ⊥) → (kind ≡ 7 → ⊥) → KeyIn s w (keysFor 9) a r → KeyIn s w (keysFor kind) a r
-key-other kind n m o p h = rw (ne-eqb kind 1 n, ne-eqb kind 3 m, ne-eqb kind 5 o, ne-eqb kind 7 p) h
+pub key-other : {s w : List ℕ} {a : ℕ} {r : Bool} (kind : ℕ) → (kind ≡ enum-kind → ⊥) → (kind ≡ struct-kind → ⊥) → (kind ≡ union-kind → ⊥) → (kind ≡ alternate-kind → ⊥) → KeyIn s w (keysFor command-kind) a r → KeyIn s w (keysFor kind) a r
+key-other kind n m o p h = rw (ne-eqb kind enum-kind n, ne-eqb kind struct-kind m, ne-eqb kind union-kind o, ne-eqb kind alternate-kind p) h
 
 -- the keys that are left say what all do
 module _ {s w : List ℕ} {ks : List (List ℕ)} {k end a : ℕ} (p : end ≡ next w k) (v : FieldsLeft schema s w (λ fs. all (anyOf ks) (keysOf fs)) (suc k) a end) where

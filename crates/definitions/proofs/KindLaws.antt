@@ -9,8 +9,9 @@ use Rattle.grammar.specs.Notation.{text, all}
 use Rattle.grammar.specs.Tree.{Json, Fields}
 use Rattle.grammar.specs.Keys.{keysOf}
 use Rattle.grammar.specs.Machine.Schema.{schema}
-use Rattle.text.specs.Nodes.{node}
+use Rattle.text.specs.Nodes.{nodeKind}
 use Rattle.lookups.specs.Lookups.{stringKind, FindsValue}
+use Rattle.rules.specs.Kinds.{enum-kind, struct-kind, union-kind, alternate-kind}
 use Rattle.rules.specs.Definitions.{Name, Body, Definition, only, commandBody, asDefinition}
 use Rattle.rules.specs.Values.{_>>=_, anyOf, valueAt}
 use Rattle.definitions.specs.declared.definitions.KindKey.{KindKey}
@@ -20,19 +21,20 @@ use Rattle.definitions.specs.Parts.{FieldsAt, BodyAt, keysFor, bodyFor, 
 use Rattle.definitions.proofs.NameLaws.{is-name, no-name}
 use Rattle.definitions.proofs.ShapeLaws.{held-there, as-object, no-object}
 use Rattle.definitions.proofs.BodyLaws.{found-at, nowhere}
+use Rattle.tokens.specs.NodeKinds.{object-node}
 
 module _ {s w : List ℕ} {k v n : ℕ} where
   pub body-kind : (kind x : ℕ) → kind ≡ x → (o : Option (List ℕ)) → BodyAt s w (bodyFor kind) k v n o → BodyAt s w (bodyFor x) k v n o
   body-kind kind x e o h = subst (λ (i : ℕ). BodyAt s w (bodyFor i) k v n o) e h
 
-  pub body-last : (kind : ℕ) → (kind ≡ 1 → ⊥) → (kind ≡ 3 → ⊥) → (kind ≡ 5 → ⊥) → (kind ≡ 7 → ⊥) → (o : Option (List ℕ)) → BodyAt s w (bodyFor kind) k v n o → BodyAt s w commandBody k v n o
+  pub body-last : (kind : ℕ) → (kind ≡ enum-kind → ⊥) → (kind ≡ struct-kind → ⊥) → (kind ≡ union-kind → ⊥) → (kind ≡ alternate-kind → ⊥) → (o : Option (List ℕ)) → BodyAt s w (bodyFor kind) k v n o → BodyAt s w commandBody k v n o
   body-last kind a b c d o h =
       record {
         fs = h .fs;
         fields = h .fields;
         name = h .name;
         named = h .named;
-        are = h .are ∙ rw (ne-eqb kind 1 a, ne-eqb kind 3 b, ne-eqb kind 5 c, ne-eqb kind 7 d) refl;
+        are = h .are ∙ rw (ne-eqb kind enum-kind a, ne-eqb kind struct-kind b, ne-eqb kind union-kind c, ne-eqb kind alternate-kind d) refl;
       }
 
 -- a definition of that kind, by the tests on its name and its keys
@@ -45,7 +47,7 @@ only-body : (n : ℕ) (ks : List (List ℕ)) (fs : Fields) (name : Name) (o : Op
 only-body n ks fs name none e = refl
 only-body n ks fs name (some b) e = rw e
 
-module _ {s w : List ℕ} (kind : ℕ) {k v n : ℕ} {r : Bool} (q : r ≡ stringKind (node w v 0)) where
+module _ {s w : List ℕ} (kind : ℕ) {k v n : ℕ} {r : Bool} (q : r ≡ stringKind (nodeKind w v)) where
   pub kind-no-name : r ≡ false → (o : Option (List ℕ)) → KindAt s w kind k v n o → o ≡ none
   kind-no-name e o h = h .are ∙ rw (no-name (h .held) q e)
 
@@ -127,11 +129,11 @@ module _ {s w : List ℕ} {k e : ℕ} (f : FindsValue schema s w k (text "enum")
           kind-none z = record { told = λ fs h. rw (absent-at h f a, absent-at h g b, absent-at h l c, absent-at h m d, absent-at h p z) }
 
 -- a top-level value
-module _ {s w : List ℕ} {k n x : ℕ} (e : x ≡ node w k 0) where
-  pub definition-no-object : (x ≡ 9 → ⊥) → (o : Option (List ℕ)) → DefinitionAt s w k n o → o ≡ none
+module _ {s w : List ℕ} {k n x : ℕ} (e : x ≡ nodeKind w k) where
+  pub definition-no-object : (x ≡ object-node → ⊥) → (o : Option (List ℕ)) → DefinitionAt s w k n o → o ≡ none
   definition-no-object z o h = h .are ∙ rw (no-object (h .value) (h .held) (λ q. z (e ∙ q)))
 
-  module _ {r : KindKey} (t : x ≡ 9) (g : FindsKind s w k r) where
+  module _ {r : KindKey} (t : x ≡ object-node) (g : FindsKind s w k r) where
     pub definition-no-kind : r ≡ NoKey → (o : Option (List ℕ)) → DefinitionAt s w k n o → o ≡ none
     definition-no-kind q o h =
         let v = as-object (h .value) (h .held) (sym e ∙ t) in

@@ -15,8 +15,9 @@ use Rattle.grammar.specs.Tree.{Json, Items, Fields}
 use Rattle.grammar.specs.Tree.Items.{no-items, item}
 use Rattle.grammar.specs.Tree.Fields.{no-fields, field}
 use Rattle.grammar.specs.Machine.Schema.{schema}
-use Rattle.text.specs.Nodes.{node, next, HoldsItems, HoldsFields}
+use Rattle.text.specs.Nodes.{node, next, HoldsItems, HoldsFields, nodeKind}
 use Rattle.text.proofs.KeyLaws.{goes-on}
+use Rattle.rules.specs.Kinds.{value-kind, member-kind}
 use Rattle.rules.specs.Definitions.{Name, TypeText, quoted, starred, memberOf, asName, asType, names, members, pairs, asNames, asMembers, asPairs, must}
 use Rattle.rules.specs.Values.{_>>=_}
 use Rattle.rules.specs.SchemaTable.{concat}
@@ -28,6 +29,7 @@ use Rattle.definitions.specs.Parts.{valueRow, memberRow, pairRow, childR
 use Rattle.definitions.specs.Parts.ChildAt.{value, member, pair}
 use Rattle.definitions.proofs.Stores.{put-none, put-after, came, bounds, failed}
 use Rattle.definitions.proofs.ShapeLaws.{held-there, as-array, as-object, no-array, no-object}
+use Rattle.tokens.specs.NodeKinds.{array-node, object-node}
 
 -- rows in front of others, if there are any
 abbrev pub ahead : List ℕ → Option (List ℕ) → Option (List ℕ)
@@ -61,9 +63,9 @@ mapped f (some l) = refl
 module _ (s w : List ℕ) (kind : ℕ) where
   -- the nodes from a up to e list children whose rows are these
   pub data Listed (a e : ℕ) (o : Option (List ℕ)) : Type 0 where
-    values : kind ≡ 2 → length s ≤ schema-bytes → (js : Items) (l : ℕ) → HoldsItems schema s w js l a e → o ≡ rowsOfAll valueRow (names js) → Listed a e o
-    fields : kind ≡ 4 → length s ≤ schema-bytes → (fs : Fields) (l : ℕ) → HoldsFields schema s w fs l a e → o ≡ rowsOfAll memberRow (members fs) → Listed a e o
-    others : (kind ≡ 2 → ⊥) → (kind ≡ 4 → ⊥) → length s ≤ schema-bytes → (fs : Fields) (l : ℕ) → HoldsFields schema s w fs l a e
+    values : kind ≡ value-kind → length s ≤ schema-bytes → (js : Items) (l : ℕ) → HoldsItems schema s w js l a e → o ≡ rowsOfAll valueRow (names js) → Listed a e o
+    fields : kind ≡ member-kind → length s ≤ schema-bytes → (fs : Fields) (l : ℕ) → HoldsFields schema s w fs l a e → o ≡ rowsOfAll memberRow (members fs) → Listed a e o
+    others : (kind ≡ value-kind → ⊥) → (kind ≡ member-kind → ⊥) → length s ≤ schema-bytes → (fs : Fields) (l : ℕ) → HoldsFields schema s w fs l a e
         → o ≡ rowsOfAll (pairRow kind) (pairs fs) → Listed a e o
 
   listed-end : {a e : ℕ} {o : Option (List ℕ)} → e ≤ a → Listed a e o → o ≡ some []
@@ -194,7 +196,7 @@ module _ {s w : List ℕ} {kind : ℕ} {old : List ℕ} {n b e : ℕ} where
         record { xs = u .xs; are = u .is ∙ ap (ahead (u .xs)) (listed-end s w kind h (u .listed)) ∙ ap some (append-nil (u .xs)); size = u .size; put = u .put }
 
 -- the value at node k lists children exactly if its kind is that of their list
-module _ {s w : List ℕ} {kind k x list : ℕ} (z : k ≡ 0 → ⊥) (e : x ≡ node w k 0) (f : list ≡ cond (eqb kind 2) 8 9) where
+module _ {s w : List ℕ} {kind k x list : ℕ} (z : k ≡ 0 → ⊥) (e : x ≡ nodeKind w k) (f : list ≡ cond (eqb kind value-kind) array-node object-node) where
   there : {P : Option (List ℕ) → Type 0}
       → ((j : Json) → Held s w j k → (o : Option (List ℕ)) → o ≡ (childRows kind j >>= λ rs. some (concat rs)) → P o) → (o : Option (List ℕ)) → ChildrenAt s w kind k o → P o
   there {P} g o v = go (v .value) (v .found) (v .are)
@@ -204,7 +206,7 @@ module _ {s w : List ℕ} {kind k x list : ℕ} (z : k ≡ 0 → ⊥) (e : x ≡
       go (some j) u q = g j (held-there u) o q
 
   pub children-other : (x ≡ list → ⊥) → (o : Option (List ℕ)) → ChildrenAt s w kind k o → o ≡ none
-  children-other n = there (λ j h o q. q ∙ go j h (eqb kind 2) (eqb kind 4) f)
+  children-other n = there (λ j h o q. q ∙ go j h (eqb kind value-kind) (eqb kind member-kind) f)
     where
       go : (j : Json) → Held s w j k → (a b : Bool) → list ≡ cond a 8 9
           → (cond a (asNames j >>= λ vs. some (map valueRow vs)) (cond b (asMembers j >>= λ ms. some (map memberRow ms)) (asPairs j >>= λ ps. some (map (pairRow kind) ps)))
@@ -216,9 +218,9 @@ module _ {s w : List ℕ} {kind k x list : ℕ} (z : k ≡ 0 → ⊥) (e : x ≡
 
   module _ {end : ℕ} (t : x ≡ list) (p : end ≡ next w k) where
     pub children-list : (o : Option (List ℕ)) → ChildrenAt s w kind k o → (k < end) × Listed s w kind (k + 1) end o
-    children-list = there (λ j h o q. go j h o (eqb kind 2) (eqb kind 4) refl refl f q)
+    children-list = there (λ j h o q. go j h o (eqb kind value-kind) (eqb kind member-kind) refl refl f q)
       where
-        go : (j : Json) → Held s w j k → (o : Option (List ℕ)) (a b : Bool) → eqb kind 2 ≡ a → eqb kind 4 ≡ b → list ≡ cond a 8 9
+        go : (j : Json) → Held s w j k → (o : Option (List ℕ)) (a b : Bool) → eqb kind value-kind ≡ a → eqb kind member-kind ≡ b → list ≡ cond a 8 9
             → o ≡ (cond a (asNames j >>= λ vs. some (map valueRow vs)) (cond b (asMembers j >>= λ ms. some (map memberRow ms)) (asPairs j >>= λ ps. some (map (pairRow kind) ps)))
             >>= λ rs. some (concat rs))
             → (k < end) × Listed s w kind (k + 1) end o

@@ -21,7 +21,7 @@ use Rattle.grammar.specs.SchemaText.{schema-lexis, Char.plain, Char.backslash}
 use Rattle.grammar.specs.Machine.Schema.{schema}
 use Rattle.grammar.proofs.Booleans.{clash}
 use Rattle.strings.specs.Strings.{Means}
-use Rattle.text.specs.Nodes.{node, next, Node}
+use Rattle.text.specs.Nodes.{next, Node, nodeEnd, nodeKind, nodeStart}
 use Rattle.text.specs.Readers.{Stands, StandsTold}
 use Rattle.lookups.specs.Lookups.{stringKind}
 use Rattle.lookups.proofs.NodeLaws.{string-node}
@@ -63,15 +63,15 @@ module _ {s w : List ℕ} {k : ℕ} where
   string-leaf (arr a e js) h t = clash t refl
   string-leaf (obj a e fs) h t = clash t refl
 
-  pub is-name : {j : Json} {r : Bool} → Held s w j k → r ≡ stringKind (node w k 0) → r ≡ true → IsName w j k
+  pub is-name : {j : Json} {r : Bool} → Held s w j k → r ≡ stringKind (nodeKind w k) → r ≡ true → IsName w j k
   is-name {j} h e t =
       let q : sameKind (kindOf j) string ≡ true = sym (string-node schema s w j (h .level) k (h .holds)) ∙ sym e ∙ t in
       record { name = quoted (startOf j) (endOf j); named = string-named j h q; kind = q; here = refl; is = rw q; leaf = string-leaf j h q }
 
-  pub no-string : {j : Json} {r : Bool} → Held s w j k → r ≡ stringKind (node w k 0) → r ≡ false → sameKind (kindOf j) string ≡ false
+  pub no-string : {j : Json} {r : Bool} → Held s w j k → r ≡ stringKind (nodeKind w k) → r ≡ false → sameKind (kindOf j) string ≡ false
   no-string {j} h e t = sym (string-node schema s w j (h .level) k (h .holds)) ∙ sym e ∙ t
 
-  pub no-name : {j : Json} {r : Bool} → Held s w j k → r ≡ stringKind (node w k 0) → r ≡ false → asName j ≡ none
+  pub no-name : {j : Json} {r : Bool} → Held s w j k → r ≡ stringKind (nodeKind w k) → r ≡ false → asName j ≡ none
   no-name h e t = rw (no-string h e t)
 
   pub key-named : {x e : ℕ} {key : List ℕ} → Keyed s w k x e key → Named w k 0 (quoted x e)
@@ -92,29 +92,29 @@ starred-first (char (plain h n m) w) = refl
 starred-first (char backslash w) = refl
 
 module _ {s w : List ℕ} {a i : ℕ} where
-  first-byte : {x e : ℕ} {key : List ℕ} → i ≡ node w a 1 + 1 → Keyed s w a x e key → starred key ≡ eqb (getD s i 0) (code "*")
+  first-byte : {x e : ℕ} {key : List ℕ} → i ≡ nodeStart w a + 1 → Keyed s w a x e key → starred key ≡ eqb (getD s i 0) (code "*")
   first-byte {x} p h =
       let y : x + 1 ≡ i = sym (p ∙ ap (λ (n : ℕ). n + 1) (h .node-is .has-start)) in
       starred-first (h .means .chars) ∙ ap (λ (n : ℕ). eqb n (code "*")) (getD-drop (x + 1) s 0 0 ∙ ap (λ (n : ℕ). getD s n 0) (add-zero (x + 1) ∙ y))
 
-  inside : {x e : ℕ} {key : List ℕ} → i ≡ node w a 1 + 1 → Keyed s w a x e key → i < length s
+  inside : {x e : ℕ} {key : List ℕ} → i ≡ nodeStart w a + 1 → Keyed s w a x e key → i < length s
   inside p h = omega (arith, h .node-is .has-start, h .means .wide, h .means .within)
 
-  pub star-there : {r : Bool} → i ≡ node w a 1 + 1 → Stands s i (code "*") r → r ≡ true → Star s w a 1
+  pub star-there : {r : Bool} → i ≡ nodeStart w a + 1 → Stands s i (code "*") r → r ≡ true → Star s w a 1
   star-there p t e =
       record { told = λ x y key h. sym (ap flag (first-byte p h ∙ eq-eqb (getD s i 0) (code "*") (subst (λ (b : Bool). StandsTold s i (code "*") b) e (t .told) .1))) }
 
-  pub star-none : {r : Bool} → i ≡ node w a 1 + 1 → Stands s i (code "*") r → r ≡ false → Star s w a 0
+  pub star-none : {r : Bool} → i ≡ nodeStart w a + 1 → Stands s i (code "*") r → r ≡ false → Star s w a 0
   star-none p t e =
       record { told = λ x y key h. sym (ap flag (first-byte p h ∙ ne-eqb (getD s i 0) (code "*") (subst (λ (b : Bool). StandsTold s i (code "*") b) e (t .told) (inside p h)))) }
 
 -- words about a name, as the code computes them
 module _ {w : List ℕ} {k skip x r : ℕ} (f : x < 2 ^ 32 → r ≡ x) where
-  pub start-word : x ≡ node w k 1 + skip + 1 → NameWord w k skip (λ n. n .start) r
+  pub start-word : x ≡ nodeStart w k + skip + 1 → NameWord w k skip (λ n. n .start) r
   start-word e =
       record { told = λ (n : Name) (h : Named w k skip n). let q : n .start ≡ x = ap (λ (m : Name). m .start) (h .is) ∙ sym e in f (omega (arith, h .within)) ∙ sym q }
 
-  pub size-word : x ≡ node w k 2 - (node w k 1 + skip) - 2 → NameWord w k skip (λ n. n .size) r
+  pub size-word : x ≡ nodeEnd w k - (nodeStart w k + skip) - 2 → NameWord w k skip (λ n. n .size) r
   size-word e =
       record { told = λ (n : Name) (h : Named w k skip n). let q : n .size ≡ x = ap (λ (m : Name). m .size) (h .is) ∙ sym e in f (omega (arith, h .within)) ∙ sym q }
 

@@ -18,8 +18,9 @@ use Rattle.grammar.specs.Tree.Items.{no-items, item}
 use Rattle.grammar.specs.Machine.Schema.{schema}
 use Rattle.grammar.proofs.Booleans.{none-not-some, some-is}
 use Rattle.strings.specs.Strings.{plainString}
+use Rattle.tokens.specs.NodeKinds.{false-node, true-node, plain-string-node, other-string-node, array-node, object-node}
 use Rattle.tokens.specs.Tokens.{scalarNode}
-use Rattle.text.specs.Nodes.{node, next, Holds, HoldsItems}
+use Rattle.text.specs.Nodes.{node, next, Holds, HoldsItems, nodeKind}
 use Rattle.text.proofs.KeyLaws.{goes-on}
 use Rattle.lookups.specs.Lookups.{stringKind}
 use Rattle.rules.specs.Definitions.{Name, TypeText, Member, Data, quoted, listType, asType, asMembers, asData, asStructName, may}
@@ -39,7 +40,7 @@ use Rattle.definitions.specs.Parts.{FieldsAt}
 use Rattle.definitions.proofs.shapes.TypeText.{enum}
 use Rattle.definitions.proofs.NameLaws.{is-name, no-string, no-name}
 
-scalar-small : (s : List ℕ) (a e : ℕ) (v : Scalar) → scalarNode s a e v < 8
+scalar-small : (s : List ℕ) (a e : ℕ) (v : Scalar) → scalarNode s a e v < array-node
 scalar-small s a e null = omega arith
 scalar-small s a e (bool true) = omega arith
 scalar-small s a e (bool false) = omega arith
@@ -47,7 +48,7 @@ scalar-small s a e (num true t) = omega arith
 scalar-small s a e (num false t) = omega arith
 scalar-small s a e (str cs) = go (plainString s a e)
   where
-    go : (b : Bool) → cond b 6 7 < 8
+    go : (b : Bool) → cond b plain-string-node other-string-node < 8
     go true = omega arith
     go false = omega arith
 
@@ -70,28 +71,28 @@ pub record ObjectAt (s w : List ℕ) (j : Json) (k : ℕ) : Type 0 where
   pub is : asFields j ≡ some fs
 
 module _ {s w : List ℕ} {k : ℕ} where
-  pub as-array : (j : Json) → Held s w j k → node w k 0 ≡ 8 → ArrayAt s w j k
+  pub as-array : (j : Json) → Held s w j k → nodeKind w k ≡ array-node → ArrayAt s w j k
   as-array (leaf a e v) h q = absurd (omega (arith, h .holds .0 .has-kind, scalar-small s a e v))
   as-array (arr a e js) h q = record { small = h .small; items = js; level = h .level - 1; on = h .holds .1; holds = h .holds .3; is = refl }
   as-array (obj a e fs) h q = absurd (omega (arith, h .holds .0 .has-kind))
 
-  pub as-object : (j : Json) → Held s w j k → node w k 0 ≡ 9 → ObjectAt s w j k
+  pub as-object : (j : Json) → Held s w j k → nodeKind w k ≡ object-node → ObjectAt s w j k
   as-object (leaf a e v) h q = absurd (omega (arith, h .holds .0 .has-kind, scalar-small s a e v))
   as-object (arr a e js) h q = absurd (omega (arith, h .holds .0 .has-kind))
   as-object (obj a e fs) h q = record { fs = fs; on = h .holds .1; fields = record { small = h .small; level = h .level - 1; holds = h .holds .3 }; is = refl }
 
-  pub no-array : (j : Json) → Held s w j k → (node w k 0 ≡ 8 → ⊥) → asItems j ≡ none
+  pub no-array : (j : Json) → Held s w j k → (nodeKind w k ≡ array-node → ⊥) → asItems j ≡ none
   no-array (leaf a e v) h q = refl
   no-array (arr a e js) h q = absurd (q (h .holds .0 .has-kind))
   no-array (obj a e fs) h q = refl
 
-  pub no-object : (j : Json) → Held s w j k → (node w k 0 ≡ 9 → ⊥) → asFields j ≡ none
+  pub no-object : (j : Json) → Held s w j k → (nodeKind w k ≡ object-node → ⊥) → asFields j ≡ none
   no-object (leaf a e v) h q = refl
   no-object (arr a e js) h q = refl
   no-object (obj a e fs) h q = absurd (q (h .holds .0 .has-kind))
 
 -- the items from node `first` up to node `end`: one name, or not
-module _ (s w : List ℕ) (first end l : ℕ) {t : Bool} (small : length s ≤ schema-bytes) (q : t ≡ stringKind (node w first 0)) where
+module _ (s w : List ℕ) (first end l : ℕ) {t : Bool} (small : length s ≤ schema-bytes) (q : t ≡ stringKind (nodeKind w first)) where
   no-first : t ≡ false → (js : Items) → HoldsItems schema s w js l first end → listType js ≡ none
   no-first f no-items x = refl
   no-first f (item j no-items) x = rw (no-name (record { small = small; level = l; holds = x .1 }) q f)
@@ -109,9 +110,9 @@ module _ (s w : List ℕ) (first end l : ℕ) {t : Bool} (small : length s ≤ s
 
 -- a flag by its node's kind
 abbrev flagOf : ℕ → Option Bool
-flagOf kind = cond (eqb kind 2) (some false) (cond (eqb kind 3) (some true) none)
+flagOf kind = cond (eqb kind false-node) (some false) (cond (eqb kind true-node) (some true) none)
 
-flag-of : (s w : List ℕ) (k : ℕ) (j : Json) (l : ℕ) → Holds schema s w j l k → asFlag j ≡ flagOf (node w k 0)
+flag-of : (s w : List ℕ) (k : ℕ) (j : Json) (l : ℕ) → Holds schema s w j l k → asFlag j ≡ flagOf (nodeKind w k)
 flag-of s w k (leaf a e null) l h = rw (h .0 .has-kind)
 flag-of s w k (leaf a e (bool true)) l h = rw (h .0 .has-kind)
 flag-of s w k (leaf a e (bool false)) l h = rw (h .0 .has-kind)
@@ -119,7 +120,7 @@ flag-of s w k (leaf a e (num true x)) l h = rw (h .0 .has-kind)
 flag-of s w k (leaf a e (num false x)) l h = rw (h .0 .has-kind)
 flag-of s w k (leaf a e (str cs)) l h = go (plainString s a e) (h .0 .has-kind)
   where
-    go : (b : Bool) → node w k 0 ≡ cond b 6 7 → none ≡ flagOf (node w k 0)
+    go : (b : Bool) → nodeKind w k ≡ cond b plain-string-node other-string-node → none ≡ flagOf (nodeKind w k)
     go true x = rw x
     go false x = rw x
 flag-of s w k (arr a e js) l h = rw (h .0 .has-kind)
@@ -134,17 +135,17 @@ link-is n r x e d q = subst (λ (y : Data). r ≡ dataLink packed packed (λ _ m
 
 -- a list type, by the tests of its reader
 module _ {w : List ℕ} {k : ℕ} where
-  pub list-no-array : {x : ℕ} → x ≡ node w k 0 → (x ≡ 8 → ⊥) → ReadsList w k Other
+  pub list-no-array : {x : ℕ} → x ≡ nodeKind w k → (x ≡ array-node → ⊥) → ReadsList w k Other
   list-no-array e n = record { told = λ s j h. rw (no-array j h (λ q. n (e ∙ q))) }
 
-  module _ {x end : ℕ} (e : x ≡ node w k 0) (u : x ≡ 8) (p : end ≡ next w k) where
+  module _ {x end : ℕ} (e : x ≡ nodeKind w k) (u : x ≡ array-node) (p : end ≡ next w k) where
     list-so : {r : Text.TypeText} → ((s : List ℕ) (j : Json) (v : ArrayAt s w j k) → TextTold (listType (v .items)) r) → ReadsList w k r
     list-so f = record { told = λ s j h. let v = as-array j h (sym e ∙ u) in rw (v .is) (f s j v) }
 
     pub list-stuck : end ≤ k → ReadsList w k Other
     list-stuck o = list-so (λ s j v. absurd (omega (arith, v .on)))
 
-    module _ {first : ℕ} {t : Bool} (g : first ≡ suc k) (q : t ≡ stringKind (node w first 0)) where
+    module _ {first : ℕ} {t : Bool} (g : first ≡ suc k) (q : t ≡ stringKind (nodeKind w first)) where
       there : {s : List ℕ} {j : Json} (v : ArrayAt s w j k) → HoldsItems schema s w (v .items) (v .level) first end
       there {s} v = subst₂ (λ (a b : ℕ). HoldsItems schema s w (v .items) (v .level) a b) (sym g) (sym p) (v .holds)
 
@@ -157,7 +158,7 @@ module _ {w : List ℕ} {k : ℕ} where
       pub list-one : t ≡ true → end - first ≡ 1 → {r : ℕ} → NameWord w first 0 packed r → ReadsList w k (ListOf r)
       list-one f n m = list-so (λ s j v. let y = just-one s w first end (v .level) (v .small) q f n (v .items) (there v) in (y .0, y .1, m .told (y .0) (y .2)))
 
-  module _ {t : Bool} (q : t ≡ stringKind (node w k 0)) where
+  module _ {t : Bool} (q : t ≡ stringKind (nodeKind w k)) where
     pub type-name : t ≡ true → {r : ℕ} → NameWord w k 0 packed r → ReadsType w k (One r)
     type-name f m =
         record {
@@ -210,7 +211,7 @@ module _ {w : List ℕ} {k : ℕ} where
       go s none f = record { value = false; is = refl; word = refl }
       go s (some j) f = absurd (omega (arith, f .found .0))
 
-  module _ {kind : ℕ} (n : k ≡ 0 → ⊥) (e : kind ≡ node w k 0) where
+  module _ {kind : ℕ} (n : k ≡ 0 → ⊥) (e : kind ≡ nodeKind w k) where
     flag-so : {r : FlagRead} → FlagTold (flagOf kind) r → TakesFlag w k r
     flag-so {r} t = record { told = go }
       where
@@ -218,14 +219,14 @@ module _ {w : List ℕ} {k : ℕ} where
         go s none f = absurd (n (f .found))
         go s (some j) f = subst (λ (o : Option Bool). FlagTold o r) (sym (flag-of s w k j (f .level) (f .found .1) ∙ ap flagOf (sym e))) t
 
-    pub flag-false : kind ≡ 2 → TakesFlag w k (Flags.Flag 0)
+    pub flag-false : kind ≡ false-node → TakesFlag w k (Flags.Flag 0)
     flag-false q = flag-so (rw q record { value = false; is = refl; word = refl })
 
-    pub flag-true : kind ≡ 3 → TakesFlag w k (Flags.Flag 1)
+    pub flag-true : kind ≡ true-node → TakesFlag w k (Flags.Flag 1)
     flag-true q = flag-so (rw q record { value = true; is = refl; word = refl })
 
-    pub flag-other : (kind ≡ 2 → ⊥) → (kind ≡ 3 → ⊥) → TakesFlag w k Flags.Refused
-    flag-other a b = flag-so (rw (ne-eqb kind 2 a, ne-eqb kind 3 b) refl)
+    pub flag-other : (kind ≡ false-node → ⊥) → (kind ≡ true-node → ⊥) → TakesFlag w k Flags.Refused
+    flag-other a b = flag-so (rw (ne-eqb kind false-node a, ne-eqb kind true-node b) refl)
 
   -- the link of a base or of data
   module _ {n : ℕ} where
@@ -243,7 +244,7 @@ module _ {w : List ℕ} {k : ℕ} where
         go s none f = absurd (z (f .found))
         go s (some j) f = g s j (held-there f)
 
-    module _ {t : Bool} (z : k ≡ 0 → ⊥) (q : t ≡ stringKind (node w k 0)) where
+    module _ {t : Bool} (z : k ≡ 0 → ⊥) (q : t ≡ stringKind (nodeKind w k)) where
       pub link-name : t ≡ true → {r : ℕ} → NameWord w k 0 packed r → Links w k n r
       link-name f {r} m = link-there z (λ s j h. let v = is-name h q f in rw (v .kind) (link-is n r (named (quoted (startOf j) (endOf j))) (m .told (v .name) (v .named) ∙ ap packed (v .here))))
 
@@ -265,7 +266,7 @@ module _ {w : List ℕ} {k : ℕ} where
       fit s none f t = (absent, refl)
       fit s (some j) f t = absurd (omega (arith, f .found .0))
 
-  pub base-there : {r : Bool} → (k ≡ 0 → ⊥) → r ≡ stringKind (node w k 0) → BaseFits w k r
+  pub base-there : {r : Bool} → (k ≡ 0 → ⊥) → r ≡ stringKind (nodeKind w k) → BaseFits w k r
   base-there {r} z q = record { told = go; fits = fit }
     where
       by-name : (s : List ℕ) (j : Json) → Held s w j k → (b : Bool) → r ≡ b → asStructName j ≡ cond b (asData j) none

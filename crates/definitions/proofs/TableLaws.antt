@@ -15,6 +15,7 @@ use Rattle.grammar.specs.Machine.Schema.{schema}
 use Rattle.grammar.proofs.Booleans.{none-not-some}
 use Rattle.text.specs.Nodes.{next, Holds, HoldsItems}
 use Rattle.text.proofs.KeyLaws.{goes-on}
+use Rattle.rules.specs.Kinds.{union-kind, branch-kind, alternative-kind}
 use Rattle.rules.specs.Definitions.{Name, Data, Body, Definition, asDefinition, definitions}
 use Rattle.rules.specs.Definitions.Data.{absent, inline, named}
 use Rattle.rules.specs.Definitions.Body.{enum, struct, union, alternate, command}
@@ -46,9 +47,9 @@ body-wide : (n : ℕ) (name : Name) (b : Body) → length (bodyRows n name b) �
 body-wide n name (enum vs) = omega (arith, list-wide valueRow (λ x. refl) vs)
 body-wide n name (struct d ms) = omega (arith, list-wide memberRow (λ x. refl) ms)
 body-wide n name (union d tag ps) =
-    let r = row 5 name (dataLink packed packed (λ _ m. packed m) n d) (length ps) (packed tag) 0 in
-    omega (arith, length-append (r ++ inlineRows d) (concat (map (pairRow 6) ps)), length-append r (inlineRows d), inline-wide d, list-wide (pairRow 6) (λ x. refl) ps)
-body-wide n name (alternate ps) = omega (arith, list-wide (pairRow 8) (λ x. refl) ps)
+    let r = row union-kind name (dataLink packed packed (λ _ m. packed m) n d) (length ps) (packed tag) 0 in
+    omega (arith, length-append (r ++ inlineRows d) (concat (map (pairRow branch-kind) ps)), length-append r (inlineRows d), inline-wide d, list-wide (pairRow branch-kind) (λ x. refl) ps)
+body-wide n name (alternate ps) = omega (arith, list-wide (pairRow alternative-kind) (λ x. refl) ps)
 body-wide n name (command d t oob) = omega (arith, inline-wide d)
 
 -- the rows of the definitions of top-level values, from row n on

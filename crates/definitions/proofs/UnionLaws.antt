@@ -9,8 +9,9 @@ use lib.ListN.{length, length-append, length-map}
 use Rattle.grammar.specs.Notation.{text}
 use Rattle.grammar.specs.Tree.{Json}
 use Rattle.grammar.specs.Machine.Schema.{schema}
-use Rattle.text.specs.Nodes.{node}
+use Rattle.text.specs.Nodes.{nodeKind}
 use Rattle.lookups.specs.Lookups.{stringKind, FindsValue}
+use Rattle.rules.specs.Kinds.{union-kind, branch-kind}
 use Rattle.rules.specs.Definitions.{Name, Data, Pair, asName, asPairs, asData, must, may}
 use Rattle.rules.specs.Definitions.{unionBody}
 use Rattle.rules.specs.Definitions.Data.{absent}
@@ -45,7 +46,7 @@ module _ (n : ℕ) (name : Name) where
   union-tagged (some b) tag (some ps) = refl
 
 module _ {s w : List ℕ} {k : ℕ} where
-  tag-named : {r : Bool} → (k ≡ 0 → ⊥) → r ≡ stringKind (node w k 0) → r ≡ true → (o : Option Json) → Found s w o k → (tag : Name) × (must asName o ≡ some tag) × Named w k 0 tag
+  tag-named : {r : Bool} → (k ≡ 0 → ⊥) → r ≡ stringKind (nodeKind w k) → r ≡ true → (o : Option Json) → Found s w o k → (tag : Name) × (must asName o ≡ some tag) × Named w k 0 tag
   tag-named z q e none u = absurd (z (u .found))
   tag-named z q e (some j) u = let x = is-name (held-there u) q e in (x .name, x .is, x .named)
 
@@ -67,7 +68,7 @@ module _ {s w : List ℕ} {k v n b : ℕ} (f : FindsValue schema s w k (text "ba
     pub union-no-tag : t ≡ 0 → (o : Option (List ℕ)) → BodyAt s w unionBody k v n o → o ≡ none
     union-no-tag e o h = untagged o h (ap (must asName) (nowhere (valueAt (text "discriminator") (h .fs)) (found-at (h .fields) g) e))
 
-    module _ {r : Bool} (z : t ≡ 0 → ⊥) (q : r ≡ stringKind (node w t 0)) where
+    module _ {r : Bool} (z : t ≡ 0 → ⊥) (q : r ≡ stringKind (nodeKind w t)) where
       pub union-bad-tag : r ≡ false → (o : Option (List ℕ)) → BodyAt s w unionBody k v n o → o ≡ none
       union-bad-tag e o h = untagged o h (go (valueAt (text "discriminator") (h .fs)) (found-at (h .fields) g))
         where
@@ -95,9 +96,9 @@ module _ {s w : List ℕ} {k v n b : ℕ} (f : FindsValue schema s w k (text "ba
                 ∙ ap (λ (i : Option Data). i >>= λ y. must asPairs branches >>= λ ps. some (bodyRows n (h .name) (union y (x .0) ps))) (base-there m base (found-at (h .fields) f));
           }
 
-same-union : {l c t i j k : ℕ} {rs : List (List ℕ)} (ps : List Pair) (name : Name) (xs : List ℕ) → l ≡ i → c ≡ j → t ≡ k → rs ≡ map (pairRow 6) ps
-    → row 5 name l c t 0 ++ (xs ++ concat rs) ≡ row 5 name i j k 0 ++ xs ++ concat (map (pairRow 6) ps)
-same-union {i = i} {j} {k} ps name xs e f g h = cc (append-assoc (row 5 name i j k 0) xs (concat (map (pairRow 6) ps)))
+same-union : {l c t i j k : ℕ} {rs : List (List ℕ)} (ps : List Pair) (name : Name) (xs : List ℕ) → l ≡ i → c ≡ j → t ≡ k → rs ≡ map (pairRow branch-kind) ps
+    → row 5 name l c t 0 ++ (xs ++ concat rs) ≡ row union-kind name i j k 0 ++ xs ++ concat (map (pairRow branch-kind) ps)
+same-union {i = i} {j} {k} ps name xs e f g h = cc (append-assoc (row union-kind name i j k 0) xs (concat (map (pairRow branch-kind) ps)))
 
 -- the rows of a union, out of what was put
 module _ {s w : List ℕ} {v b t d n : ℕ} {old mid : List ℕ} {next most : ℕ} {r : Put} (h : PutsRows (InlineAt s w b) old mid next most r) where
@@ -107,7 +108,7 @@ module _ {s w : List ℕ} {v b t d n : ℕ} {old mid : List ℕ} {next most : �
   module _ {first : ℕ} (q : r ≡ Rows first) {late : List ℕ} {more : ℕ} {p : Put} (g : PutsRows (ChildrenAt s w 6 d) mid late first more p) where
     pub union-bad-branches : p ≡ Refused → (o : Option (List ℕ)) → UnionAt s w v b t d n o → o ≡ none
     union-bad-branches y o u =
-        let x : must asPairs (u .branches) ≡ none = none-of (map (pairRow 6)) (must asPairs (u .branches)) (sym (must-then (map (pairRow 6)) asPairs (u .branches)) ∙ children-none g (u .branches-found) y) in
+        let x : must asPairs (u .branches) ≡ none = none-of (map (pairRow branch-kind)) (must asPairs (u .branches)) (sym (must-then (map (pairRow branch-kind)) asPairs (u .branches)) ∙ children-none g (u .branches-found) y) in
         u .are
         ∙ ap (λ (i : Option (List Pair)). may absent asData (u .base) >>= λ z. i >>= λ ps. some (bodyRows n (u .name) (union z (u .tag) ps))) x ∙ never (may absent asData (u .base))
 
@@ -116,12 +117,12 @@ module _ {s w : List ℕ} {v b t d n : ℕ} {old mid : List ℕ} {next most : �
     union-put {new} {m} {link} {count} {tag} e y l c z k o u =
         let i = inline-put h (u .base-found) q in
         let x = children-put g (u .branches-found) y in
-        let ps = came-of (map (pairRow 6)) (must asPairs (u .branches)) (sym (must-then (map (pairRow 6)) asPairs (u .branches)) ∙ x .are) in
+        let ps = came-of (map (pairRow branch-kind)) (must asPairs (u .branches)) (sym (must-then (map (pairRow branch-kind)) asPairs (u .branches)) ∙ x .are) in
         let a : link ≡ dataLink packed packed (λ _ j. packed j) n (i .data-is) = l .told s (u .base) (u .base-found) (i .data-is) (i .are) in
-        let f : count ≡ length (ps .0) = c ∙ x .count ∙ ap length (ps .2) ∙ length-map (ps .0) (pairRow 6) in
+        let f : count ≡ length (ps .0) = c ∙ x .count ∙ ap length (ps .2) ∙ length-map (ps .0) (pairRow branch-kind) in
         let j : tag ≡ packed (u .tag) = z .told (u .tag) (u .tagged) in
-        let own : RowPut late new n (row 5 (u .name) link count tag 0) = k .told (u .name) (u .named) in
-        let all : RowPut old new n (row 5 (u .name) link count tag 0 ++ (inlineRows (i .data-is) ++ concat (x .rs))) = put-under (omega arith) (put-after (i .size) (i .put) (x .put)) own in
+        let own : RowPut late new n (row union-kind (u .name) link count tag 0) = k .told (u .name) (u .named) in
+        let all : RowPut old new n (row union-kind (u .name) link count tag 0 ++ (inlineRows (i .data-is) ++ concat (x .rs))) = put-under (omega arith) (put-after (i .size) (i .put) (x .put)) own in
         let same : row 5 (u .name) link count tag 0 ++ (inlineRows (i .data-is) ++ concat (x .rs)) ≡ bodyRows n (u .name) (union (i .data-is) (u .tag) (ps .0)) =
         same-union (ps .0) (u .name) (inlineRows (i .data-is)) a f j (ps .2) in
         record {

@@ -13,6 +13,7 @@ use Rattle.grammar.specs.Keys.{keysOf}
 use Rattle.grammar.specs.Machine.Schema.{schema}
 use Rattle.text.specs.Nodes.{next, HoldsFields}
 use Rattle.text.specs.Keys.{KeyAt}
+use Rattle.rules.specs.Kinds.{enum-kind, value-kind, struct-kind, member-kind, union-kind, alternate-kind, command-kind}
 use Rattle.rules.specs.Definitions.{Name, Member, Pair, Body, Definition, quoted, starred, memberOf, asName, asType, asNames, asMembers, asPairs, asData, must, may, only}
 use Rattle.rules.specs.Definitions.{enumBody, structBody, unionBody, alternateBody, commandBody, asDefinition}
 use Rattle.rules.specs.Definitions.Data.{absent}
@@ -26,10 +27,10 @@ use Rattle.definitions.specs.Places.{Held, Found, Keyed, Named}
 
 -- one child: a value of an enum, a member, a branch (6) or an alternative (8)
 abbrev pub valueRow : Name → List ℕ
-valueRow v = row 2 v 0 0 0 0
+valueRow v = row value-kind v 0 0 0 0
 
 abbrev pub memberRow : Member → List ℕ
-memberRow m = row 4 (m .name) (typeOf packed packed (λ _ n. packed n) (m .type)) (flag (isList (m .type))) (flag (m .optional)) 0
+memberRow m = row member-kind (m .name) (typeOf packed packed (λ _ n. packed n) (m .type)) (flag (isList (m .type))) (flag (m .optional)) 0
 
 abbrev pub pairRow : ℕ → Pair → List ℕ
 pairRow kind p = row kind (p .name) (packed (p .type)) 0 0 0
@@ -37,8 +38,8 @@ pairRow kind p = row kind (p .name) (packed (p .type)) 0 0 0
 -- the children that a value lists, by the kind of their rows
 abbrev pub childRows : ℕ → Json → Option (List (List ℕ))
 childRows kind j =
-    cond (eqb kind 2) (asNames j >>= λ vs. some (map valueRow vs))
-    (cond (eqb kind 4) (asMembers j >>= λ ms. some (map memberRow ms)) (asPairs j >>= λ ps. some (map (pairRow kind) ps)))
+    cond (eqb kind value-kind) (asNames j >>= λ vs. some (map valueRow vs))
+    (cond (eqb kind member-kind) (asMembers j >>= λ ms. some (map memberRow ms)) (asPairs j >>= λ ps. some (map (pairRow kind) ps)))
 
 pub record ValueAt (s w : List ℕ) (a : ℕ) (o : Option (List ℕ)) : Type 0 where
   pub value : Json
@@ -61,9 +62,9 @@ abbrev pub pairField : ℕ → ℕ → ℕ → List ℕ → Json → Option (Lis
 pairField kind x e key j = asName j >>= λ t. some (pairRow kind (record { name = quoted x e; type = t }))
 
 pub data ChildAt (s w : List ℕ) (kind a : ℕ) (o : Option (List ℕ)) : Type 0 where
-  value : kind ≡ 2 → ValueAt s w a o → ChildAt s w kind a o
-  member : kind ≡ 4 → FieldAt s w memberField a o → ChildAt s w kind a o
-  pair : (kind ≡ 2 → ⊥) → (kind ≡ 4 → ⊥) → FieldAt s w (pairField kind) a o → ChildAt s w kind a o
+  value : kind ≡ value-kind → ValueAt s w a o → ChildAt s w kind a o
+  member : kind ≡ member-kind → FieldAt s w memberField a o → ChildAt s w kind a o
+  pair : (kind ≡ value-kind → ⊥) → (kind ≡ member-kind → ⊥) → FieldAt s w (pairField kind) a o → ChildAt s w kind a o
 
 -- the children that the value at node k lists
 pub record ChildrenAt (s w : List ℕ) (kind k : ℕ) (o : Option (List ℕ)) : Type 0 where
@@ -132,11 +133,11 @@ pub record CommandAt (s w : List ℕ) (v d n oob place list : ℕ) (o : Option (
   pub found : Found s w value d
   pub name : Name
   pub named : Named w v 0 name
-  pub are : o ≡ (may absent asData value >>= λ x. some (row 9 name (dataLink packed packed (λ _ m. packed m) n x) oob place list ++ inlineStruct packed packed (λ _ m. packed m) x))
+  pub are : o ≡ (may absent asData value >>= λ x. some (row command-kind name (dataLink packed packed (λ _ m. packed m) n x) oob place list ++ inlineStruct packed packed (λ _ m. packed m) x))
 
 -- a kind's keys, the kind key first, and what they say
 abbrev pub byKind : {A : Type 0} → ℕ → A → A → A → A → A → A
-byKind kind e t u a c = cond (eqb kind 1) e (cond (eqb kind 3) t (cond (eqb kind 5) u (cond (eqb kind 7) a c)))
+byKind kind e t u a c = cond (eqb kind enum-kind) e (cond (eqb kind struct-kind) t (cond (eqb kind union-kind) u (cond (eqb kind alternate-kind) a c)))
 
 abbrev pub keysFor : ℕ → List (List ℕ)
 keysFor kind =

@@ -10,7 +10,7 @@ use Rattle.grammar.specs.Tree.{Json}
 use Rattle.grammar.specs.Machine.Schema.{schema}
 use Rattle.strings.specs.Strings.{Means}
 use Rattle.tokens.specs.Tokens.{keyNode}
-use Rattle.text.specs.Nodes.{node, Node, Holds}
+use Rattle.text.specs.Nodes.{node, Node, Holds, nodeEnd, nodeStart}
 use Rattle.lookups.specs.Lookups.{ValueFound}
 use Rattle.rules.specs.Definitions.{Name, TypeText, Data, quoted, starred, listType, asType, asData, asStructName, may}
 use Rattle.rules.specs.Definitions.TypeText.{nothing, one, listOf}
@@ -44,7 +44,7 @@ pub record Keyed (s w : List ℕ) (a x e : ℕ) (key : List ℕ) : Type 0 where
 
 -- the string or key at node k, but for its quotes and `skip` bytes after the first, is this name
 pub record Named (w : List ℕ) (k skip : ℕ) (n : Name) : Type 0 where
-  pub is : n ≡ quoted (node w k 1 + skip) (node w k 2)
+  pub is : n ≡ quoted (nodeStart w k + skip) (nodeEnd w k)
   pub within : n .start + n .size ≤ schema-bytes
 
 -- a word about that name

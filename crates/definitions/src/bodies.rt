@@ -15,6 +15,7 @@ use crate::values::name_start;
 use crate::values::name_word;
 use lookups::values::is_string;
 use lookups::values::value_at;
+use rules::kind;
 ghost use Prim.Native.Nat.{_^_, _<_};
 ghost use Rattle.rules.specs.Definitions.{structBody, unionBody, commandBody};
 ghost use Rattle.definitions.specs.Written.{PutsRows};
@@ -49,7 +50,7 @@ pub fn put_struct(s: &[u8], nodes: &[u32], k: usize, v: usize, rows: &mut [u32],
         return Put::Refused;
     }
     let link = data_link(nodes, b, n);
-    put_list(s, nodes, k, v, rows, n, 3, link)
+    put_list(s, nodes, k, v, rows, n, kind::STRUCT, link)
 }
 
 // The rows of a union whose base, discriminator and branches stand at nodes b, t and d.
@@ -70,14 +71,14 @@ fn put_union_rows(
     let Put::Rows(first) = p else {
         return Put::Refused;
     };
-    let q = put_children(s, nodes, d, 6, rows, first);
+    let q = put_children(s, nodes, d, kind::BRANCH, rows, first);
     let Put::Rows(m) = q else {
         return Put::Refused;
     };
     let count = (m - first) as u32;
     let link = data_link(nodes, b, n);
     let tag = name_word(nodes, t);
-    put_named_row(nodes, v, 0, rows, n, 5, link, count, tag, 0);
+    put_named_row(nodes, v, 0, rows, n, kind::UNION, link, count, tag, 0);
     Put::Rows(m)
 }
 
@@ -120,7 +121,7 @@ fn put_command_rows(
         return Put::Refused;
     };
     let link = data_link(nodes, d, n);
-    put_named_row(nodes, v, 0, rows, n, 9, link, oob, place, list);
+    put_named_row(nodes, v, 0, rows, n, kind::COMMAND, link, oob, place, list);
     Put::Rows(m)
 }
 

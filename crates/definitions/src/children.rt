@@ -8,7 +8,11 @@ use crate::values::name_word;
 use crate::values::star;
 use crate::values::wide;
 use lookups::values::is_string;
+use rules::kind;
+use text::nodes::NODE_KIND;
+use text::nodes::NODE_NEXT;
 use text::nodes::node_word;
+use tokens::node;
 ghost use Prim.Native.Nat.{ℕ, _^_, _<_};
 ghost use mathlib.Core.List.{List};
 ghost use mathlib.Core.Path.{_≡_};
@@ -25,7 +29,7 @@ fn put_value(nodes: &[u32], a: usize, rows: &mut [u32], n: usize) -> Put
     if !is_string(nodes, a) {
         return Put::Refused;
     }
-    put_named_row(nodes, a, 0, rows, n, 2, 0, 0, 0, 0);
+    put_named_row(nodes, a, 0, rows, n, kind::VALUE, 0, 0, 0, 0);
     Put::Rows(n + 1)
 }
 
@@ -39,7 +43,18 @@ fn put_member(s: &[u8], nodes: &[u32], a: usize, rows: &mut [u32], n: usize) -> 
         return Put::Refused;
     };
     let optional = star(s, nodes, a);
-    put_named_row(nodes, a, optional, rows, n, 4, place, list, optional, 0);
+    put_named_row(
+        nodes,
+        a,
+        optional,
+        rows,
+        n,
+        kind::MEMBER,
+        place,
+        list,
+        optional,
+        0,
+    );
     Put::Rows(n + 1)
 }
 
@@ -62,8 +77,8 @@ fn put_child(s: &[u8], nodes: &[u32], a: usize, kind: u32, rows: &mut [u32], n: 
     ensures { λ r. ⌜ PutsRows (ChildAt (now (s .entry)) (now (nodes .entry)) kind a) (now (rows .entry)) (now (rows .exit)) n 1 r ⌝ }
 {
     match kind {
-        2 => put_value(nodes, a, rows, n),
-        4 => put_member(s, nodes, a, rows, n),
+        kind::VALUE => put_value(nodes, a, rows, n),
+        kind::MEMBER => put_member(s, nodes, a, rows, n),
         _ => put_pair(nodes, a, kind, rows, n),
     }
 }
@@ -72,10 +87,10 @@ fn put_child(s: &[u8], nodes: &[u32], a: usize, kind: u32, rows: &mut [u32], n: 
 fn list_kind(kind: u32) -> u32
     ensures { λ r. ⌜ r ≡ cond (eqb kind 2) 8 9 ⌝ }
 {
-    if kind == 2 {
-        return 8;
+    if kind == kind::VALUE {
+        return node::ARRAY;
     }
-    9
+    node::OBJECT
 }
 
 // The children that the value at node k lists, from row n on; there must be one.
@@ -86,10 +101,10 @@ pub fn put_children(s: &[u8], nodes: &[u32], k: usize, kind: u32, rows: &mut [u3
     if k == 0 {
         return Put::Refused;
     }
-    if node_word(nodes, k, 0) != list_kind(kind) {
+    if node_word(nodes, k, NODE_KIND) != list_kind(kind) {
         return Put::Refused;
     }
-    let end = wide(node_word(nodes, k, 3));
+    let end = wide(node_word(nodes, k, NODE_NEXT));
     if end <= k {
         return Put::Refused;
     }
@@ -100,7 +115,7 @@ pub fn put_children(s: &[u8], nodes: &[u32], k: usize, kind: u32, rows: &mut [u3
         let Put::Rows(more) = p else {
             return Put::Refused;
         };
-        let next = wide(node_word(nodes, a, 3));
+        let next = wide(node_word(nodes, a, NODE_NEXT));
         if next <= a {
             return Put::Refused;
         }
@@ -146,5 +161,5 @@ pub fn put_inline(s: &[u8], nodes: &[u32], k: usize, rows: &mut [u32], n: usize)
     if is_string(nodes, k) {
         return Put::Rows(n);
     }
-    put_counted(s, nodes, k, rows, n, 3, 0, 0, 0)
+    put_counted(s, nodes, k, rows, n, kind::STRUCT, 0, 0, 0)
 }

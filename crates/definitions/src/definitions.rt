@@ -7,8 +7,12 @@ use crate::keys::only_keys;
 use crate::rows::Put;
 use lookups::values::is_string;
 use lookups::values::value_at;
+use rules::kind;
+use text::nodes::NODE_KIND;
+use text::nodes::NODE_NEXT;
 use text::nodes::node_number;
 use text::nodes::node_word;
+use tokens::node;
 ghost use Prim.Native.Nat.{_^_, _<_};
 ghost use Rattle.definitions.specs.Puts.{PutsDefinitions};
 ghost use Rattle.definitions.specs.Written.{PutsRows};
@@ -26,23 +30,23 @@ fn kind_key(s: &[u8], nodes: &[u32], k: usize) -> KindKey
 {
     let e = value_at(s, true, nodes, k, b"enum");
     if e != 0 {
-        return KindKey::Key(1, e);
+        return KindKey::Key(kind::ENUM, e);
     }
     let t = value_at(s, true, nodes, k, b"struct");
     if t != 0 {
-        return KindKey::Key(3, t);
+        return KindKey::Key(kind::STRUCT, t);
     }
     let u = value_at(s, true, nodes, k, b"union");
     if u != 0 {
-        return KindKey::Key(5, u);
+        return KindKey::Key(kind::UNION, u);
     }
     let a = value_at(s, true, nodes, k, b"alternate");
     if a != 0 {
-        return KindKey::Key(7, a);
+        return KindKey::Key(kind::ALTERNATE, a);
     }
     let c = value_at(s, true, nodes, k, b"command");
     if c != 0 {
-        return KindKey::Key(9, c);
+        return KindKey::Key(kind::COMMAND, c);
     }
     KindKey::NoKey
 }
@@ -61,10 +65,10 @@ fn put_body(
     ensures { λ r. ⌜ PutsRows (BodyAt (now (s .entry)) (now (nodes .entry)) (bodyFor kind) k v n) (now (rows .entry)) (now (rows .exit)) n (2 ^ 34) r ⌝ }
 {
     match kind {
-        1 => put_list(s, nodes, k, v, rows, n, 1, 0),
-        3 => put_struct(s, nodes, k, v, rows, n),
-        5 => put_union(s, nodes, k, v, rows, n),
-        7 => put_list(s, nodes, k, v, rows, n, 7, 0),
+        kind::ENUM => put_list(s, nodes, k, v, rows, n, kind::ENUM, 0),
+        kind::STRUCT => put_struct(s, nodes, k, v, rows, n),
+        kind::UNION => put_union(s, nodes, k, v, rows, n),
+        kind::ALTERNATE => put_list(s, nodes, k, v, rows, n, kind::ALTERNATE, 0),
         _ => put_command(s, nodes, k, v, rows, n),
     }
 }
@@ -96,7 +100,7 @@ fn put_definition(s: &[u8], nodes: &[u32], k: usize, rows: &mut [u32], n: usize)
     requires { ⌜ n < 2 ^ 31 ⌝ }
     ensures { λ r. ⌜ PutsRows (DefinitionAt (now (s .entry)) (now (nodes .entry)) k n) (now (rows .entry)) (now (rows .exit)) n (2 ^ 34) r ⌝ }
 {
-    if node_word(nodes, k, 0) != 9 {
+    if node_word(nodes, k, NODE_KIND) != node::OBJECT {
         return Put::Refused;
     }
     let key = kind_key(s, nodes, k);
@@ -118,7 +122,7 @@ pub fn put_definitions(s: &[u8], nodes: &[u32], count: usize, rows: &mut [u32]) 
         let Put::Rows(m) = p else {
             return Put::Refused;
         };
-        let next = node_number(nodes, k, 3);
+        let next = node_number(nodes, k, NODE_NEXT);
         if next <= k {
             return Put::Refused;
         }

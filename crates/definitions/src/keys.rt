@@ -1,5 +1,7 @@
 // The keys that each kind of definition may have.
 use lookups::values::node_means;
+use rules::kind;
+use text::nodes::NODE_NEXT;
 use text::nodes::node_number;
 ghost use mathlib.Core.List.{_∷_, []};
 ghost use Rattle.definitions.specs.Parts.{keysFor, KeyIn, OnlyKeys};
@@ -38,10 +40,10 @@ fn is_key(s: &[u8], nodes: &[u32], a: usize, kind: u32) -> bool
     ensures { λ r. ⌜ KeyIn (now (s .entry)) (now (nodes .entry)) (keysFor kind) a r ⌝ }
 {
     match kind {
-        1 => is_either(s, nodes, a, b"enum", b"data"),
-        3 => struct_key(s, nodes, a),
-        5 => is_one_of_four(s, nodes, a, b"union", b"base", b"discriminator", b"data"),
-        7 => is_either(s, nodes, a, b"alternate", b"data"),
+        kind::ENUM => is_either(s, nodes, a, b"enum", b"data"),
+        kind::STRUCT => struct_key(s, nodes, a),
+        kind::UNION => is_one_of_four(s, nodes, a, b"union", b"base", b"discriminator", b"data"),
+        kind::ALTERNATE => is_either(s, nodes, a, b"alternate", b"data"),
         _ => is_one_of_four(s, nodes, a, b"command", b"data", b"returns", b"allow-oob"),
     }
 }
@@ -50,7 +52,7 @@ fn is_key(s: &[u8], nodes: &[u32], a: usize, kind: u32) -> bool
 pub fn only_keys(s: &[u8], nodes: &[u32], k: usize, kind: u32) -> bool
     ensures { λ r. ⌜ OnlyKeys (now (s .entry)) (now (nodes .entry)) (keysFor kind) k r ⌝ }
 {
-    let end = node_number(nodes, k, 3);
+    let end = node_number(nodes, k, NODE_NEXT);
     if end <= k {
         return true;
     }
@@ -59,7 +61,7 @@ pub fn only_keys(s: &[u8], nodes: &[u32], k: usize, kind: u32) -> bool
         if !is_key(s, nodes, a, kind) {
             return false;
         }
-        let n = node_number(nodes, a, 3);
+        let n = node_number(nodes, a, NODE_NEXT);
         if n <= a {
             return true;
         }

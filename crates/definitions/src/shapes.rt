@@ -1,8 +1,11 @@
 // The shapes of values: a type, a flag, a base or data.
 use crate::values::name_word;
 use lookups::values::is_string;
+use text::nodes::NODE_KIND;
+use text::nodes::NODE_NEXT;
 use text::nodes::node_number;
 use text::nodes::node_word;
+use tokens::node;
 ghost use Prim.Native.Nat.{_^_, _<_};
 ghost use Rattle.definitions.specs.Places.{ReadsList, ReadsType, TakesType, TakesReturn, TakesFlag, Links, BaseFits};
 
@@ -17,10 +20,10 @@ pub enum TypeText {
 fn list_type(nodes: &[u32], k: usize) -> TypeText
     ensures { λ r. ⌜ ReadsList (now (nodes .entry)) k r ⌝ }
 {
-    if node_word(nodes, k, 0) != 8 {
+    if node_word(nodes, k, NODE_KIND) != node::ARRAY {
         return TypeText::Other;
     }
-    let end = node_number(nodes, k, 3);
+    let end = node_number(nodes, k, NODE_NEXT);
     if end <= k {
         return TypeText::Other;
     }
@@ -85,10 +88,10 @@ pub fn take_flag(nodes: &[u32], k: usize) -> FlagRead
     if k == 0 {
         return FlagRead::Flag(0);
     }
-    let kind = node_word(nodes, k, 0);
+    let kind = node_word(nodes, k, NODE_KIND);
     match kind {
-        2 => FlagRead::Flag(0),
-        3 => FlagRead::Flag(1),
+        node::FALSE => FlagRead::Flag(0),
+        node::TRUE => FlagRead::Flag(1),
         _ => FlagRead::Refused,
     }
 }

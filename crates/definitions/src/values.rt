@@ -1,5 +1,7 @@
 // Names as they stand in the nodes, as words of rows. Any node may be asked.
 use rules::SCHEMA_BYTES;
+use text::nodes::NODE_END;
+use text::nodes::NODE_START;
 use text::nodes::node_word;
 use text::reader::stands;
 ghost use mathlib.Core.Path.{_≡_};
@@ -27,7 +29,7 @@ fn narrow(x: usize) -> u32
 pub fn name_start(nodes: &[u32], k: usize, skip: u32) -> u32
     ensures { λ r. ⌜ NameWord (now (nodes .entry)) k skip (λ n. n .start) r ⌝ }
 {
-    let a = wide(node_word(nodes, k, 1)) + wide(skip);
+    let a = wide(node_word(nodes, k, NODE_START)) + wide(skip);
     narrow(a + 1)
 }
 
@@ -35,8 +37,8 @@ pub fn name_start(nodes: &[u32], k: usize, skip: u32) -> u32
 pub fn name_size(nodes: &[u32], k: usize, skip: u32) -> u32
     ensures { λ r. ⌜ NameWord (now (nodes .entry)) k skip (λ n. n .size) r ⌝ }
 {
-    let a = wide(node_word(nodes, k, 1)) + wide(skip) + 2;
-    let e = wide(node_word(nodes, k, 2));
+    let a = wide(node_word(nodes, k, NODE_START)) + wide(skip) + 2;
+    let e = wide(node_word(nodes, k, NODE_END));
     if e < a {
         return 0;
     }
@@ -56,7 +58,7 @@ pub fn name_word(nodes: &[u32], k: usize) -> u32
 pub fn star(s: &[u8], nodes: &[u32], a: usize) -> u32
     ensures { λ r. ⌜ Star (now (s .entry)) (now (nodes .entry)) a r ⌝ }
 {
-    let i = wide(node_word(nodes, a, 1)) + 1;
+    let i = wide(node_word(nodes, a, NODE_START)) + 1;
     if stands(s, i, b'*') {
         return 1;
     }

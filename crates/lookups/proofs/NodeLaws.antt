@@ -13,8 +13,9 @@ use Rattle.grammar.specs.Machine.{Dialect}
 use Rattle.rules.specs.Types.{sameKind}
 use Rattle.strings.specs.Strings.{plainString, Means}
 use Rattle.strings.specs.Meanings.{MeansName}
+use Rattle.tokens.specs.NodeKinds.{plain-string-node, other-string-node, plain-key-node, other-key-node}
 use Rattle.tokens.specs.Tokens.{scalarNode, keyNode}
-use Rattle.text.specs.Nodes.{node, Node, Holds}
+use Rattle.text.specs.Nodes.{node, Node, Holds, nodeEnd, nodeKind, nodeStart}
 use Rattle.text.specs.Keys.{KeyAt}
 use Rattle.lookups.specs.Lookups.{stringKind, plainKind, NodeMeans}
 
@@ -26,32 +27,32 @@ scalar-string s a e (num true t) = refl
 scalar-string s a e (num false t) = refl
 scalar-string s a e (str cs) = go (plainString s a e)
   where
-    go : (b : Bool) → stringKind (cond b 6 7) ≡ true
+    go : (b : Bool) → stringKind (cond b plain-string-node other-string-node) ≡ true
     go true = refl
     go false = refl
 
 module _ (D : Dialect) (s w : List ℕ) where
   -- a value is a string exactly when its node's kind says so
-  pub string-node : (j : Json) (l k : ℕ) → Holds D s w j l k → stringKind (node w k 0) ≡ sameKind (kindOf j) string
+  pub string-node : (j : Json) (l k : ℕ) → Holds D s w j l k → stringKind (nodeKind w k) ≡ sameKind (kindOf j) string
   string-node (leaf a e v) l k h = ap stringKind (h .0 .has-kind) ∙ scalar-string s a e v
   string-node (arr a e js) l k h = ap stringKind (h .0 .has-kind)
   string-node (obj a e fs) l k h = ap stringKind (h .0 .has-kind)
 
-  plain-string : (a e : ℕ) → plainKind (cond (plainString s a e) 6 7) ≡ true → plainString s a e ≡ true
+  plain-string : (a e : ℕ) → plainKind (cond (plainString s a e) plain-string-node other-string-node) ≡ true → plainString s a e ≡ true
   plain-string a e t = go (plainString s a e) t
     where
-      go : (b : Bool) → plainKind (cond b 6 7) ≡ true → b ≡ true
+      go : (b : Bool) → plainKind (cond b plain-string-node other-string-node) ≡ true → b ≡ true
       go true q = refl
       go false q = q
 
   plain-key : (a e : ℕ) → plainKind (keyNode s a e) ≡ true → plainString s a e ≡ true
   plain-key a e t = go (plainString s a e) t
     where
-      go : (b : Bool) → plainKind (cond b 10 11) ≡ true → b ≡ true
+      go : (b : Bool) → plainKind (cond b plain-key-node other-key-node) ≡ true → b ≡ true
       go true q = refl
       go false q = q
 
-  module _ {k a e : ℕ} {plain r : Bool} {name : List ℕ} (pa : a ≡ node w k 1) (pe : e ≡ node w k 2) (pp : plain ≡ plainKind (node w k 0)) (h : MeansName D s a e plain name r) where
+  module _ {k a e : ℕ} {plain r : Bool} {name : List ℕ} (pa : a ≡ nodeStart w k) (pe : e ≡ nodeEnd w k) (pp : plain ≡ plainKind (nodeKind w k)) (h : MeansName D s a e plain name r) where
     -- the token from x to y whose node this is
     token-means : (x y kind : ℕ) (cs : List ℕ) → Node w k kind x y → Means D s x y cs → (plainKind kind ≡ true → plainString s x y ≡ true) → r ≡ same cs name
     token-means x y kind cs n m p =

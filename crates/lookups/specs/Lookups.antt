@@ -14,13 +14,14 @@ use Rattle.grammar.specs.Machine.{Dialect}
 use Rattle.rules.specs.Values.{valueAt, anyOf}
 use Rattle.text.specs.Nodes.{next, Holds, HoldsFields}
 use Rattle.text.specs.Keys.{KeyAt}
+use Rattle.tokens.specs.NodeKinds.{plain-string-node, other-string-node, plain-key-node}
 
 -- a node's kind is that of a string; that of a string or a key whose bytes are its code points
 abbrev pub stringKind : ℕ → Bool
-stringKind k = eqb k 6 || eqb k 7
+stringKind k = eqb k plain-string-node || eqb k other-string-node
 
 abbrev pub plainKind : ℕ → Bool
-plainKind k = eqb k 6 || eqb k 10
+plainKind k = eqb k plain-string-node || eqb k plain-key-node
 
 -- the key or the string at node k means a name
 pub record NodeMeans (D : Dialect) (s w : List ℕ) (k : ℕ) (name : List ℕ) (r : Bool) : Type 0 where

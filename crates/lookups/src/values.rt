@@ -1,7 +1,12 @@
 // Strings, keys, and the value under a key. Any node may be asked.
 use strings::meanings::means;
+use text::nodes::NODE_END;
+use text::nodes::NODE_KIND;
+use text::nodes::NODE_NEXT;
+use text::nodes::NODE_START;
 use text::nodes::node_number;
 use text::nodes::node_word;
+use tokens::node;
 ghost use mathlib.Core.Path.{_≡_};
 ghost use Rattle.strings.specs.Strings.{dialect};
 ghost use Rattle.text.specs.Nodes.{node};
@@ -11,8 +16,8 @@ fn string_kind(kind: u32) -> bool
     ensures { λ r. ⌜ r ≡ stringKind kind ⌝ }
 {
     match kind {
-        6 => true,
-        7 => true,
+        node::PLAIN_STRING => true,
+        node::OTHER_STRING => true,
         _ => false,
     }
 }
@@ -22,8 +27,8 @@ pub fn plain_kind(kind: u32) -> bool
     ensures { λ r. ⌜ r ≡ plainKind kind ⌝ }
 {
     match kind {
-        6 => true,
-        10 => true,
+        node::PLAIN_STRING => true,
+        node::PLAIN_KEY => true,
         _ => false,
     }
 }
@@ -32,16 +37,16 @@ pub fn plain_kind(kind: u32) -> bool
 pub fn is_string(nodes: &[u32], k: usize) -> bool
     ensures { λ r. ⌜ r ≡ stringKind (node (now (nodes .entry)) k 0) ⌝ }
 {
-    string_kind(node_word(nodes, k, 0))
+    string_kind(node_word(nodes, k, NODE_KIND))
 }
 
 // Whether the string or key at node k means the bytes `name`.
 pub fn node_means(s: &[u8], schema: bool, nodes: &[u32], k: usize, name: &[u8]) -> bool
     ensures { λ r. ⌜ NodeMeans (dialect schema) (now (s .entry)) (now (nodes .entry)) k (now (name .entry)) r ⌝ }
 {
-    let a = node_number(nodes, k, 1);
-    let e = node_number(nodes, k, 2);
-    let plain = plain_kind(node_word(nodes, k, 0));
+    let a = node_number(nodes, k, NODE_START);
+    let e = node_number(nodes, k, NODE_END);
+    let plain = plain_kind(node_word(nodes, k, NODE_KIND));
     means(s, schema, a, e, plain, name)
 }
 
@@ -49,7 +54,7 @@ pub fn node_means(s: &[u8], schema: bool, nodes: &[u32], k: usize, name: &[u8]) 
 pub fn value_at(s: &[u8], schema: bool, nodes: &[u32], k: usize, name: &[u8]) -> usize
     ensures { λ r. ⌜ FindsValue (dialect schema) (now (s .entry)) (now (nodes .entry)) k (now (name .entry)) r ⌝ }
 {
-    let end = node_number(nodes, k, 3);
+    let end = node_number(nodes, k, NODE_NEXT);
     if end <= k {
         return 0;
     }
@@ -58,7 +63,7 @@ pub fn value_at(s: &[u8], schema: bool, nodes: &[u32], k: usize, name: &[u8]) ->
         if node_means(s, schema, nodes, a, name) {
             return a + 1;
         }
-        let n = node_number(nodes, a, 3);
+        let n = node_number(nodes, a, NODE_NEXT);
         if n <= a {
             return 0;
         }

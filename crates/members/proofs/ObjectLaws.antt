@@ -14,6 +14,7 @@ use Rattle.grammar.specs.Tree.Scalar.{null, bool, num, str}
 use Rattle.grammar.specs.Tree.Json.{leaf, arr, obj}
 use Rattle.grammar.specs.Tree.Kind.{string}
 use Rattle.grammar.specs.Machine.Message.{message}
+use Rattle.rules.specs.Kinds.{struct-kind, union-kind}
 use Rattle.rules.specs.Types.{sameKind}
 use Rattle.rules.specs.Values.{asString, valueAt}
 use Rattle.rules.specs.Rows.{kind, unionBase, discriminator, branchStruct, children, members, nameOf}
@@ -24,7 +25,7 @@ use Rattle.rules.proofs.Lists.{clash}
 use Rattle.rules.proofs.Lookups.{member-found}
 use Rattle.rules.proofs.SoundFacts.{sound-facts}
 use Rattle.rules.proofs.ReadingParts.{members-struct, members-union}
-use Rattle.text.specs.Nodes.{node, Holds}
+use Rattle.text.specs.Nodes.{Holds, nodeKind}
 use Rattle.lookups.specs.Lookups.{stringKind, ValueFound, FindsValue}
 use Rattle.lookups.proofs.NodeLaws.{string-node}
 use Rattle.members.specs.Members.{FieldsAt, BothThere, BranchTold, BranchOf, TwoStructs, StructsTold, StructsAt, ObjectTold, ObjectAt}
@@ -62,7 +63,7 @@ module _ (S T m w ix : List ℕ) (r : ℕ) {k v tag link : ℕ} {name : List ℕ
       go l none q = refl
       go l (some j) q = absurd (omega (arith, q .0))
 
-  module _ {t : Bool} (i : t ≡ stringKind (node w v 0)) where
+  module _ {t : Bool} (i : t ≡ stringKind (nodeKind w v)) where
     pub branch-other : t ≡ false → BranchOf S T m w ix r k Neither
     branch-other f = record { told = λ fs h e u. by-value (λ x. x ≡ none) fs u (go (u .levels)) }
       where
@@ -134,7 +135,7 @@ module _ (S T m w : List ℕ) {ix : List ℕ} {k t : ℕ} where
   structs-below h = record { told = λ fs o u. rw (lt-ltb t first-row h) }
 
   module _ (h : 16 ≤ t) {r y : ℕ} (p : r ≡ t - 16) (q : y ≡ kind T r) where
-    pub structs-struct : y ≡ 3 → {l : ℕ} → l ≡ t - 16 + 1 → StructsAt S T m w ix k t (Two l 0)
+    pub structs-struct : y ≡ struct-kind → {l : ℕ} → l ≡ t - 16 + 1 → StructsAt S T m w ix k t (Two l 0)
     structs-struct e {l} z = record {
       told = λ fs o u.
           let n : l ≡ suc r = omega arith in
@@ -149,7 +150,7 @@ module _ (S T m w : List ℕ) {ix : List ℕ} {k t : ℕ} where
           };
     }
 
-    pub structs-union : y ≡ 5 → {x : Structs} → BranchOf S T m w ix r k x → StructsAt S T m w ix k t x
+    pub structs-union : y ≡ union-kind → {x : Structs} → BranchOf S T m w ix r k x → StructsAt S T m w ix k t x
     structs-union e {x} g = record { told = λ fs o u. go x fs o (g .told fs o (sym q ∙ e) u) }
       where
         base-has : Given S T ix → Has T (unionBase T r)
@@ -168,7 +169,7 @@ module _ (S T m w : List ℕ) {ix : List ℕ} {k t : ℕ} where
             }
         go Neither fs o d = members-union S T t r fs (omega arith) (sym q ∙ e) ∙ ap₂ append (base-has o .are) d
 
-    pub structs-other : (y ≡ 3 → ⊥) → (y ≡ 5 → ⊥) → StructsAt S T m w ix k t Neither
+    pub structs-other : (y ≡ struct-kind → ⊥) → (y ≡ union-kind → ⊥) → StructsAt S T m w ix k t Neither
     unfolding membersAt
     structs-other e f = record { told = λ fs o u. rw (le-ltb t first-row h, ← p, ← q, ne-eqb y 3 e, ne-eqb y 5 f) }
 

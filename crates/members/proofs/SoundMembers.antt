@@ -8,6 +8,7 @@ use mathlib.Core.Option.{some}
 use native.Mathlib.Omega.{arith}
 use borrow.Author.Tests.{eq-eqb}
 use Rattle.grammar.specs.Limits.{chain-structs}
+use Rattle.rules.specs.Kinds.{struct-kind}
 use Rattle.rules.specs.Rows.{upFrom, rowCount, kind, isStruct, members}
 use Rattle.rules.specs.Rules.{goodChains, chainFits}
 use Rattle.rules.specs.Sound.{sound}
@@ -22,16 +23,16 @@ pub record Has (T : List ℕ) (l : ℕ) : Type 0 where
   pub are : members T chain-structs l ≡ some rows
 
 module _ (S T : List ℕ) (h : sound S T ≡ true) where
-  chain-fits : (r : ℕ) → kind T r ≡ 3 → chainFits S T r ≡ true
+  chain-fits : (r : ℕ) → kind T r ≡ struct-kind → chainFits S T r ≡ true
   unfolding sound goodChains
   chain-fits r k =
       let l : r < rowCount T = sound-facts S T h .row-there r (omega arith) in
       or-implies (isStruct T r) (chainFits S T r)
       (all-true (λ x. not (isStruct T x) || chainFits S T x) (upFrom 0 (rowCount T)) (search (and-left, and-right) depth 13) r
       (in-upFrom (rowCount T) 0 r zero-le (omega arith)))
-      (eq-eqb (kind T r) 3 k)
+      (eq-eqb (kind T r) struct-kind k)
 
-  pub struct-has : (r : ℕ) → kind T r ≡ 3 → Has T (suc r)
+  pub struct-has : (r : ℕ) → kind T r ≡ struct-kind → Has T (suc r)
   struct-has r k =
       let c = chain-within T S r (chain-fits r k) in
       let m = members-of-chain T chain-structs (suc r) (c .structs) (c .chain) (c .few) in

@@ -9,6 +9,7 @@ use Rattle.grammar.specs.Tree.{Fields}
 use Rattle.grammar.specs.Notation.{same, apart}
 use Rattle.grammar.specs.Keys.{keysOf}
 use Rattle.grammar.specs.Machine.Message.{message}
+use Rattle.rules.specs.Kinds.{union-kind}
 use Rattle.rules.specs.Values.{valueAt}
 use Rattle.rules.specs.Rows.{kind, unionBase, discriminator, members, nameOf}
 use Rattle.rules.specs.Rules.{is, namesOf}
@@ -51,7 +52,7 @@ BranchTold S T r fs (Two b c) = (b ≡ unionBase T r) × BranchFound S T r c fs
 BranchTold S T r fs Neither = chosen S T r (valueAt (nameOf S T (discriminator T r - 1)) fs) ≡ none
 
 pub record BranchOf (S T m w ix : List ℕ) (r k : ℕ) (x : Structs) : Type 0 where
-  pub told : (fs : Fields) → Given S T ix → kind T r ≡ 5 → FieldsAt m w k fs → BranchTold S T r fs x
+  pub told : (fs : Fields) → Given S T ix → kind T r ≡ union-kind → FieldsAt m w k fs → BranchTold S T r fs x
 
 -- the members at the type reference t are those of the structs with links b and c, or there are none
 pub record TwoStructs (S T : List ℕ) (t b c : ℕ) (fs : Fields) : Type 0 where

@@ -3,6 +3,7 @@ use children::children::child_meant;
 use rows::rows::wide;
 use rows::rows::word;
 use rules::CHAIN_STRUCTS;
+use rules::row;
 ghost use Rattle.members.specs.Members.{MemberMeant, FieldMember};
 
 // The link of the member that the key at node k means, of the struct with a link: an inherited one first; 0 if there is none.
@@ -25,7 +26,16 @@ fn member_meant(
         return 0;
     }
     let r = wide(link - 1);
-    let inherited = member_meant(schema, rows, m, nodes, index, word(rows, r, 4), left - 1, k);
+    let inherited = member_meant(
+        schema,
+        rows,
+        m,
+        nodes,
+        index,
+        word(rows, r, row::BASE),
+        left - 1,
+        k,
+    );
     if inherited != 0 {
         return inherited;
     }

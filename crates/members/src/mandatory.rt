@@ -5,6 +5,8 @@ use children::children::own_mandatory;
 use rows::rows::wide;
 use rows::rows::word;
 use rules::CHAIN_STRUCTS;
+use rules::row;
+use text::nodes::NODE_NEXT;
 use text::nodes::node_number;
 ghost use Prim.Native.Nat.{suc, _≤_};
 ghost use Rattle.grammar.specs.Limits.{chain-structs};
@@ -24,7 +26,7 @@ fn mandatory_count(rows: &[u32], index: &[u32], link: u32, left: usize) -> usize
         return 0;
     }
     let r = wide(link - 1);
-    let inherited = mandatory_count(rows, index, word(rows, r, 4), left - 1);
+    let inherited = mandatory_count(rows, index, word(rows, r, row::BASE), left - 1);
     inherited + own_mandatory(rows, index, r)
 }
 
@@ -61,7 +63,7 @@ fn mandatory_met(
 ) -> usize
     ensures { λ x. ⌜ FieldsMet (now (schema .entry)) (now (rows .entry)) (now (m .entry)) (now (nodes .entry)) (now (index .entry)) base branch (suc k) (next (now (nodes .entry)) k) x ⌝ }
 {
-    let end = node_number(nodes, k, 3);
+    let end = node_number(nodes, k, NODE_NEXT);
     if end <= k {
         return 0;
     }
@@ -69,7 +71,7 @@ fn mandatory_met(
     let mut a = k + 1;
     while a < end {
         n += key_met(schema, rows, m, nodes, index, a, base, branch);
-        let after = node_number(nodes, a, 3);
+        let after = node_number(nodes, a, NODE_NEXT);
         if after <= a {
             return n;
         }

@@ -7,6 +7,8 @@ use rows::names::name_of;
 use rows::rows::wide;
 use rows::rows::word;
 use rules::FIRST_ROW;
+use rules::kind;
+use rules::row;
 ghost use mathlib.Core.Path.{_≡_};
 ghost use Prim.Native.Nat.{_-_, _<_, _^_};
 ghost use Rattle.members.specs.Members.{StructsAt, BranchOf, ObjectAt};
@@ -43,7 +45,7 @@ fn branch_of(
     requires { ⌜ r < 2 ^ 39 ⌝ }
     ensures { λ x. ⌜ BranchOf (now (schema .entry)) (now (rows .entry)) (now (m .entry)) (now (nodes .entry)) (now (index .entry)) r k x ⌝ }
 {
-    let tag = row_of(word(rows, r, 5));
+    let tag = row_of(word(rows, r, row::DISCRIMINATOR));
     let v = value_at(m, false, nodes, k, name_of(schema, rows, tag));
     if v == 0 {
         return Structs::Neither;
@@ -52,11 +54,11 @@ fn branch_of(
         return Structs::Neither;
     }
     let b = child_meant(schema, rows, m, nodes, index, r, v);
-    let base = word(rows, r, 3);
+    let base = word(rows, r, row::UNION_BASE);
     if b == 0 {
         return Structs::Two(base, 0);
     }
-    Structs::Two(base, word(rows, b - 1, 3))
+    Structs::Two(base, word(rows, b - 1, row::BRANCH_STRUCT))
 }
 
 // The structs for the object at node k at the type reference t.
@@ -76,9 +78,9 @@ fn structs_at(
     }
     let row = t - FIRST_REFERENCE;
     let r = wide(row);
-    match word(rows, r, 0) {
-        3 => Structs::Two(row + 1, 0),
-        5 => branch_of(schema, rows, m, nodes, index, r, k),
+    match word(rows, r, row::KIND) {
+        kind::STRUCT => Structs::Two(row + 1, 0),
+        kind::UNION => branch_of(schema, rows, m, nodes, index, r, k),
         _ => Structs::Neither,
     }
 }

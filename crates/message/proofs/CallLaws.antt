@@ -26,8 +26,9 @@ use Rattle.rules.specs.Envelope.{Envelope, asArguments, asName, envelope}
 use Rattle.rules.specs.Answers.{commandFrom, commandOf}
 use Rattle.rules.proofs.Lists.{none-not-some, and-left, and-right}
 use Rattle.strings.specs.Strings.{plainString}
+use Rattle.tokens.specs.NodeKinds.{plain-string-node, other-string-node}
 use Rattle.tokens.specs.Tokens.{scalarNode}
-use Rattle.text.specs.Nodes.{node, next, Holds}
+use Rattle.text.specs.Nodes.{node-words, node, next, Holds, nodeKind}
 use Rattle.text.specs.Keys.{KeysOnce}
 use Rattle.text.specs.Texts.{MessageTold, ReadsMessage}
 use Rattle.text.proofs.KeyLaws.{goes-on}
@@ -99,11 +100,11 @@ scalar-some s a e (num true t) = omega arith
 scalar-some s a e (num false t) = omega arith
 scalar-some s a e (str cs) = go (plainString s a e)
   where
-    go : (b : Bool) → 0 < cond b 6 7
+    go : (b : Bool) → 0 < cond b plain-string-node other-string-node
     go true = omega arith
     go false = omega arith
 
-kind-some : (m w : List ℕ) (j : Json) (l k : ℕ) → Holds message m w j l k → 0 < node w k 0
+kind-some : (m w : List ℕ) (j : Json) (l k : ℕ) → Holds message m w j l k → 0 < nodeKind w k
 kind-some m w (leaf a e v) l k h = omega (arith, h .0 .has-kind, scalar-some m a e v)
 kind-some m w (arr a e js) l k h = omega (arith, h .0 .has-kind)
 kind-some m w (obj a e fs) l k h = omega (arith, h .0 .has-kind)
@@ -113,15 +114,15 @@ there [] i h = absurd (omega arith)
 there (x ∷ w) zero h = omega arith
 there (x ∷ w) (suc i) h = omega (arith, there w i h)
 
-node-there : (m w : List ℕ) (j : Json) (l k : ℕ) → Holds message m w j l k → 4 * k < length w
-node-there m w j l k h = omega (arith, there w (4 * k + 0) (kind-some m w j l k h))
+node-there : (m w : List ℕ) (j : Json) (l k : ℕ) → Holds message m w j l k → node-words * k < length w
+node-there m w j l k h = omega (arith, there w (node-words * k + 0) (kind-some m w j l k h))
 
 -- absent arguments are an empty object in four words of their own
 no-arguments : (m : List ℕ) → Holds message m (9 ∷ 0 ∷ 0 ∷ 1 ∷ []) (obj 0 0 no-fields) 1 0
 no-arguments m = (record { has-kind = refl; has-start = refl; has-end = refl }, omega arith, omega arith, refl)
 
 -- words for twice as many nodes as a message of so many bytes can have
-pub nodes-fit : (n : ℕ) {m w : List ℕ} → length w ≡ 4 * n → length m ≤ 2 * n → 4 * n < 2 ^ 32 → NodesFit m w
+pub nodes-fit : (n : ℕ) {m w : List ℕ} → length w ≡ node-words * n → length m ≤ 2 * n → node-words * n < 2 ^ 32 → NodesFit m w
 nodes-fit n e h k = record { enough = omega arith; whole-nodes = omega arith; small = omega arith }
 
 -- texts that are none
@@ -231,7 +232,7 @@ module _ {S T m w : List ℕ} where
   pub text-read : {v : List ℕ} {x : Text} {n : ℕ} → sound S T ≡ true → ReadsMessage m v w x → x ≡ Texts.Whole n → NodesFit m v → TextRead S T m w n
   text-read {x = x} {n} q r e h =
       let t : MessageTold m w (Texts.Whole n) = subst (λ (y : Text). MessageTold m w y) e (r .told) in
-      let f : 4 * n ≤ length w = omega (arith, t .few, r .same-length, h .enough, h .whole-nodes) in
+      let f : node-words * n ≤ length w = omega (arith, t .few, r .same-length, h .enough, h .whole-nodes) in
       record {
         sound-table = q;
         value = t .tree;

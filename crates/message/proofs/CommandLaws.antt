@@ -12,6 +12,7 @@ use Rattle.grammar.specs.Notation.{same}
 use Rattle.grammar.specs.Tree.Scalar.{str}
 use Rattle.grammar.specs.Tree.Json.{leaf}
 use Rattle.grammar.specs.Machine.Message.{message}
+use Rattle.rules.specs.Kinds.{command-kind}
 use Rattle.rules.specs.Rows.{rowCount, kind, nameOf}
 use Rattle.rules.specs.Answers.{commandFrom}
 use Rattle.text.specs.Nodes.{Holds}
@@ -24,11 +25,11 @@ use Rattle.message.specs.Commands.{asCommand, NamesCommand, FindsCommand
 module _ (S T m w : List ℕ) where
   -- one row
   pub no-command : {k r i : ℕ} → i ≡ kind T r → (i ≡ 9 → ⊥) → NamesCommand S T m w k r false
-  no-command {k} {r} {i} p q = record { told = λ a e l cs x. rw (ne-eqb (kind T r) 9 (λ z. q (p ∙ z))) refl }
+  no-command {k} {r} {i} p q = record { told = λ a e l cs x. rw (ne-eqb (kind T r) command-kind (λ z. q (p ∙ z))) refl }
 
   pub a-command : {k r i : ℕ} {name : List ℕ} {b : Bool} → i ≡ kind T r → i ≡ 9 → name ≡ nameOf S T r → NodeMeans message m w k name b → NamesCommand S T m w k r b
   a-command {k} {r} p q n g =
-      record { told = λ a e l cs x. rw (eq-eqb (kind T r) 9 (sym p ∙ q)) (g .string a e l cs x ∙ ap (same cs) n ∙ same-sym cs (nameOf S T r)) }
+      record { told = λ a e l cs x. rw (eq-eqb (kind T r) command-kind (sym p ∙ q)) (g .string a e l cs x ∙ ap (same cs) n ∙ same-sym cs (nameOf S T r)) }
 
   -- n rows from r on are left
   pub record CommandLeft (k r n : ℕ) : Type 0 where
@@ -40,10 +41,10 @@ module _ (S T m w : List ℕ) where
   module _ {k r : ℕ} (v : CommandLeft k r (rowCount T - r)) where
     -- the first of the rows left
     step : (cs : List ℕ) → r < rowCount T
-        → commandFrom S T cs r (rowCount T - r) ≡ cond (eqb (kind T r) 9 && same (nameOf S T r) cs) (some r) (commandFrom S T cs (r + 1) (rowCount T - (r + 1)))
+        → commandFrom S T cs r (rowCount T - r) ≡ cond (eqb (kind T r) command-kind && same (nameOf S T r) cs) (some r) (commandFrom S T cs (r + 1) (rowCount T - (r + 1)))
     step cs h =
         let e : rowCount T - r ≡ suc (rowCount T - (r + 1)) = omega arith in
-        ap (commandFrom S T cs r) e ∙ ap (λ (i : ℕ). cond (eqb (kind T r) 9 && same (nameOf S T r) cs) (some r) (commandFrom S T cs i (rowCount T - (r + 1)))) (sym (add-one r))
+        ap (commandFrom S T cs r) e ∙ ap (λ (i : ℕ). cond (eqb (kind T r) command-kind && same (nameOf S T r) cs) (some r) (commandFrom S T cs i (rowCount T - (r + 1)))) (sym (add-one r))
 
     pub command-hit : {b : Bool} → r < rowCount T → NamesCommand S T m w k r b → b ≡ true → FindsCommand S T m w k (Row r)
     command-hit h g t =

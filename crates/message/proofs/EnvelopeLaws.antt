@@ -20,13 +20,14 @@ use Rattle.rules.specs.Types.{sameKind}
 use Rattle.rules.specs.Values.{_>>=_, asString, valueAt, anyOf}
 use Rattle.rules.specs.Envelope.{Envelope, asArguments, asName, envelope}
 use Rattle.rules.proofs.Lists.{clash}
-use Rattle.text.specs.Nodes.{node, next, Holds, HoldsFields}
-use Rattle.text.proofs.KeyLaws.{scalar-not-9}
+use Rattle.text.specs.Nodes.{node, next, Holds, HoldsFields, nodeKind}
+use Rattle.text.proofs.KeyLaws.{scalar-no-object}
 use Rattle.lookups.specs.Lookups.{stringKind, ValueFound, FindsValue, OnlyKeys}
 use Rattle.lookups.proofs.NodeLaws.{string-node}
 use Rattle.message.specs.declared.envelope.Envelope as E
 use Rattle.message.specs.declared.envelope.Envelope.the-variants.{Call, Improper}
 use Rattle.message.specs.Envelopes.{envelopeKeys, callOf, properArguments, SaidAt, EnvelopeTold, ReadsEnvelope}
+use Rattle.tokens.specs.NodeKinds.{object-node}
 
 -- a call by the value at a node
 module _ (w : List ℕ) {name : ℕ} (arguments : ℕ) (oob : Bool) where
@@ -34,11 +35,11 @@ module _ (w : List ℕ) {name : ℕ} (arguments : ℕ) (oob : Bool) where
   unfolding callOf
   no-name e = rw (eq-eqb name 0 e) refl
 
-  pub not-string : (name ≡ 0 → ⊥) → stringKind (node w name 0) ≡ false → Improper ≡ callOf w name oob arguments
+  pub not-string : (name ≡ 0 → ⊥) → stringKind (nodeKind w name) ≡ false → Improper ≡ callOf w name oob arguments
   unfolding callOf
   not-string h e = rw (ne-eqb name 0 h, e) refl
 
-  pub a-string : (name ≡ 0 → ⊥) → stringKind (node w name 0) ≡ true → Call name oob arguments ≡ callOf w name oob arguments
+  pub a-string : (name ≡ 0 → ⊥) → stringKind (nodeKind w name) ≡ true → Call name oob arguments ≡ callOf w name oob arguments
   unfolding callOf
   a-string h e = rw (ne-eqb name 0 h, e) refl
 
@@ -46,7 +47,7 @@ pub absent : (w : List ℕ) {k : ℕ} → k ≡ 0 → true ≡ properArguments w
 unfolding properArguments
 absent w {k} e = rw (eq-eqb k 0 e) refl
 
-pub present : (w : List ℕ) {k i : ℕ} → (k ≡ 0 → ⊥) → i ≡ node w k 0 → eqb i 9 ≡ properArguments w k
+pub present : (w : List ℕ) {k i : ℕ} → (k ≡ 0 → ⊥) → i ≡ nodeKind w k → eqb i 9 ≡ properArguments w k
 unfolding properArguments
 present w {k} h e = rw (ne-eqb k 0 h) (ap (λ (n : ℕ). eqb n 9) e)
 
@@ -70,15 +71,15 @@ module _ (m w : List ℕ) where
 
   module _ (l : ℕ) where
     -- the value at node k is an object exactly when its kind says so
-    object-node : (j : Json) (k : ℕ) → Holds message m w j l k → eqb (node w k 0) 9 ≡ true → asArguments (some j) ≡ some j
-    object-node (leaf a e v) k h t = absurd (scalar-not-9 m a e v (sym (h .0 .has-kind) ∙ eqb-true (node w k 0) 9 t))
-    object-node (arr a e js) k h t = absurd (let u = eqb-true (node w k 0) 9 t in omega (arith, h .0 .has-kind))
-    object-node (obj a e fs) k h t = refl
+    are-object : (j : Json) (k : ℕ) → Holds message m w j l k → eqb (nodeKind w k) object-node ≡ true → asArguments (some j) ≡ some j
+    are-object (leaf a e v) k h t = absurd (scalar-no-object m a e v (sym (h .0 .has-kind) ∙ eqb-true (nodeKind w k) object-node t))
+    are-object (arr a e js) k h t = absurd (let u = eqb-true (nodeKind w k) object-node t in omega (arith, h .0 .has-kind))
+    are-object (obj a e fs) k h t = refl
 
-    not-object-node : (j : Json) (k : ℕ) → Holds message m w j l k → eqb (node w k 0) 9 ≡ false → asArguments (some j) ≡ none
-    not-object-node (leaf a e v) k h t = refl
-    not-object-node (arr a e js) k h t = refl
-    not-object-node (obj a e fs) k h t = absurd (clash (eq-eqb (node w k 0) 9 (h .0 .has-kind)) t)
+    are-no-object : (j : Json) (k : ℕ) → Holds message m w j l k → eqb (nodeKind w k) object-node ≡ false → asArguments (some j) ≡ none
+    are-no-object (leaf a e v) k h t = refl
+    are-no-object (arr a e js) k h t = refl
+    are-no-object (obj a e fs) k h t = absurd (clash (eq-eqb (nodeKind w k) object-node (h .0 .has-kind)) t)
 
     -- what the arguments are, and where they stand
     pub record ArgumentsAt (o : Option Json) (k : ℕ) : Type 0 where
@@ -89,12 +90,12 @@ module _ (m w : List ℕ) where
     arguments-at : (o : Option Json) (k : ℕ) → ValueFound message m w l o k → properArguments w k ≡ true → ArgumentsAt o k
     unfolding properArguments
     arguments-at none k f t = record { value = obj 0 0 no-fields; are = refl; at = inl (f, refl) }
-    arguments-at (some j) k f t = record { value = j; are = object-node j k (f .1) (rw (ne-eqb k 0 (λ e. omega (arith, f .0))) at t); at = inr f }
+    arguments-at (some j) k f t = record { value = j; are = are-object j k (f .1) (rw (ne-eqb k 0 (λ e. omega (arith, f .0))) at t); at = inr f }
 
     arguments-not : (o : Option Json) (k : ℕ) → ValueFound message m w l o k → properArguments w k ≡ false → asArguments o ≡ none
     unfolding properArguments
     arguments-not none k f t = absurd (clash (sym (absent w f)) t)
-    arguments-not (some j) k f t = not-object-node j k (f .1) (rw (ne-eqb k 0 (λ e. omega (arith, f .0))) at t)
+    arguments-not (some j) k f t = are-no-object j k (f .1) (rw (ne-eqb k 0 (λ e. omega (arith, f .0))) at t)
 
     -- the name: a string, or no envelope
     module _ (v : Option Json) (k : ℕ) (p : ArgumentsAt v k) where
@@ -157,7 +158,7 @@ module _ (m w : List ℕ) where
       where
         go : (j : Json) (l : ℕ) → Holds message m w j l 0
             → EnvelopeTold m w (l - 1) (envelope j) (cond (eqb y 0) (callOf w x false k) (cond (eqb x 0) (callOf w y true k) Improper))
-        go (leaf a e v) l z = absurd (scalar-not-9 m a e v (sym (z .0 .has-kind) ∙ q))
+        go (leaf a e v) l z = absurd (scalar-no-object m a e v (sym (z .0 .has-kind) ∙ q))
         go (arr a e js) l z = absurd (omega (arith, z .0 .has-kind, q))
         go (obj a e fs) l z =
             let u = z .3 in

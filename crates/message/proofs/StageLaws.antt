@@ -19,7 +19,7 @@ use Rattle.rules.specs.declared.MessageRefusal.the-variants as M
 use Rattle.rules.specs.declared.MessageAnswer.{MessageAnswer}
 use Rattle.rules.specs.declared.MessageAnswer.the-variants.{Accepted, Refused}
 use Rattle.rules.specs.Values.{_>>=_}
-use Rattle.rules.specs.Rows.{word, arguments}
+use Rattle.rules.specs.Rows.{arguments, allowOob}
 use Rattle.rules.specs.Sound.{sound}
 use Rattle.rules.specs.Envelope.{Envelope, envelope, mayUse}
 use Rattle.rules.specs.Readings.{Typed}
@@ -29,7 +29,7 @@ use Rattle.readings.specs.Records.{putAll}
 use Rattle.message.specs.Stages.{said, called, reading, refusalIn, Written, JudgedTold, Judged}
 
 -- out of band wants the command's flag
-pub out-of-band-use : (T : List ℕ) (c : ℕ) {w : ℕ} {oob : Bool} → oob ≡ true → w ≡ word T c 5 → eqb w 1 ≡ mayUse T c oob
+pub out-of-band-use : (T : List ℕ) (c : ℕ) {w : ℕ} {oob : Bool} → oob ≡ true → w ≡ allowOob T c → eqb w 1 ≡ mayUse T c oob
 out-of-band-use T c e p = rw (e, p) refl
 
 module _ (S T m : List ℕ) where

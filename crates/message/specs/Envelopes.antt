@@ -13,10 +13,11 @@ use Rattle.grammar.specs.Tree.Json.{leaf, obj}
 use Rattle.grammar.specs.Tree.Fields.{no-fields}
 use Rattle.grammar.specs.Machine.Message.{message}
 use Rattle.rules.specs.Envelope.{Envelope, envelope}
-use Rattle.text.specs.Nodes.{node, Holds}
+use Rattle.text.specs.Nodes.{node, Holds, nodeKind}
 use Rattle.lookups.specs.Lookups.{stringKind}
 use Rattle.message.specs.declared.envelope.Envelope as E
 use Rattle.message.specs.declared.envelope.Envelope.the-variants.{Call, Improper}
+use Rattle.tokens.specs.NodeKinds.{object-node}
 
 -- the keys that an envelope may have
 abbrev pub envelopeKeys : List (List ℕ)
@@ -24,11 +25,11 @@ envelopeKeys = text "execute" ∷ text "exec-oob" ∷ text "arguments" ∷ text 
 
 -- a call by the string at a node; 0 is no node
 unfoldable pub callOf : List ℕ → ℕ → Bool → ℕ → E.Envelope
-callOf w name oob arguments = cond (eqb name 0) Improper (cond (stringKind (node w name 0)) (Call name oob arguments) Improper)
+callOf w name oob arguments = cond (eqb name 0) Improper (cond (stringKind (nodeKind w name)) (Call name oob arguments) Improper)
 
 -- the arguments at a node are an object; 0 is no node
 unfoldable pub properArguments : List ℕ → ℕ → Bool
-properArguments w arguments = cond (eqb arguments 0) true (eqb (node w arguments 0) 9)
+properArguments w arguments = cond (eqb arguments 0) true (eqb (nodeKind w arguments) object-node)
 
 -- the nodes of what an envelope says: the name's, and that of the arguments, 0 where they are absent
 pub record SaidAt (m w : List ℕ) (l : ℕ) (v : Envelope) (r : E.Envelope) : Type 0 where

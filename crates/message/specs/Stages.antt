@@ -1,12 +1,12 @@
 -- Serves contracts: the outcome of a message from one of the paper's numbers on, where no lower one applies.
-use Prim.Native.Nat.{ℕ, _*_, _^_, _%_, _≤_, _<_}
+use Prim.Native.Nat.{ℕ, _*_, _^_, _/_, _%_, _≤_, _<_}
 use mathlib.Core.Path.{_≡_}
 use mathlib.Core.Bool.{Bool, true}
 use mathlib.Core.Logic.{_⊎_}
 use mathlib.Core.List.{List}
 use mathlib.Core.Option.{Option, none, some}
 use lib.ListN.{length, drop}
-use Rattle.grammar.specs.Limits.{message-levels, record-words}
+use Rattle.grammar.specs.Limits.{message-bytes, message-levels, record-words}
 use Rattle.grammar.specs.Tree.{Json}
 use Rattle.grammar.specs.Tree.Json.{obj}
 use Rattle.grammar.specs.Tree.Items.{no-items, item}
@@ -22,7 +22,7 @@ use Rattle.rules.specs.Sound.{sound}
 use Rattle.rules.specs.Envelope.{Envelope, envelope}
 use Rattle.rules.specs.Readings.{Typed}
 use Rattle.rules.specs.Answers.{MessageResult, messageRefusals, first, valueIn, commandOf, messageTest, readingIn, messageResult}
-use Rattle.text.specs.Nodes.{next, Holds}
+use Rattle.text.specs.Nodes.{node-words, next, Holds}
 use Rattle.message.specs.declared.envelope.Envelope.the-variants.{Call}
 use Rattle.message.specs.Envelopes.{SaidAt}
 use Rattle.readings.specs.Records.{putAll}
@@ -65,12 +65,12 @@ module _ (S T m : List ℕ) where
 
 -- the most bytes of a short message
 abbrev pub short-message : ℕ
-short-message = 4096
+short-message = message-bytes / 4
 
--- the nodes of any message text as long as m fit the words w, four a node
+-- the nodes of any message text as long as m fit the words w
 pub record NodesFit (m w : List ℕ) : Type 0 where
   pub enough : 2 * length m ≤ length w
-  pub whole-nodes : length w % 4 ≡ 0
+  pub whole-nodes : length w % node-words ≡ 0
   pub small : length w < 2 ^ 32
 
 -- What has been found before a stage: a sound table; and the message's value in the nodes

@@ -12,10 +12,13 @@ use rules::MESSAGE_BYTES;
 use rules::MessageAnswer;
 use rules::MessageRefusal;
 use rules::RECORD_WORDS;
+use rules::row;
 use table::sound::is_sound;
 use text::keys::keys_once;
+use text::nodes::NODE_WORDS;
 use text::texts::Text;
 use text::texts::read_message;
+use tokens::node;
 use words::clear;
 ghost use mathlib.Core.Path.{_≡_};
 ghost use mathlib.Core.Bool.{true};
@@ -26,20 +29,20 @@ ghost use Rattle.rules.specs.Envelope.{mayUse};
 ghost use Rattle.rules.specs.Sound.{sound};
 ghost use Rattle.message.specs.Stages.{short-message, NodesFit, TextRead, SaysCall, FoundRow, CallsRow, Judged, Answered};
 
-// Words for the nodes of the longest message.
-const NODE_WORDS: usize = 2 * MESSAGE_BYTES;
+// There is at most one node for every two bytes.
+const NODE_ROOM: usize = NODE_WORDS * (MESSAGE_BYTES / 2);
 
 // A message of up to so many bytes has its nodes in fewer words, which are sooner cleared.
-const SHORT_MESSAGE: usize = 4096;
+const SHORT_MESSAGE: usize = MESSAGE_BYTES / 4;
 
-const SHORT_WORDS: usize = 2 * SHORT_MESSAGE;
+const SHORT_ROOM: usize = NODE_WORDS * (SHORT_MESSAGE / 2);
 
 // Whether a message may use the command at row c.
 fn may_use(rows: &[u32], c: usize, oob: bool) -> bool
     ensures { λ r. ⌜ r ≡ mayUse (now (rows .entry)) c oob ⌝ }
 {
     if oob {
-        return word(rows, c, 4) == 1;
+        return word(rows, c, row::ALLOW_OOB) == 1;
     }
     true
 }
@@ -89,7 +92,7 @@ fn with_arguments(
     ensures { λ r. ⌜ Judged (now (schema .entry)) (now (rows .entry)) (now (m .entry)) 7 (now (records .entry)) (now (records .exit)) r ⌝ }
 {
     if arguments == 0 {
-        let empty = [9u32, 0, 0, 1];
+        let empty = [node::OBJECT, 0, 0, 1];
         return with_command(schema, rows, m, &empty, 0, c, oob, records);
     }
     with_command(schema, rows, m, nodes, arguments, c, oob, records)
@@ -169,7 +172,7 @@ fn with_short_text(schema: &[u8], rows: &[u32], m: &[u8], records: &mut [u32]) -
     requires { ⌜ (sound (now schema) (now rows) ≡ true) × (length (now m) ≤ short-message) ⌝ }
     ensures { λ r. ⌜ Judged (now (schema .entry)) (now (rows .entry)) (now (m .entry)) 2 (now (records .entry)) (now (records .exit)) r ⌝ }
 {
-    let mut nodes = [0u32; SHORT_WORDS];
+    let mut nodes = [0u32; SHORT_ROOM];
     with_words(schema, rows, m, &mut nodes, records)
 }
 
@@ -178,7 +181,7 @@ fn with_long_text(schema: &[u8], rows: &[u32], m: &[u8], records: &mut [u32]) ->
     requires { ⌜ (sound (now schema) (now rows) ≡ true) × (length (now m) ≤ message-bytes) ⌝ }
     ensures { λ r. ⌜ Judged (now (schema .entry)) (now (rows .entry)) (now (m .entry)) 2 (now (records .entry)) (now (records .exit)) r ⌝ }
 {
-    let mut nodes = [0u32; NODE_WORDS];
+    let mut nodes = [0u32; NODE_ROOM];
     with_words(schema, rows, m, &mut nodes, records)
 }
 

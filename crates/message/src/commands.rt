@@ -3,6 +3,8 @@ use lookups::values::node_means;
 use rows::names::name_of;
 use rows::rows::word;
 use rules::ROW_WORDS;
+use rules::kind;
+use rules::row;
 ghost use Rattle.message.specs.Commands.{NamesCommand, FindsCommand};
 
 pub enum Command {
@@ -14,7 +16,7 @@ pub enum Command {
 fn is_named(schema: &[u8], rows: &[u32], m: &[u8], nodes: &[u32], k: usize, r: usize) -> bool
     ensures { λ b. ⌜ NamesCommand (now (schema .entry)) (now (rows .entry)) (now (m .entry)) (now (nodes .entry)) k r b ⌝ }
 {
-    if word(rows, r, 0) != 9 {
+    if word(rows, r, row::KIND) != kind::COMMAND {
         return false;
     }
     node_means(m, false, nodes, k, name_of(schema, rows, r))

@@ -2,8 +2,11 @@
 use lookups::values::is_string;
 use lookups::values::node_means;
 use lookups::values::value_at;
+use text::nodes::NODE_KIND;
+use text::nodes::NODE_NEXT;
 use text::nodes::node_number;
 use text::nodes::node_word;
+use tokens::node;
 ghost use mathlib.Core.Path.{_≡_};
 ghost use Rattle.grammar.specs.Machine.Message.{message};
 ghost use Rattle.lookups.specs.Lookups.{OneOf, OnlyKeys};
@@ -35,7 +38,7 @@ fn is_key(m: &[u8], nodes: &[u32], a: usize) -> bool
 fn only_keys(m: &[u8], nodes: &[u32], k: usize) -> bool
     ensures { λ r. ⌜ OnlyKeys message (now (m .entry)) (now (nodes .entry)) k envelopeKeys r ⌝ }
 {
-    let end = node_number(nodes, k, 3);
+    let end = node_number(nodes, k, NODE_NEXT);
     if end <= k {
         return true;
     }
@@ -44,7 +47,7 @@ fn only_keys(m: &[u8], nodes: &[u32], k: usize) -> bool
         if !is_key(m, nodes, a) {
             return false;
         }
-        let n = node_number(nodes, a, 3);
+        let n = node_number(nodes, a, NODE_NEXT);
         if n <= a {
             return true;
         }
@@ -73,14 +76,14 @@ fn are_proper(nodes: &[u32], arguments: usize) -> bool
     if arguments == 0 {
         return true;
     }
-    node_word(nodes, arguments, 0) == 9
+    node_word(nodes, arguments, NODE_KIND) == node::OBJECT
 }
 
 // What the message whose value stands at node 0 calls.
 pub fn read_envelope(m: &[u8], nodes: &[u32]) -> Envelope
     ensures { λ r. ⌜ ReadsEnvelope (now (m .entry)) (now (nodes .entry)) r ⌝ }
 {
-    if node_word(nodes, 0, 0) != 9 {
+    if node_word(nodes, 0, NODE_KIND) != node::OBJECT {
         return Envelope::Improper;
     }
     if !only_keys(m, nodes, 0) {

@@ -19,7 +19,7 @@ use Rattle.rules.specs.ReadingOf.{isEmpty, scalarFits, membersAt, plainReading,
 use Rattle.rules.proofs.Lists.{and-left, and-right}
 use Rattle.rules.proofs.SoundFacts.{sound-facts}
 use Rattle.rules.proofs.ReadingParts.{via-row}
-use Rattle.text.specs.Nodes.{node, next, Holds}
+use Rattle.text.specs.Nodes.{next, Holds, nodeEnd, nodeKind, nodeStart}
 use Rattle.readings.specs.Records.{putRecord, putAll, ReadsArgumentsAt}
 use Rattle.readings.specs.Readers.{ReadsValue, IsEmpty}
 use Rattle.readings.specs.declared.readings.Count.{Count}
@@ -28,7 +28,7 @@ use Rattle.readings.proofs.RecordLaws.{node-record, told-nothing}
 use Rattle.readings.proofs.ShapeLaws.{scalar-below}
 
 -- an empty object, by its node
-module _ {w : List ℕ} {k y : ℕ} (q : y ≡ node w k 0) where
+module _ {w : List ℕ} {k y : ℕ} (q : y ≡ nodeKind w k) where
   pub empty-other : (y ≡ 9 → ⊥) → IsEmpty w k false
   empty-other n = record { told = λ m j l h. go m j l h }
     where
@@ -84,7 +84,7 @@ module _ (S T m w : List ℕ) {ix : List ℕ} {c link : ℕ} (p : link ≡ argum
       told = λ j l o h once q. told-nothing old old 0 (argumentsReading S T (arguments T c) j) refl (rw (← p, z, ← g .told m j l h, e));
     }
 
-    pub arguments-empty : b ≡ true → {old new : List ℕ} → new ≡ putRecord old 0 (node w k 1 ∷ node w k 2 ∷ 0 ∷ 0 ∷ []) → ReadsArgumentsAt S T m w ix old new k c (Records 1)
+    pub arguments-empty : b ≡ true → {old new : List ℕ} → new ≡ putRecord old 0 (nodeStart w k ∷ nodeEnd w k ∷ 0 ∷ 0 ∷ []) → ReadsArgumentsAt S T m w ix old new k c (Records 1)
     unfolding putAll
     arguments-empty e {old} {new} r = record {
       told = λ j l o h once q. rw (← p, z, ← g .told m j l h, e) (r ∙ node-record m w old j l k 0 0 0 h, refl);

@@ -22,8 +22,9 @@ use Rattle.rules.specs.Types.{column, grid, takes, ranges, inRange, numberFits,
 use Rattle.rules.specs.Rows.{upFrom}
 use Rattle.rules.proofs.Lists.{clash, and-left, and-right, or-cases, all-true, in-upFrom}
 use Rattle.strings.specs.Strings.{plainString}
+use Rattle.tokens.specs.NodeKinds.{plain-string-node, other-string-node}
 use Rattle.tokens.specs.Tokens.{scalarNode}
-use Rattle.text.specs.Nodes.{node, Holds}
+use Rattle.text.specs.Nodes.{node, Holds, nodeEnd, nodeKind, nodeStart}
 use Rattle.readings.specs.Parts.{columnOf, TakesKind, rangeAs, NumberFits, BuiltInTakes}
 use Rattle.readings.specs.declared.builtins.Range.{Range}
 use Rattle.readings.specs.declared.builtins.Range.the-variants.{From, Any}
@@ -68,11 +69,11 @@ scalar-column m a e (num true t) = refl
 scalar-column m a e (num false t) = refl
 scalar-column m a e (str cs) = go (plainString m a e)
   where
-    go : (b : Bool) → columnOf (cond b 6 7) ≡ 2
+    go : (b : Bool) → columnOf (cond b plain-string-node other-string-node) ≡ 2
     go true = refl
     go false = refl
 
-pub node-column : (m w : List ℕ) (j : Json) (l k : ℕ) → Holds message m w j l k → columnOf (node w k 0) ≡ column (kindOf j)
+pub node-column : (m w : List ℕ) (j : Json) (l k : ℕ) → Holds message m w j l k → columnOf (nodeKind w k) ≡ column (kindOf j)
 node-column m w (leaf a e v) l k h = rw (h .0 .has-kind) (scalar-column m a e v)
 node-column m w (arr a e js) l k h = rw (h .0 .has-kind)
 node-column m w (obj a e fs) l k h = rw (h .0 .has-kind)
@@ -129,7 +130,7 @@ module _ (m w : List ℕ) {k b : ℕ} {x : Range} (p : rangeAs x ≡ getD (none 
   pub number-free : x ≡ Any → NumberFits m w k b true
   number-free q = record { told = λ a e l i token h. rw (← p, q) }
 
-  module _ {low high : ℕ} (q : x ≡ From low high) {c : ℕ} (n : c ≡ node w k 0) where
+  module _ {low high : ℕ} (q : x ≡ From low high) {c : ℕ} (n : c ≡ nodeKind w k) where
     pub number-other : (c ≡ 4 → ⊥) → NumberFits m w k b false
     number-other f = record { told = λ a e l i token h. go i token (n ∙ h .0 .has-kind) }
       where
@@ -137,7 +138,7 @@ module _ (m w : List ℕ) {k b : ℕ} {x : Range} (p : rangeAs x ≡ getD (none 
         go true token z = absurd (f z)
         go false token z = rw (← p, q)
 
-    pub number-within : c ≡ 4 → {s z : ℕ} → s ≡ node w k 1 → z ≡ node w k 2 → {r : Bool}
+    pub number-within : c ≡ 4 → {s z : ℕ} → s ≡ nodeStart w k → z ≡ nodeEnd w k → {r : Bool}
         → r ≡ leb (decimal 0 (unsignedPart (take (z - s) (drop s m)))) (cond (negative (take (z - s) (drop s m))) low high) → NumberFits m w k b r
     unfolding inRange
     number-within f {s} {z} u v {r} g = record {
@@ -150,7 +151,7 @@ module _ (m w : List ℕ) {k b : ℕ} {x : Range} (p : rangeAs x ≡ getD (none 
         go false token y t = absurd (omega arith)
 
 -- a scalar at a node
-module _ (m w : List ℕ) {k c x : ℕ} (n : c ≡ columnOf x) (o : x ≡ node w k 0) where
+module _ (m w : List ℕ) {k c x : ℕ} (n : c ≡ columnOf x) (o : x ≡ nodeKind w k) where
   scalar-at : (a e l : ℕ) (v : Scalar) → Holds message m w (leaf a e v) l k → column (scalarKind v) ≡ c
   scalar-at a e l v h = sym (n ∙ ap columnOf o ∙ node-column m w (leaf a e v) l k h)
 

@@ -17,7 +17,7 @@ use Rattle.rules.specs.Readings.{Typed, typed}
 use Rattle.rules.specs.ReadingOf as Reading
 use Rattle.rules.specs.ReadingOf.{under, target, ended, plainReading, itemsReading, fieldsReading, readingOf}
 use Rattle.children.specs.Index.{Given}
-use Rattle.text.specs.Nodes.{node, next, Holds, HoldsItems, HoldsFields}
+use Rattle.text.specs.Nodes.{next, Holds, HoldsItems, HoldsFields, nodeEnd, nodeStart}
 use Rattle.readings.specs.Parts.{viaAs, TypeFor, AsElements, AsMembers, ShapeTold, ShapeAt}
 use Rattle.readings.specs.Records.{putRecord, ReadTold}
 use Rattle.readings.specs.Readers.{ReadsValue, ReadsPlain, ReadsItems, ReadsFields}
@@ -46,7 +46,7 @@ module _ (S T m w : List ℕ) {k t f : ℕ} {x : Via} (g : TypeFor T w k t f x) 
     reads = record { told = λ j l o h once q. rw (reading-by Reading.Via.direct (ap viaAs e) j l h) (d .told j l o h once q) };
   }
 
-  pub value-alternative : {u : ℕ} → x ≡ Alternative u → {ix old mid new : List ℕ} {left n : ℕ} {r : Count} → mid ≡ putRecord old n (node w k 1 ∷ node w k 2 ∷ t ∷ f ∷ [])
+  pub value-alternative : {u : ℕ} → x ≡ Alternative u → {ix old mid new : List ℕ} {left n : ℕ} {r : Count} → mid ≡ putRecord old n (nodeStart w k ∷ nodeEnd w k ∷ t ∷ f ∷ [])
       → ReadsPlain S T m w ix mid new k u f left (n + 1) r → ReadsValue S T m w ix old new k t f left n r
   value-alternative {u} e {old = old} {mid} {new} {left} {n} {r} p d = record {
     within = d .within;
@@ -61,9 +61,9 @@ module _ {S T m w ix : List ℕ} {k t f : ℕ} {x : Shape} (g : ShapeAt S T m w 
   shape-is : (y : Shape) → x ≡ y → (j : Json) (l : ℕ) → Given S T ix → Holds message m w j l k → keysOnce j ≡ true → ShapeTold S T j t f y
   shape-is y e j l o h once = rw e at (g .told j l o h once)
 
-  module _ (old mid : List ℕ) (n : ℕ) (p : mid ≡ putRecord old n (node w k 1 ∷ node w k 2 ∷ t ∷ f ∷ [])) where
+  module _ (old mid : List ℕ) (n : ℕ) (p : mid ≡ putRecord old n (nodeStart w k ∷ nodeEnd w k ∷ t ∷ f ∷ [])) where
     kept : length mid ≡ length old
-    kept = ap length p ∙ put-length old (node w k 1 ∷ node w k 2 ∷ t ∷ f ∷ []) n
+    kept = ap length p ∙ put-length old (nodeStart w k ∷ nodeEnd w k ∷ t ∷ f ∷ []) n
 
     -- where it has a reading it has the record and then what is inside
     inside : (new : List ℕ) (c : ℕ) (r : Count) (o : Option (List Typed)) (j : Json) (l : ℕ) → c ≡ n + 1 → Holds message m w j l k

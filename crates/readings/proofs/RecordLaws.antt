@@ -17,7 +17,7 @@ use Rattle.grammar.specs.Tree.Json.{leaf, arr, obj}
 use Rattle.grammar.specs.Machine.Message.{message}
 use Rattle.rules.specs.Readings.{Typed, typed, recordOf}
 use Rattle.rules.specs.ReadingOf.{under, then}
-use Rattle.text.specs.Nodes.{node, Holds}
+use Rattle.text.specs.Nodes.{node, Holds, nodeEnd, nodeStart}
 use Rattle.readings.specs.Records.{putRecord, putAll, ReadTold}
 use Rattle.readings.specs.declared.readings.Count.{Count}
 use Rattle.readings.specs.declared.readings.Count.the-variants.{Records, Nothing}
@@ -28,7 +28,7 @@ module _ (w xs : List ℕ) (n : ℕ) where
   unfolding putRecord
   put-past h = rw (lt-leb (record-words * n + record-words) (length w) (omega arith))
 
-  pub put-fits : n < length w / 4 → putRecord w n xs ≡ sets w (4 * n) xs
+  pub put-fits : n < length w / record-words → putRecord w n xs ≡ sets w (record-words * n) xs
   unfolding putRecord
   put-fits h = rw (le-leb (record-words * n + record-words) (length w) (omega arith))
 
@@ -41,15 +41,15 @@ module _ (w xs : List ℕ) (n : ℕ) where
       go false = refl
 
 pub node-record : (m w old : List ℕ) (j : Json) (l k t f n : ℕ) → Holds message m w j l k
-    → putRecord old n (node w k 1 ∷ node w k 2 ∷ t ∷ f ∷ []) ≡ putRecord old n (recordOf (typed j t f))
+    → putRecord old n (nodeStart w k ∷ nodeEnd w k ∷ t ∷ f ∷ []) ≡ putRecord old n (recordOf (typed j t f))
 node-record m w old j l k t f n h = ap₂ (λ (s e : ℕ). putRecord old n (s ∷ e ∷ t ∷ f ∷ [])) (starts j h) (ends j h)
   where
-    starts : (j : Json) → Holds message m w j l k → node w k 1 ≡ startOf j
+    starts : (j : Json) → Holds message m w j l k → nodeStart w k ≡ startOf j
     starts (leaf a e v) h = h .0 .has-start
     starts (arr a e js) h = h .0 .has-start
     starts (obj a e fs) h = h .0 .has-start
 
-    ends : (j : Json) → Holds message m w j l k → node w k 2 ≡ endOf j
+    ends : (j : Json) → Holds message m w j l k → nodeEnd w k ≡ endOf j
     ends (leaf a e v) h = h .0 .has-end
     ends (arr a e js) h = h .0 .has-end
     ends (obj a e fs) h = h .0 .has-end

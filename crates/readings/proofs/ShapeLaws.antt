@@ -20,8 +20,9 @@ use Rattle.rules.specs.ReadingOf.{scalarFits}
 use Rattle.rules.proofs.Lists.{clash, and-left}
 use Rattle.rules.proofs.ReadingParts.{scalar-built-in, scalar-enum}
 use Rattle.strings.specs.Strings.{plainString}
+use Rattle.tokens.specs.NodeKinds.{plain-string-node, other-string-node}
 use Rattle.tokens.specs.Tokens.{scalarNode}
-use Rattle.text.specs.Nodes.{node, Holds}
+use Rattle.text.specs.Nodes.{Holds, nodeKind}
 use Rattle.lookups.specs.Lookups.{stringKind}
 use Rattle.lookups.proofs.NodeLaws.{string-node}
 use Rattle.children.specs.Index.{Given}
@@ -45,7 +46,7 @@ module _ {S T m w ix : List ℕ} {k t : ℕ} where
     unfolding scalarFits
     fits-no-enum n = record { told = λ a e l v d x. rw (le-ltb t first-row h, ← p, ← q, ne-eqb y 1 n) }
 
-    module _ (o : y ≡ 1) {s : Bool} (i : s ≡ stringKind (node w k 0)) where
+    module _ (o : y ≡ 1) {s : Bool} (i : s ≡ stringKind (nodeKind w k)) where
       pub fits-no-string : s ≡ false → ScalarFits S T m w ix k t false
       unfolding scalarFits
       fits-no-string f = record { told = λ a e l v d x. go a e l v x (sym (string-node message m w (leaf a e v) l k x) ∙ sym i ∙ f) }
@@ -133,11 +134,11 @@ scalar-below m a e (num true t) = omega arith
 scalar-below m a e (num false t) = omega arith
 scalar-below m a e (str cs) = go (plainString m a e)
   where
-    go : (b : Bool) → cond b 6 7 < 8
+    go : (b : Bool) → cond b plain-string-node other-string-node < 8
     go true = omega arith
     go false = omega arith
 
-module _ (S T m w : List ℕ) {ix : List ℕ} {k t f y : ℕ} {x : Shape} (q : y ≡ node w k 0) where
+module _ (S T m w : List ℕ) {ix : List ℕ} {k t f y : ℕ} {x : Shape} (q : y ≡ nodeKind w k) where
   pub shape-array : y ≡ 8 → ArrayShape t f x → ShapeAt S T m w ix k t f x
   shape-array e g = record { told = λ j l o h once. go j l h }
     where

@@ -17,7 +17,7 @@ use Rattle.table.specs.RuleParts.{columnOr6}
 use Rattle.rows.specs.Rows.{Follows, First, Counted}
 use Rattle.rows.proofs.LoopLaws.{WalkLeft, left-hit, left-on, left-ends}
 use Rattle.rows.proofs.ChildLaws.{left-children}
-use Rattle.text.specs.Nodes.{node}
+use Rattle.text.specs.Nodes.{nodeKind}
 use Rattle.readings.specs.Parts.{columnOf, AlternativeOf, TypeFor}
 use Rattle.readings.specs.declared.types.Via.{Via}
 use Rattle.readings.specs.declared.types.Via.the-variants.{Direct, Alternative, Missing}
@@ -66,7 +66,7 @@ module _ (T w : List ℕ) {k t f : ℕ} where
       unfolding via
       direct-other n = record { told = λ S m j x h. rw (z, le-leb first-row t l, ← p, ← q, ne-eqb y 7 n) }
 
-      pub by-alternative : y ≡ 7 → {c d : ℕ} {x : Via} → c ≡ columnOf d → d ≡ node w k 0 → AlternativeOf T r c x → TypeFor T w k t f x
+      pub by-alternative : y ≡ 7 → {c d : ℕ} {x : Via} → c ≡ columnOf d → d ≡ nodeKind w k → AlternativeOf T r c x → TypeFor T w k t f x
       unfolding via
       by-alternative e {c} {d} {x} u v g = record {
         told = λ S m j i h.

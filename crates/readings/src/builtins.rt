@@ -1,7 +1,11 @@
 // Built-in types: the grid and the ranges.
+use text::nodes::NODE_END;
+use text::nodes::NODE_KIND;
+use text::nodes::NODE_START;
 use text::nodes::node_number;
 use text::nodes::node_word;
 use tokens::integers::in_range;
+use tokens::node;
 ghost use mathlib.Core.Path.{_≡_};
 ghost use Rattle.rules.specs.Types.{ranges};
 ghost use mathlib.Core.List.{_∷_};
@@ -33,15 +37,15 @@ pub fn column(kind: u32) -> usize
     ensures { λ r. ⌜ r ≡ columnOf kind ⌝ }
 {
     match kind {
-        1 => 5,
-        2 => 4,
-        3 => 4,
-        4 => 3,
-        5 => 3,
-        6 => 2,
-        7 => 2,
-        8 => 1,
-        9 => 0,
+        node::NULL => 5,
+        node::FALSE => 4,
+        node::TRUE => 4,
+        node::INTEGER => 3,
+        node::OTHER_NUMBER => 3,
+        node::PLAIN_STRING => 2,
+        node::OTHER_STRING => 2,
+        node::ARRAY => 1,
+        node::OBJECT => 0,
         _ => 6,
     }
 }
@@ -94,11 +98,11 @@ fn number_fits(m: &[u8], nodes: &[u32], k: usize, b: usize) -> bool
     let Range::From(low, high) = range else {
         return true;
     };
-    if node_word(nodes, k, 0) != 4 {
+    if node_word(nodes, k, NODE_KIND) != node::INTEGER {
         return false;
     }
-    let a = node_number(nodes, k, 1);
-    let e = node_number(nodes, k, 2);
+    let a = node_number(nodes, k, NODE_START);
+    let e = node_number(nodes, k, NODE_END);
     in_range(m, a, e, low, high)
 }
 
@@ -106,7 +110,7 @@ fn number_fits(m: &[u8], nodes: &[u32], k: usize, b: usize) -> bool
 pub fn built_in_takes(m: &[u8], nodes: &[u32], k: usize, b: usize) -> bool
     ensures { λ r. ⌜ BuiltInTakes (now (m .entry)) (now (nodes .entry)) k b r ⌝ }
 {
-    let c = column(node_word(nodes, k, 0));
+    let c = column(node_word(nodes, k, NODE_KIND));
     if !takes(b, c) {
         return false;
     }

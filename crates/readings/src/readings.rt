@@ -9,9 +9,15 @@ use members::objects::FIRST_REFERENCE;
 use rows::rows::wide;
 use rows::rows::word;
 use rules::TABLE_ROWS;
+use rules::row;
+use text::nodes::NODE_END;
+use text::nodes::NODE_KIND;
+use text::nodes::NODE_NEXT;
+use text::nodes::NODE_START;
 use text::nodes::node_number;
 use text::nodes::node_word;
 use text::texts::MESSAGE_LEVELS;
+use tokens::node;
 ghost use mathlib.Core.Path.{_≡_};
 ghost use mathlib.Core.List.{[], _∷_};
 ghost use Prim.Native.Nat.{suc, _+_, _*_, _≤_, _<_, _^_};
@@ -32,8 +38,8 @@ fn put_node_record(nodes: &[u32], k: usize, t: u32, array: u32, records: &mut [u
     put_record(
         records,
         n,
-        node_word(nodes, k, 1),
-        node_word(nodes, k, 2),
+        node_word(nodes, k, NODE_START),
+        node_word(nodes, k, NODE_END),
         t,
         array,
     );
@@ -144,7 +150,7 @@ fn read_items(
     requires { ⌜ (k < 2 ^ 32) × (n ≤ 2 * suc k) ⌝ }
     ensures { λ r. ⌜ ReadsItems (now (schema .entry)) (now (rows .entry)) (now (m .entry)) (now (nodes .entry)) (now (index .entry)) (now (records .entry)) (now (records .exit)) k t left n r ⌝ }
 {
-    let end = node_number(nodes, k, 3);
+    let end = node_number(nodes, k, NODE_NEXT);
     let mut i = k + 1;
     let mut c = n;
     while i < end {
@@ -152,7 +158,7 @@ fn read_items(
         let Count::Records(d) = v else {
             return Count::Nothing;
         };
-        let j = node_number(nodes, i, 3);
+        let j = node_number(nodes, i, NODE_NEXT);
         if j <= i {
             return Count::Nothing;
         }
@@ -182,7 +188,7 @@ fn read_fields(
     requires { ⌜ (k < 2 ^ 32) × (n ≤ 2 * suc k) ⌝ }
     ensures { λ r. ⌜ ReadsFields (now (schema .entry)) (now (rows .entry)) (now (m .entry)) (now (nodes .entry)) (now (index .entry)) (now (records .entry)) (now (records .exit)) k base branch left n r ⌝ }
 {
-    let end = node_number(nodes, k, 3);
+    let end = node_number(nodes, k, NODE_NEXT);
     let mut a = k + 1;
     let mut c = n;
     while a < end {
@@ -198,8 +204,8 @@ fn read_fields(
             nodes,
             index,
             at,
-            word(rows, link - 1, 3),
-            word(rows, link - 1, 4),
+            word(rows, link - 1, row::TYPE_REF),
+            word(rows, link - 1, row::ARRAY_MARK),
             left,
             records,
             c,
@@ -207,7 +213,7 @@ fn read_fields(
         let Count::Records(d) = v else {
             return Count::Nothing;
         };
-        let j = node_number(nodes, at, 3);
+        let j = node_number(nodes, at, NODE_NEXT);
         if j <= at {
             return Count::Nothing;
         }
@@ -225,10 +231,10 @@ fn is_empty(nodes: &[u32], k: usize) -> bool
     requires { ⌜ k < 2 ^ 32 ⌝ }
     ensures { λ b. ⌜ IsEmpty (now (nodes .entry)) k b ⌝ }
 {
-    if node_word(nodes, k, 0) != 9 {
+    if node_word(nodes, k, NODE_KIND) != node::OBJECT {
         return false;
     }
-    node_number(nodes, k, 3) == k + 1
+    node_number(nodes, k, NODE_NEXT) == k + 1
 }
 
 // The arguments at node k of the command at row c.
@@ -245,7 +251,7 @@ pub fn read_arguments(
     requires { ⌜ k < 2 ^ 32 ⌝ }
     ensures { λ r. ⌜ ReadsArgumentsAt (now (schema .entry)) (now (rows .entry)) (now (m .entry)) (now (nodes .entry)) (now (index .entry)) (now (records .entry)) (now (records .exit)) k c r ⌝ }
 {
-    let link = word(rows, c, 3);
+    let link = word(rows, c, row::ARGUMENTS);
     if link == 0 {
         if !is_empty(nodes, k) {
             return Count::Nothing;

@@ -7,7 +7,11 @@ use members::objects::Structs;
 use members::objects::object_at;
 use rows::rows::wide;
 use rows::rows::word;
+use rules::kind;
+use rules::row;
+use text::nodes::NODE_KIND;
 use text::nodes::node_word;
+use tokens::node;
 ghost use Rattle.readings.specs.Parts.{ScalarFits, ShapeAt, ArrayShape, ObjectShape, ScalarShape};
 
 // The built-in that takes every value.
@@ -37,7 +41,7 @@ fn scalar_fits(
         return built_in_takes(m, nodes, k, wide(t));
     }
     let r = wide(t - FIRST_REFERENCE);
-    if word(rows, r, 0) != 1 {
+    if word(rows, r, row::KIND) != kind::ENUM {
         return false;
     }
     if !is_string(nodes, k) {
@@ -122,9 +126,9 @@ pub fn shape_at(
 ) -> Shape
     ensures { λ x. ⌜ ShapeAt (now (schema .entry)) (now (rows .entry)) (now (m .entry)) (now (nodes .entry)) (now (index .entry)) k t array x ⌝ }
 {
-    match node_word(nodes, k, 0) {
-        8 => array_shape(t, array),
-        9 => object_shape(schema, rows, m, nodes, index, k, t, array),
+    match node_word(nodes, k, NODE_KIND) {
+        node::ARRAY => array_shape(t, array),
+        node::OBJECT => object_shape(schema, rows, m, nodes, index, k, t, array),
         _ => scalar_shape(schema, rows, m, nodes, index, k, t, array),
     }
 }

@@ -6,7 +6,10 @@ use rows::rows::first_child;
 use rows::rows::next_row;
 use rows::rows::wide;
 use rows::rows::word;
+use rules::kind;
+use rules::row;
 use table::alternates::type_kind;
+use text::nodes::NODE_KIND;
 use text::nodes::node_word;
 ghost use Prim.Native.Nat.{_<_, _^_};
 ghost use Rattle.readings.specs.Parts.{AlternativeOf, TypeFor};
@@ -25,7 +28,7 @@ fn alternative(rows: &[u32], r: usize, c: usize) -> Via
     let mut i = first_child(rows, r);
     let mut left = child_count(rows, r);
     while 0 < left {
-        let t = word(rows, i, 3);
+        let t = word(rows, i, row::TYPE_REF);
         if wide(type_kind(rows, wide(t))) == c {
             return Via::Alternative(t);
         }
@@ -46,8 +49,8 @@ pub fn type_for(rows: &[u32], nodes: &[u32], k: usize, t: u32, array: u32) -> Vi
         return Via::Direct;
     }
     let r = wide(t - FIRST_REFERENCE);
-    if word(rows, r, 0) != 7 {
+    if word(rows, r, row::KIND) != kind::ALTERNATE {
         return Via::Direct;
     }
-    alternative(rows, r, column(node_word(nodes, k, 0)))
+    alternative(rows, r, column(node_word(nodes, k, NODE_KIND)))
 }

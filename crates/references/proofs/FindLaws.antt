@@ -12,6 +12,7 @@ use Rattle.grammar.specs.Limits.{row-words}
 use Rattle.grammar.proofs.Lists.{same-true}
 use Rattle.buckets.specs.Buckets.{bucketOf, inBucket}
 use Rattle.buckets.proofs.BucketLaws.{bucket-short, index-walk}
+use Rattle.rules.specs.Kinds.{enum-kind, struct-kind, union-kind, alternate-kind}
 use Rattle.rules.specs.Types.{built-ins}
 use Rattle.rules.specs.Names.{sameName}
 use Rattle.rules.specs.Rows.{kind, nameOf}
@@ -31,13 +32,13 @@ pub fit-type : (s : Bool) {k n : ℕ} → k ≡ n → eqb n 3 ≡ false → (eqb
 fit-type true e p q = rw (e, p)
 fit-type false e p q = rw (e, q)
 
-pub fit-struct : (s : Bool) {k : ℕ} → k ≡ 3 → true ≡ fitting s k
+pub fit-struct : (s : Bool) {k : ℕ} → k ≡ struct-kind → true ≡ fitting s k
 fit-struct true e = rw e
 fit-struct false e = rw e
 
-pub fit-none : (s : Bool) {k : ℕ} → (k ≡ 1 → ⊥) → (k ≡ 3 → ⊥) → (k ≡ 5 → ⊥) → (k ≡ 7 → ⊥) → false ≡ fitting s k
-fit-none true {k} a b c d = rw (ne-eqb k 3 b)
-fit-none false {k} a b c d = rw (ne-eqb k 1 a, ne-eqb k 3 b, ne-eqb k 5 c, ne-eqb k 7 d)
+pub fit-none : (s : Bool) {k : ℕ} → (k ≡ enum-kind → ⊥) → (k ≡ struct-kind → ⊥) → (k ≡ union-kind → ⊥) → (k ≡ alternate-kind → ⊥) → false ≡ fitting s k
+fit-none true {k} a b c d = rw (ne-eqb k struct-kind b)
+fit-none false {k} a b c d = rw (ne-eqb k enum-kind a, ne-eqb k struct-kind b, ne-eqb k union-kind c, ne-eqb k alternate-kind d)
 
 fit-some : (s : Bool) (k : ℕ) → fitting s k ≡ true → k ≡ 0 → ⊥
 fit-some true k e z = clash e (rw z)

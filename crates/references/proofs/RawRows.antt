@@ -10,6 +10,7 @@ use lib.ListN.{length, getD, set}
 use lib.Seq.{getD-append-add, set-getD}
 use borrow.Author.Tests.{eqb-false}
 use Rattle.grammar.specs.Limits.{schema-bytes, row-words}
+use Rattle.rules.specs.Kinds.{struct-kind, member-kind, union-kind, branch-kind, alternative-kind, command-kind}
 use Rattle.rules.specs.Definitions.{Name, TypeText, Data, Definition}
 use Rattle.rules.specs.Definitions.Data.{absent, inline, named}
 use Rattle.rules.specs.Definitions.TypeText.{one}
@@ -19,6 +20,7 @@ use Rattle.rules.specs.Rows.{kind}
 use Rattle.rules.specs.Rows as Rows
 use Rattle.rules.specs.Cells.{Entry, wordsOf, isInlineData, owns, LinkNames, EntryNames}
 use Rattle.rules.specs.Cells.Entry.{enumRow, alternateRow, valueRow, structRow, inlineRow, memberRow, unionRow, branchRow, alternativeRow, commandRow}
+use Rattle.references.specs.NamedWords.{returns-word}
 use Rattle.references.specs.Lookups.{wordRefers, found}
 use Rattle.references.specs.Steps.{putAt, foundAt, putData, foundData, putCommand, foundCommand, putRow, foundRow}
 use Rattle.references.proofs.SlotLaws.{row-struct, row-member, row-union, row-branch, row-alternative, row-command, row-other}
@@ -127,10 +129,10 @@ module _ (S : List ℕ) (ds : List Definition) (short : length S ≤ schema-byte
   kind-behind : (W : List ℕ) → getD W 0 0 ≡ kind (X ++ W) r
   kind-behind W = sym (word-behind X W r n 0)
 
-  other : (W : List ℕ) (k : ℕ) → getD W 0 0 ≡ k → eqb k 3 ≡ false → eqb k 4 ≡ false → eqb k 5 ≡ false → eqb k 6 ≡ false → eqb k 8 ≡ false → eqb k 9 ≡ false
+  other : (W : List ℕ) (k : ℕ) → getD W 0 0 ≡ k → eqb k struct-kind ≡ false → eqb k member-kind ≡ false → eqb k union-kind ≡ false → eqb k branch-kind ≡ false → eqb k alternative-kind ≡ false → eqb k command-kind ≡ false
       → (putRow S T r (X ++ W) ≡ X ++ W) × (foundRow S T r (X ++ W) ≡ true)
   other W k p a b c d e f =
-      row-other S (X ++ W) r (sym p ∙ kind-behind W) T (eqb-false k 3 a) (eqb-false k 4 b) (eqb-false k 5 c) (eqb-false k 6 d) (eqb-false k 8 e) (eqb-false k 9 f)
+      row-other S (X ++ W) r (sym p ∙ kind-behind W) T (eqb-false k struct-kind a) (eqb-false k member-kind b) (eqb-false k union-kind c) (eqb-false k branch-kind d) (eqb-false k alternative-kind e) (eqb-false k command-kind f)
 
   command-behind : (d : Data) (t : TypeText) (W : List ℕ) → LinkNames (Spans S) d → TypeNames (Spans S) t → getD W 3 0 ≡ dataLink packed packed rawTag r d
       → getD (set W 3 (dataLink SL TN rawTag r d)) 5 0 ≡ typeOf packed packed rawTag t → Rows.owns (X ++ W) r ≡ isInlineData d
@@ -140,7 +142,7 @@ module _ (S : List ℕ) (ds : List Definition) (short : length S ≤ schema-byte
   command-behind d t W p q a b i =
       let y = data-behind d W p a i in
       let z = put-behind false 5 (set W 3 (dataLink SL TN rawTag r d)) (typeOf packed packed rawTag t) (typeOf SL TN rawTag t) b (types-word S ds short spans t q) in
-      (ap (putAt S T false (row-words * r + 5)) (y .0) ∙ z .0, ap₂ _&&_ (y .1) (ap (foundAt S T false (row-words * r + 5)) (y .0) ∙ z .1 ∙ types-found S ds short spans t q))
+      (ap (putAt S T false (row-words * r + returns-word)) (y .0) ∙ z .0, ap₂ _&&_ (y .1) (ap (foundAt S T false (row-words * r + returns-word)) (y .0) ∙ z .1 ∙ types-found S ds short spans t q))
 
   pub row-step : (e : Entry) (Y : List ℕ) → EntryNames (Spans S) e → NamedRow e
       → Rows.owns (X ++ (wordsOf packed packed rawTag r e ++ Y)) r ≡ owns e → Step e Y

@@ -10,6 +10,7 @@ use lib.ListN.{length, getD, set, take, drop}
 use lib.Seq.{length-take-le}
 use borrow.Author.Tests.{lt-ltb, le-ltb, eqb-false}
 use Rattle.grammar.specs.Limits.{schema-bytes, chain-structs, row-words}
+use Rattle.rules.specs.Kinds.{union-kind}
 use Rattle.rules.specs.Definitions.{Name, Data, Definition}
 use Rattle.rules.specs.SchemaTable.{bytesOf, memberOf, structLink, typeNamed, untagged, discriminatorLink, table}
 use Rattle.rules.specs.RawTable.{packed, EveryName, Spans}
@@ -19,6 +20,7 @@ use Rattle.rules.specs.Cells.Entry.{enumRow, alternateRow, valueRow, structRow,
 use Rattle.rules.proofs.Cells.{table-words, entry-names, every-at}
 use Rattle.rules.proofs.CellRows.{word-is, kind-is, rows-are}
 use Rattle.rules.proofs.CellTags.{Alike, alike-members, alike-found, SameTag, same-words, same-rows, union-words, words-alike, link-there}
+use Rattle.references.specs.NamedWords.{owner-word, discriminator-word}
 use Rattle.references.specs.Lookups.{nameIn}
 use Rattle.references.specs.Tags.{narrow, tagLink, putTag, putTags}
 use Rattle.references.proofs.TagLaws.{narrow-fits, put-tag, put-no-tag}
@@ -61,12 +63,12 @@ module _ (S : List ℕ) (ds : List Definition) (short : length S ≤ schema-byte
   untagged-alike : (r : ℕ) → Alike (U r) (untagged S ds)
   untagged-alike r = rw (table-words SL TN (λ _ _. 0) 0 ds) (words-alike SL TN (mixed r) (λ _ _. 0) es)
 
-  tag-at : (r : ℕ) (tag : Name) → Spans S tag → getD (U r) (row-words * r + 5) 0 ≡ packed tag → tagLink S r (U r) ≡ DL r tag
+  tag-at : (r : ℕ) (tag : Name) → Spans S tag → getD (U r) (row-words * r + discriminator-word) 0 ≡ packed tag → tagLink S r (U r) ≡ DL r tag
   unfolding tagLink
   tag-at r tag s p =
       let a = untagged-alike r in
-      let b : unionBase (U r) r ≡ unionBase (untagged S ds) r = a .same-word r 3 (omega arith) in
-      let z : memberOf S (U r) (nameIn S (getD (U r) (row-words * r + 5) 0)) (members (U r) chain-structs (unionBase (U r) r)) ≡ DL r tag =
+      let b : unionBase (U r) r ≡ unionBase (untagged S ds) r = a .same-word r owner-word (omega arith) in
+      let z : memberOf S (U r) (nameIn S (getD (U r) (row-words * r + discriminator-word) 0)) (members (U r) chain-structs (unionBase (U r) r)) ≡ DL r tag =
       ap (λ w. memberOf S (U r) (nameIn S w) (members (U r) chain-structs (unionBase (U r) r))) p
       ∙ ap₂ (memberOf S (U r)) (packed-name S short tag s) (alike-members a chain-structs (unionBase (U r) r) ∙ ap (members (untagged S ds) chain-structs) b)
       ∙ alike-found a S (bytesOf S tag) (members (untagged S ds) chain-structs (unionBase (untagged S ds) r)) in
@@ -97,22 +99,22 @@ module _ (S : List ℕ) (ds : List Definition) (short : length S ≤ schema-byte
     join : (e : Entry) → getD es r blank ≡ e → (W : List ℕ) → W ≡ A r ++ (wordsOf SL TN (mixed (suc r)) r e ++ B r) → W ≡ U (suc r)
     join e p W q = q ∙ ap₂ (λ a b. a ++ (wordsOf SL TN (mixed (suc r)) r e ++ b)) before after ∙ sym (parts (suc r) ∙ ap (λ x. A (suc r) ++ (wordsOf SL TN (mixed (suc r)) r x ++ B (suc r))) p)
 
-    no-union : (e : Entry) → getD es r blank ≡ e → eqb (entryKind e) 5 ≡ false → SameTag SL TN (mixed r) (mixed (suc r)) r e → putTag S r (U r) ≡ U (suc r)
+    no-union : (e : Entry) → getD es r blank ≡ e → eqb (entryKind e) union-kind ≡ false → SameTag SL TN (mixed r) (mixed (suc r)) r e → putTag S r (U r) ≡ U (suc r)
     no-union e p k t =
-        sym (put-no-tag S (U r) r (kind-there e p) (eqb-false (entryKind e) 5 k))
+        sym (put-no-tag S (U r) r (kind-there e p) (eqb-false (entryKind e) union-kind k))
         ∙ join e p (U r) (parts r ∙ ap (λ x. A r ++ (wordsOf SL TN (mixed r) r x ++ B r)) p ∙ ap (λ w. A r ++ (w ++ B r)) (same-words SL TN (mixed r) (mixed (suc r)) r e t))
 
     union : (n : Name) (b : Data) (tag : Name) (c : ℕ) → getD es r blank ≡ unionRow n b tag c → putTag S r (U r) ≡ U (suc r)
     union n b tag c p =
         let e : Entry = unionRow n b tag c in
         let s : EntryNames (Spans S) e = subst (EntryNames (Spans S)) p (every-at (EntryNames (Spans S)) blank es (entry-names (Spans S) ds spans) r l) in
-        let w : getD (U r) (row-words * r + 5) 0 ≡ packed tag =
+        let w : getD (U r) (row-words * r + discriminator-word) 0 ≡ packed tag =
         word-is SL TN (mixed r) es r 5 l (omega arith) ∙ ap (λ x. getD (wordsOf SL TN (mixed r) r x) 5 0) p ∙ mixed-above r r tag (omega arith) in
         let v : mixed (suc r) r tag ≡ tagLink S r (U r) = mixed-below (suc r) r tag (omega arith) ∙ sym (tag-at r tag (s .2) w) in
         let k : length (A r) ≡ row-words * r = length-below SL TN (mixed r) es r (omega arith) in
         sym (put-tag S (U r) r (kind-there e p) refl v)
-        ∙ join e p (set (U r) (row-words * r + 5) (mixed (suc r) r tag))
-        (ap (λ u. set u (row-words * r + 5) (mixed (suc r) r tag)) (parts r ∙ ap (λ x. A r ++ (wordsOf SL TN (mixed r) r x ++ B r)) p)
+        ∙ join e p (set (U r) (row-words * r + discriminator-word) (mixed (suc r) r tag))
+        (ap (λ u. set u (row-words * r + discriminator-word) (mixed (suc r) r tag)) (parts r ∙ ap (λ x. A r ++ (wordsOf SL TN (mixed r) r x ++ B r)) p)
         ∙ ap (λ i. set (A r ++ (wordsOf SL TN (mixed r) r e ++ B r)) (i + 5) (mixed (suc r) r tag)) (sym k)
         ∙ set-behind (A r) (wordsOf SL TN (mixed r) r e ++ B r) 5 (mixed (suc r) r tag)
         ∙ ap (λ w. A r ++ w) (union-words SL TN (mixed r) (mixed (suc r)) r n b tag c (B r)))

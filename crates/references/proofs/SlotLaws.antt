@@ -11,8 +11,10 @@ use lib.ListN.{length, getD, set, length-set}
 use lib.Seq.{getD-set-other}
 use borrow.Author.Tests.{ne-eqb, lt-ltb}
 use Rattle.grammar.specs.Limits.{row-words}
+use Rattle.rules.specs.Kinds.{struct-kind, member-kind, union-kind, branch-kind, alternative-kind, command-kind}
 use Rattle.rules.specs.Rows.{kind, owns}
 use Rattle.table.specs.Definitions.{DefinitionIndex}
+use Rattle.references.specs.NamedWords.{base-word, type-word, branch-word, owner-word, returns-word}
 use Rattle.references.specs.Lookups.{wordRefers, Heads, Refers}
 use Rattle.references.specs.Steps.{putAt, foundAt, putData, foundData, putCommand, foundCommand, putRow, foundRow, putRows, foundRows, Puts}
 
@@ -36,21 +38,21 @@ module _ (S T : List ℕ) (P : List ℕ → Type 0) (keeps : (U : List ℕ) (r i
 
   pub kept-data : (r : ℕ) (U : List ℕ) → P U → P (putData S T r U)
   unfolding putData
-  kept-data r U p = kept-cond (owns U r) U (putAt S T true (row-words * r + 3) U) p (kept-at true r 3 U (omega arith) (omega arith) p)
+  kept-data r U p = kept-cond (owns U r) U (putAt S T true (row-words * r + owner-word) U) p (kept-at true r owner-word U (omega arith) (omega arith) p)
 
   kept-command : (r : ℕ) (U : List ℕ) → P U → P (putCommand S T r U)
   unfolding putCommand
-  kept-command r U p = kept-at false r 5 (putData S T r U) (omega arith) (omega arith) (kept-data r U p)
+  kept-command r U p = kept-at false r returns-word (putData S T r U) (omega arith) (omega arith) (kept-data r U p)
 
   pub kept-row : (r : ℕ) (U : List ℕ) → P U → P (putRow S T r U)
   unfolding putRow
   kept-row r U p =
-      kept-cond (eqb (kind U r) 3) _ _ (kept-at true r 4 U (omega arith) (omega arith) p)
-      (kept-cond (eqb (kind U r) 4) _ _ (kept-at false r 3 U (omega arith) (omega arith) p)
-      (kept-cond (eqb (kind U r) 5) _ _ (kept-data r U p)
-      (kept-cond (eqb (kind U r) 6) _ _ (kept-at true r 3 U (omega arith) (omega arith) p)
-      (kept-cond (eqb (kind U r) 8) _ _ (kept-at false r 3 U (omega arith) (omega arith) p)
-      (kept-cond (eqb (kind U r) 9) _ _ (kept-command r U p) p)))))
+      kept-cond (eqb (kind U r) struct-kind) _ _ (kept-at true r base-word U (omega arith) (omega arith) p)
+      (kept-cond (eqb (kind U r) member-kind) _ _ (kept-at false r type-word U (omega arith) (omega arith) p)
+      (kept-cond (eqb (kind U r) union-kind) _ _ (kept-data r U p)
+      (kept-cond (eqb (kind U r) branch-kind) _ _ (kept-at true r branch-word U (omega arith) (omega arith) p)
+      (kept-cond (eqb (kind U r) alternative-kind) _ _ (kept-at false r type-word U (omega arith) (omega arith) p)
+      (kept-cond (eqb (kind U r) command-kind) _ _ (kept-command r U p) p)))))
 
   pub kept-rows : P T → (r : ℕ) → P (putRows S T r)
   unfolding putRows
@@ -81,7 +83,7 @@ module _ {S U heads links : List ℕ} (r : ℕ) {b : Bool} (p : b ≡ owns U r) 
   unfolding putData foundData
   data-inline e = let i : owns U r ≡ true = sym p ∙ e in record { same-length = refl; told = λ T j h. (rw i, rw i) }
 
-  pub data-named : b ≡ false → {new : List ℕ} {t : Bool} → Puts S U heads links (λ T. putAt S T true (row-words * r + 3)) (λ T. foundAt S T true (row-words * r + 3)) new t
+  pub data-named : b ≡ false → {new : List ℕ} {t : Bool} → Puts S U heads links (λ T. putAt S T true (row-words * r + owner-word)) (λ T. foundAt S T true (row-words * r + owner-word)) new t
       → Puts S U heads links (λ T. putData S T r) (λ T. foundData S T r) new t
   unfolding putData foundData
   data-named e f =
@@ -91,7 +93,7 @@ module _ {S U heads links : List ℕ} (r : ℕ) {b : Bool} (p : b ≡ owns U r) 
 -- one after the other
 pub command-both : {S U heads links : List ℕ} (r : ℕ) {mid new : List ℕ} {a b t : Bool}
     → Puts S U heads links (λ T. putData S T r) (λ T. foundData S T r) mid a
-    → Puts S mid heads links (λ T. putAt S T false (row-words * r + 5)) (λ T. foundAt S T false (row-words * r + 5)) new b → t ≡ (a && b)
+    → Puts S mid heads links (λ T. putAt S T false (row-words * r + returns-word)) (λ T. foundAt S T false (row-words * r + returns-word)) new b → t ≡ (a && b)
     → Puts S U heads links (λ T. putCommand S T r) (λ T. foundCommand S T r) new t
 unfolding putCommand foundCommand
 command-both {S} {U} r {mid} f g e = record {
@@ -99,7 +101,7 @@ command-both {S} {U} r {mid} f g e = record {
   told = λ T j h.
       let x = f .told T j h in
       let y = g .told T j (subst (Heads T) (sym (x .0)) (kept-data S T (Heads T) (heads-set T) r U h)) in
-      (y .0 ∙ ap (putAt S T false (row-words * r + 5)) (x .0), e ∙ ap₂ _&&_ (x .1) (y .1 ∙ ap (foundAt S T false (row-words * r + 5)) (x .0)));
+      (y .0 ∙ ap (putAt S T false (row-words * r + returns-word)) (x .0), e ∙ ap₂ _&&_ (x .1) (y .1 ∙ ap (foundAt S T false (row-words * r + returns-word)) (x .0)));
 }
 
 -- row r by its kind
@@ -109,36 +111,36 @@ pub row-by : {S U heads links : List ℕ} {put : List ℕ → List ℕ → List 
 row-by r e f = record { same-length = f .same-length; told = λ T j h. (f .told T j h .0 ∙ sym (e T .0), f .told T j h .1 ∙ sym (e T .1)) }
 
 module _ (S U : List ℕ) (r : ℕ) {k : ℕ} (p : k ≡ kind U r) (T : List ℕ) where
-  pub row-struct : k ≡ 3 → (putRow S T r U ≡ putAt S T true (row-words * r + 4) U) × (foundRow S T r U ≡ foundAt S T true (row-words * r + 4) U)
+  pub row-struct : k ≡ struct-kind → (putRow S T r U ≡ putAt S T true (row-words * r + base-word) U) × (foundRow S T r U ≡ foundAt S T true (row-words * r + base-word) U)
   unfolding putRow foundRow
   row-struct e = (rw (← p, e), rw (← p, e))
 
-  pub row-member : k ≡ 4 → (putRow S T r U ≡ putAt S T false (row-words * r + 3) U) × (foundRow S T r U ≡ foundAt S T false (row-words * r + 3) U)
+  pub row-member : k ≡ member-kind → (putRow S T r U ≡ putAt S T false (row-words * r + type-word) U) × (foundRow S T r U ≡ foundAt S T false (row-words * r + type-word) U)
   unfolding putRow foundRow
   row-member e = (rw (← p, e), rw (← p, e))
 
-  pub row-union : k ≡ 5 → (putRow S T r U ≡ putData S T r U) × (foundRow S T r U ≡ foundData S T r U)
+  pub row-union : k ≡ union-kind → (putRow S T r U ≡ putData S T r U) × (foundRow S T r U ≡ foundData S T r U)
   unfolding putRow foundRow
   row-union e = (rw (← p, e), rw (← p, e))
 
-  pub row-branch : k ≡ 6 → (putRow S T r U ≡ putAt S T true (row-words * r + 3) U) × (foundRow S T r U ≡ foundAt S T true (row-words * r + 3) U)
+  pub row-branch : k ≡ branch-kind → (putRow S T r U ≡ putAt S T true (row-words * r + branch-word) U) × (foundRow S T r U ≡ foundAt S T true (row-words * r + branch-word) U)
   unfolding putRow foundRow
   row-branch e = (rw (← p, e), rw (← p, e))
 
-  pub row-alternative : k ≡ 8 → (putRow S T r U ≡ putAt S T false (row-words * r + 3) U) × (foundRow S T r U ≡ foundAt S T false (row-words * r + 3) U)
+  pub row-alternative : k ≡ alternative-kind → (putRow S T r U ≡ putAt S T false (row-words * r + type-word) U) × (foundRow S T r U ≡ foundAt S T false (row-words * r + type-word) U)
   unfolding putRow foundRow
   row-alternative e = (rw (← p, e), rw (← p, e))
 
-  pub row-command : k ≡ 9
+  pub row-command : k ≡ command-kind
       → (putRow S T r U ≡ putCommand S T r U) × (foundRow S T r U ≡ foundCommand S T r U)
   unfolding putRow foundRow
   row-command e = (rw (← p, e), rw (← p, e))
 
-  pub row-other : (k ≡ 3 → ⊥) → (k ≡ 4 → ⊥) → (k ≡ 5 → ⊥) → (k ≡ 6 → ⊥) → (k ≡ 8 → ⊥) → (k ≡ 9 → ⊥) → (putRow S T r U ≡ U) × (foundRow S T r U ≡ true)
+  pub row-other : (k ≡ struct-kind → ⊥) → (k ≡ member-kind → ⊥) → (k ≡ union-kind → ⊥) → (k ≡ branch-kind → ⊥) → (k ≡ alternative-kind → ⊥) → (k ≡ command-kind → ⊥) → (putRow S T r U ≡ U) × (foundRow S T r U ≡ true)
   unfolding putRow foundRow
   row-other a b c d e f = (
-    rw (← p, ne-eqb k 3 a, ne-eqb k 4 b, ne-eqb k 5 c, ne-eqb k 6 d, ne-eqb k 8 e, ne-eqb k 9 f),
-    rw (← p, ne-eqb k 3 a, ne-eqb k 4 b, ne-eqb k 5 c, ne-eqb k 6 d, ne-eqb k 8 e, ne-eqb k 9 f),
+    rw (← p, ne-eqb k struct-kind a, ne-eqb k member-kind b, ne-eqb k union-kind c, ne-eqb k branch-kind d, ne-eqb k alternative-kind e, ne-eqb k command-kind f),
+    rw (← p, ne-eqb k struct-kind a, ne-eqb k member-kind b, ne-eqb k union-kind c, ne-eqb k branch-kind d, ne-eqb k alternative-kind e, ne-eqb k command-kind f),
   )
 
 pub row-kept : {S U heads links : List ℕ} → Puts S U heads links (λ _ U. U) (λ _ _. true) U true

@@ -11,6 +11,7 @@ use lib.Dec.{eqb}
 use lib.ListN.{length, getD, set, length-set}
 use borrow.Author.Tests.{ne-eqb, lt-ltb, le-ltb}
 use Rattle.grammar.specs.Limits.{chain-structs, row-words}
+use Rattle.rules.specs.Kinds.{union-kind}
 use Rattle.rules.specs.Names.{sameName}
 use Rattle.rules.specs.Rows.{kind, base, unionBase, children, members, after, nameOf}
 use Rattle.rules.specs.Rules.{is}
@@ -22,6 +23,7 @@ use Rattle.rows.specs.Rows.{Follows, First, Counted}
 use Rattle.rows.proofs.LoopLaws.{WalkLeft, left-hit, left-on, left-ends}
 use Rattle.rows.proofs.ChildLaws.{left-children}
 use Rattle.table.proofs.ChainLaws.{ends-is}
+use Rattle.references.specs.NamedWords.{discriminator-word}
 use Rattle.references.specs.Lookups.{nameIn}
 use Rattle.references.specs.Tags.{orElse, memberLink, narrow, tagLink, putTag, putTags}
 
@@ -122,15 +124,15 @@ module _ (S U : List ℕ) (r : ℕ) {b : ℕ} {t : Bool} (p : b ≡ unionBase U 
   unfolding tagLink
   tag-endless n = go (members U chain-structs (unionBase U r)) refl
     where
-      go : (o : Option (List ℕ)) → members U chain-structs (unionBase U r) ≡ o → 0 ≡ narrow (memberOf S U (nameIn S (getD U (row-words * r + 5) 0)) o)
+      go : (o : Option (List ℕ)) → members U chain-structs (unionBase U r) ≡ o → 0 ≡ narrow (memberOf S U (nameIn S (getD U (row-words * r + discriminator-word) 0)) o)
       go none e = refl
       go (some ms) e = absurd (clash refl (ap (λ (o : Option (List ℕ)). is o (λ _. true)) (sym e) ∙ ends ∙ denied refl n))
 
-  pub tag-found : not t ≡ false → {w l v : ℕ} {x : List ℕ} → w ≡ getD U (row-words * r + 5) 0 → x ≡ nameIn S w → l ≡ memberLink S U chain-structs b x → v ≡ narrow l
+  pub tag-found : not t ≡ false → {w l v : ℕ} {x : List ℕ} → w ≡ getD U (row-words * r + discriminator-word) 0 → x ≡ nameIn S w → l ≡ memberLink S U chain-structs b x → v ≡ narrow l
       → v ≡ tagLink S r U
   unfolding tagLink
   tag-found n {w} {l} {v} {x} e f g h =
-      let z : l ≡ memberOf S U (nameIn S (getD U (row-words * r + 5) 0)) (members U chain-structs (unionBase U r)) = rw (← e, ← f) (g ∙ ap (λ b. memberLink S U chain-structs b x) p ∙ go (members U chain-structs (unionBase U r)) refl) in
+      let z : l ≡ memberOf S U (nameIn S (getD U (row-words * r + discriminator-word) 0)) (members U chain-structs (unionBase U r)) = rw (← e, ← f) (g ∙ ap (λ b. memberLink S U chain-structs b x) p ∙ go (members U chain-structs (unionBase U r)) refl) in
       h ∙ ap narrow z
     where
       go : (o : Option (List ℕ)) → members U chain-structs (unionBase U r) ≡ o → memberLink S U chain-structs (unionBase U r) x ≡ memberOf S U x o
@@ -139,13 +141,13 @@ module _ (S U : List ℕ) (r : ℕ) {b : ℕ} {t : Bool} (p : b ≡ unionBase U 
 
 -- union by union
 module _ (S U : List ℕ) (r : ℕ) {k : ℕ} (p : k ≡ kind U r) where
-  pub put-tag : k ≡ 5 → {v : ℕ} → v ≡ tagLink S r U → set U (row-words * r + 5) v ≡ putTag S r U
+  pub put-tag : k ≡ union-kind → {v : ℕ} → v ≡ tagLink S r U → set U (row-words * r + discriminator-word) v ≡ putTag S r U
   unfolding putTag
   put-tag e q = rw (← p, e, q)
 
-  pub put-no-tag : (k ≡ 5 → ⊥) → U ≡ putTag S r U
+  pub put-no-tag : (k ≡ union-kind → ⊥) → U ≡ putTag S r U
   unfolding putTag
-  put-no-tag n = rw (← p, ne-eqb k 5 n)
+  put-no-tag n = rw (← p, ne-eqb k union-kind n)
 
 pub tags-start : (S U : List ℕ) → U ≡ putTags S 0 U
 unfolding putTags
@@ -158,8 +160,8 @@ tags-next S U r p q = rw (add-one r) (q ∙ ap (putTag S r) p)
 pub length-tags : (S U : List ℕ) (r : ℕ) → length (putTags S r U) ≡ length U
 unfolding putTags putTag
 length-tags S U zero = refl
-length-tags S U (suc r) = go (eqb (kind (putTags S r U) r) 5) ∙ length-tags S U r
+length-tags S U (suc r) = go (eqb (kind (putTags S r U) r) union-kind) ∙ length-tags S U r
   where
-    go : (b : Bool) → length (cond b (set (putTags S r U) (row-words * r + 5) (tagLink S r (putTags S r U))) (putTags S r U)) ≡ length (putTags S r U)
-    go true = length-set (putTags S r U) (row-words * r + 5) (tagLink S r (putTags S r U))
+    go : (b : Bool) → length (cond b (set (putTags S r U) (row-words * r + discriminator-word) (tagLink S r (putTags S r U))) (putTags S r U)) ≡ length (putTags S r U)
+    go true = length-set (putTags S r U) (row-words * r + discriminator-word) (tagLink S r (putTags S r U))
     go false = refl

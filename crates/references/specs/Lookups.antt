@@ -6,6 +6,7 @@ use mathlib.Core.List.{List}
 use lib.Dec.{eqb, ltb}
 use lib.ListN.{getD, take, drop}
 use Rattle.grammar.specs.Limits.{schema-bytes, row-words}
+use Rattle.rules.specs.Kinds.{enum-kind, struct-kind, union-kind, alternate-kind}
 use Rattle.rules.specs.Types.{built-ins}
 use Rattle.rules.specs.SchemaTable.{placeIn, reference}
 use Rattle.rules.specs.Cells.{firstLink, isNamed}
@@ -17,8 +18,8 @@ nameIn S w = take (w % schema-bytes) (drop (w / schema-bytes) S)
 
 -- the kinds of rows that are meant: structs alone, or all types
 abbrev pub fitting : Bool → ℕ → Bool
-fitting true k = eqb k 3
-fitting false k = eqb k 1 || eqb k 3 || eqb k 5 || eqb k 7
+fitting true k = eqb k struct-kind
+fitting false k = eqb k enum-kind || eqb k struct-kind || eqb k union-kind || eqb k alternate-kind
 
 -- the link of the first definition of T that fits and has the name x
 unfoldable pub findRow : List ℕ → List ℕ → Bool → List ℕ → ℕ

@@ -6,8 +6,10 @@ use mathlib.Core.List.{List}
 use lib.Dec.{eqb}
 use lib.ListN.{getD, set, length}
 use Rattle.grammar.specs.Limits.{row-words}
+use Rattle.rules.specs.Kinds.{struct-kind, member-kind, union-kind, branch-kind, alternative-kind, command-kind}
 use Rattle.rules.specs.Rows.{kind, owns}
 use Rattle.table.specs.Definitions.{DefinitionIndex}
+use Rattle.references.specs.NamedWords.{base-word, type-word, branch-word, owner-word, returns-word}
 use Rattle.references.specs.Lookups.{wordRefers, found, Heads}
 
 module _ (S T : List ℕ) where
@@ -20,36 +22,36 @@ module _ (S T : List ℕ) where
 
   -- the base of union r or the data of command r, unless it is inline
   unfoldable pub putData : ℕ → List ℕ → List ℕ
-  putData r U = cond (owns U r) U (putAt true (row-words * r + 3) U)
+  putData r U = cond (owns U r) U (putAt true (row-words * r + owner-word) U)
 
   unfoldable pub foundData : ℕ → List ℕ → Bool
-  foundData r U = cond (owns U r) true (foundAt true (row-words * r + 3) U)
+  foundData r U = cond (owns U r) true (foundAt true (row-words * r + owner-word) U)
 
   -- the data and then the return of command r
   unfoldable pub putCommand : ℕ → List ℕ → List ℕ
-  putCommand r U = putAt false (row-words * r + 5) (putData r U)
+  putCommand r U = putAt false (row-words * r + returns-word) (putData r U)
 
   unfoldable pub foundCommand : ℕ → List ℕ → Bool
-  foundCommand r U = foundData r U && foundAt false (row-words * r + 5) (putData r U)
+  foundCommand r U = foundData r U && foundAt false (row-words * r + returns-word) (putData r U)
 
   -- row r by its kind, but for a discriminator
   unfoldable pub putRow : ℕ → List ℕ → List ℕ
   putRow r U =
-      cond (eqb (kind U r) 3) (putAt true (row-words * r + 4) U)
-      (cond (eqb (kind U r) 4) (putAt false (row-words * r + 3) U)
-      (cond (eqb (kind U r) 5) (putData r U)
-      (cond (eqb (kind U r) 6) (putAt true (row-words * r + 3) U)
-      (cond (eqb (kind U r) 8) (putAt false (row-words * r + 3) U)
-      (cond (eqb (kind U r) 9) (putCommand r U) U)))))
+      cond (eqb (kind U r) struct-kind) (putAt true (row-words * r + base-word) U)
+      (cond (eqb (kind U r) member-kind) (putAt false (row-words * r + type-word) U)
+      (cond (eqb (kind U r) union-kind) (putData r U)
+      (cond (eqb (kind U r) branch-kind) (putAt true (row-words * r + branch-word) U)
+      (cond (eqb (kind U r) alternative-kind) (putAt false (row-words * r + type-word) U)
+      (cond (eqb (kind U r) command-kind) (putCommand r U) U)))))
 
   unfoldable pub foundRow : ℕ → List ℕ → Bool
   foundRow r U =
-      cond (eqb (kind U r) 3) (foundAt true (row-words * r + 4) U)
-      (cond (eqb (kind U r) 4) (foundAt false (row-words * r + 3) U)
-      (cond (eqb (kind U r) 5) (foundData r U)
-      (cond (eqb (kind U r) 6) (foundAt true (row-words * r + 3) U)
-      (cond (eqb (kind U r) 8) (foundAt false (row-words * r + 3) U)
-      (cond (eqb (kind U r) 9) (foundCommand r U) true)))))
+      cond (eqb (kind U r) struct-kind) (foundAt true (row-words * r + base-word) U)
+      (cond (eqb (kind U r) member-kind) (foundAt false (row-words * r + type-word) U)
+      (cond (eqb (kind U r) union-kind) (foundData r U)
+      (cond (eqb (kind U r) branch-kind) (foundAt true (row-words * r + branch-word) U)
+      (cond (eqb (kind U r) alternative-kind) (foundAt false (row-words * r + type-word) U)
+      (cond (eqb (kind U r) command-kind) (foundCommand r U) true)))))
 
   -- the rows of T below row r
   unfoldable pub putRows : ℕ → List ℕ

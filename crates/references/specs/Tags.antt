@@ -5,8 +5,10 @@ use mathlib.Core.List.{List}
 use lib.Dec.{eqb, ltb}
 use lib.ListN.{getD, set}
 use Rattle.grammar.specs.Limits.{chain-structs, row-words}
+use Rattle.rules.specs.Kinds.{union-kind}
 use Rattle.rules.specs.Rows.{kind, base, children, members, unionBase}
 use Rattle.rules.specs.SchemaTable.{memberIn, memberOf}
+use Rattle.references.specs.NamedWords.{discriminator-word}
 use Rattle.references.specs.Lookups.{nameIn}
 
 -- a link, or the other one where it is none
@@ -28,10 +30,10 @@ narrow l = cond (ltb l (2 ^ 32)) l 0
 module _ (S : List ℕ) where
   -- the link of the discriminator of union r, which a word names
   unfoldable pub tagLink : ℕ → List ℕ → ℕ
-  tagLink r U = narrow (memberOf S U (nameIn S (getD U (row-words * r + 5) 0)) (members U chain-structs (unionBase U r)))
+  tagLink r U = narrow (memberOf S U (nameIn S (getD U (row-words * r + discriminator-word) 0)) (members U chain-structs (unionBase U r)))
 
   unfoldable pub putTag : ℕ → List ℕ → List ℕ
-  putTag r U = cond (eqb (kind U r) 5) (set U (row-words * r + 5) (tagLink r U)) U
+  putTag r U = cond (eqb (kind U r) union-kind) (set U (row-words * r + discriminator-word) (tagLink r U)) U
 
   -- the rows of U below row r
   unfoldable pub putTags : ℕ → List ℕ → List ℕ

@@ -9,6 +9,8 @@ use rows::names::same_bytes;
 use rows::rows::wide;
 use rows::rows::word;
 use rules::SCHEMA_BYTES;
+use rules::kind;
+use rules::row;
 use table::definitions::built_in;
 ghost use mathlib.Core.Path.{_≡_};
 ghost use Prim.Native.Nat.{_<_, _^_};
@@ -21,10 +23,10 @@ fn fits(kind: u32, structs: bool) -> bool
     ensures { λ b. ⌜ b ≡ fitting structs kind ⌝ }
 {
     match kind {
-        1 => !structs,
-        3 => true,
-        5 => !structs,
-        7 => !structs,
+        kind::ENUM => !structs,
+        kind::STRUCT => true,
+        kind::UNION => !structs,
+        kind::ALTERNATE => !structs,
         _ => false,
     }
 }
@@ -33,7 +35,7 @@ fn fits(kind: u32, structs: bool) -> bool
 fn is_named(s: &[u8], rows: &[u32], r: usize, name: &[u8], structs: bool) -> bool
     ensures { λ b. ⌜ b ≡ isNamed (now (s .entry)) (now (rows .entry)) (fitting structs) (now (name .entry)) r ⌝ }
 {
-    if !fits(word(rows, r, 0), structs) {
+    if !fits(word(rows, r, row::KIND), structs) {
         return false;
     }
     same_bytes(name, name_of(s, rows, r))

@@ -4,6 +4,8 @@ use buckets::BUCKETS;
 use rows::rows::owns_struct;
 use rows::rows::word;
 use rules::ROW_WORDS;
+use rules::kind;
+use rules::row;
 ghost use mathlib.Core.Path.{_≡_};
 ghost use Prim.Native.Nat.{_+_, _*_, _≤_, _<_, _^_};
 ghost use mathlib.Core.Bool.{_&&_};
@@ -51,7 +53,7 @@ fn put_data(s: &[u8], rows: &mut [u32], heads: &[u32; BUCKETS], links: &[u32], r
     if owns_struct(rows, r) {
         return true;
     }
-    put(s, rows, heads, links, true, ROW_WORDS * r + 3)
+    put(s, rows, heads, links, true, ROW_WORDS * r + row::OWNER_LINK)
 }
 
 // The data and the return of command r.
@@ -60,7 +62,7 @@ fn put_command(s: &[u8], rows: &mut [u32], heads: &[u32; BUCKETS], links: &[u32]
     ensures { λ b. ⌜ Puts (now (s .entry)) (now (rows .entry)) (now (heads .entry)) (now (links .entry)) (λ T. putCommand (now (s .entry)) T r) (λ T. foundCommand (now (s .entry)) T r) (now (rows .exit)) b ⌝ }
 {
     let a = put_data(s, rows, heads, links, r);
-    let b = put(s, rows, heads, links, false, ROW_WORDS * r + 5);
+    let b = put(s, rows, heads, links, false, ROW_WORDS * r + row::RETURNS);
     both(a, b)
 }
 
@@ -69,14 +71,21 @@ fn resolve_row(s: &[u8], rows: &mut [u32], heads: &[u32; BUCKETS], links: &[u32]
     requires { ⌜ (length (now rows) < 2 ^ 32) × (row-words * r + row-words ≤ length (now rows)) ⌝ }
     ensures { λ b. ⌜ Puts (now (s .entry)) (now (rows .entry)) (now (heads .entry)) (now (links .entry)) (λ T. putRow (now (s .entry)) T r) (λ T. foundRow (now (s .entry)) T r) (now (rows .exit)) b ⌝ }
 {
-    let k = word(rows, r, 0);
+    let k = word(rows, r, row::KIND);
     match k {
-        3 => put(s, rows, heads, links, true, ROW_WORDS * r + 4),
-        4 => put(s, rows, heads, links, false, ROW_WORDS * r + 3),
-        5 => put_data(s, rows, heads, links, r),
-        6 => put(s, rows, heads, links, true, ROW_WORDS * r + 3),
-        8 => put(s, rows, heads, links, false, ROW_WORDS * r + 3),
-        9 => put_command(s, rows, heads, links, r),
+        kind::STRUCT => put(s, rows, heads, links, true, ROW_WORDS * r + row::BASE),
+        kind::MEMBER => put(s, rows, heads, links, false, ROW_WORDS * r + row::TYPE_REF),
+        kind::UNION => put_data(s, rows, heads, links, r),
+        kind::BRANCH => put(
+            s,
+            rows,
+            heads,
+            links,
+            true,
+            ROW_WORDS * r + row::BRANCH_STRUCT,
+        ),
+        kind::ALTERNATIVE => put(s, rows, heads, links, false, ROW_WORDS * r + row::TYPE_REF),
+        kind::COMMAND => put_command(s, rows, heads, links, r),
         _ => true,
     }
 }

@@ -9,6 +9,8 @@ use rows::rows::wide;
 use rows::rows::word;
 use rules::CHAIN_STRUCTS;
 use rules::ROW_WORDS;
+use rules::kind;
+use rules::row;
 use table::chains::chain_ends;
 ghost use mathlib.Core.Path.{_≡_};
 ghost use Prim.Native.Nat.{_+_, _*_, _≤_, _<_, _^_};
@@ -46,12 +48,18 @@ fn member_link(s: &[u8], rows: &[u32], link: usize, left: usize, name: &[u8]) ->
     if left == 0 {
         return 0;
     }
-    let row = link - 1;
-    let inherited = member_link(s, rows, wide(word(rows, row, 4)), left - 1, name);
+    let struct_row = link - 1;
+    let inherited = member_link(
+        s,
+        rows,
+        wide(word(rows, struct_row, row::BASE)),
+        left - 1,
+        name,
+    );
     if inherited != 0 {
         return inherited;
     }
-    child_link(s, rows, row, name)
+    child_link(s, rows, struct_row, name)
 }
 
 fn narrow(link: usize) -> u32
@@ -67,20 +75,26 @@ fn narrow(link: usize) -> u32
 fn tag_link(s: &[u8], rows: &[u32], r: usize) -> u32
     ensures { λ l. ⌜ l ≡ Spec.tagLink (now (s .entry)) r (now (rows .entry)) ⌝ }
 {
-    let base = wide(word(rows, r, 3));
+    let base = wide(word(rows, r, row::UNION_BASE));
     if !chain_ends(rows, base, CHAIN_STRUCTS) {
         return 0;
     }
-    narrow(member_link(s, rows, base, CHAIN_STRUCTS, named_by(s, word(rows, r, 5))))
+    narrow(member_link(
+        s,
+        rows,
+        base,
+        CHAIN_STRUCTS,
+        named_by(s, word(rows, r, row::DISCRIMINATOR)),
+    ))
 }
 
 fn tag_row(s: &[u8], rows: &mut [u32], r: usize)
     requires { ⌜ row-words * r + row-words ≤ length (now rows) ⌝ }
     ensures { λ _. ⌜ now (rows .exit) ≡ Spec.putTag (now (s .entry)) r (now (rows .entry)) ⌝ }
 {
-    if word(rows, r, 0) == 5 {
+    if word(rows, r, row::KIND) == kind::UNION {
         let link = tag_link(s, rows, r);
-        rows[ROW_WORDS * r + 5] = link;
+        rows[ROW_WORDS * r + row::DISCRIMINATOR] = link;
     }
 }
 

@@ -13,15 +13,16 @@ use mir.Syntax.{w32}
 use mir.Val.{Fits}
 use borrow.Author.Tests.{eq-eqb, ne-eqb}
 use Rattle.grammar.specs.Limits.{row-words}
-use Rattle.rules.specs.Rows.{word, kind, start, size, base, isEnum, isStruct, isUnion, isAlternate, isCommand, count, branchCount, next, unnamed, owns, childCount}
+use Rattle.rules.specs.Kinds.{struct-kind, union-kind, command-kind}
+use Rattle.rules.specs.Rows.{kind, start, size, base, isEnum, isStruct, isUnion, isAlternate, isCommand, count, branchCount, next, unnamed, owns, childCount, ownerLink}
 use Rattle.rows.specs.Rows.{Follows}
 use Rattle.rows.proofs.Walks.{so}
 
 -- an unnamed struct: the words read of it, and what they are
 module _ (T : List ℕ) (r : ℕ) where
-  pub unnamed-kind : (k : ℕ) → k ≡ kind T r → (k ≡ 3 → ⊥) → false ≡ unnamed T r
+  pub unnamed-kind : (k : ℕ) → k ≡ kind T r → (k ≡ struct-kind → ⊥) → false ≡ unnamed T r
   unfolding unnamed
-  unnamed-kind k p n = rw (ne-eqb (kind T r) 3 (λ e. n (p ∙ e)))
+  unnamed-kind k p n = rw (ne-eqb (kind T r) struct-kind (λ e. n (p ∙ e)))
 
   pub unnamed-start : (a : ℕ) → a ≡ start T r → (a ≡ 0 → ⊥) → false ≡ unnamed T r
   unfolding unnamed
@@ -31,7 +32,7 @@ module _ (T : List ℕ) (r : ℕ) where
   unfolding unnamed
   unnamed-size s p n = rw (ne-eqb (size T r) 0 (λ e. n (p ∙ e)), and-false)
 
-  pub unnamed-base : (k a s b : ℕ) → k ≡ kind T r → k ≡ 3 → a ≡ start T r → a ≡ 0 → s ≡ size T r → s ≡ 0 → b ≡ base T r → eqb b 0 ≡ unnamed T r
+  pub unnamed-base : (k a s b : ℕ) → k ≡ kind T r → k ≡ struct-kind → a ≡ start T r → a ≡ 0 → s ≡ size T r → s ≡ 0 → b ≡ base T r → eqb b 0 ≡ unnamed T r
   unfolding unnamed
   unnamed-base k a s b p p′ q q′ t t′ u = rw (so p p′, so q q′, so t t′, u)
 
@@ -42,21 +43,21 @@ follows-one r = record { is = add-one r; low = omega arith }
 
 -- an owner: a union or a command that links to the unnamed struct after it
 module _ (T : List ℕ) (r : ℕ) where
-  pub owns-kind : (k : ℕ) → k ≡ kind T r → (k ≡ 5 → ⊥) → (k ≡ 9 → ⊥) → false ≡ owns T r
+  pub owns-kind : (k : ℕ) → k ≡ kind T r → (k ≡ union-kind → ⊥) → (k ≡ command-kind → ⊥) → false ≡ owns T r
   unfolding owns
-  owns-kind k p u c = rw (ne-eqb (kind T r) 5 (λ e. u (p ∙ e)), ne-eqb (kind T r) 9 (λ e. c (p ∙ e)))
+  owns-kind k p u c = rw (ne-eqb (kind T r) union-kind (λ e. u (p ∙ e)), ne-eqb (kind T r) command-kind (λ e. c (p ∙ e)))
 
-  module _ {s : ℕ} (n : Follows T r s) (l : ℕ) (q : l ≡ word T r 4) where
+  module _ {s : ℕ} (n : Follows T r s) (l : ℕ) (q : l ≡ ownerLink T r) where
     pub owns-no-link : (l ≡ s + 1 → ⊥) → false ≡ owns T r
     unfolding owns
-    owns-no-link m = rw (← n .is, ← add-one s, ne-eqb (word T r 4) (s + 1) (λ e. m (q ∙ e)), and-false)
+    owns-no-link m = rw (← n .is, ← add-one s, ne-eqb (ownerLink T r) (s + 1) (λ e. m (q ∙ e)), and-false)
 
-    pub owns-linked : (k : ℕ) (b : Bool) → k ≡ kind T r → (k ≡ 9) ⊎ (k ≡ 5) → l ≡ s + 1 → b ≡ unnamed T s → b ≡ owns T r
+    pub owns-linked : (k : ℕ) (b : Bool) → k ≡ kind T r → (k ≡ command-kind) ⊎ (k ≡ union-kind) → l ≡ s + 1 → b ≡ unnamed T s → b ≡ owns T r
     unfolding owns
-    owns-linked k b p o e u = rw (← n .is, ← add-one s, ← p, kinds, eq-eqb (word T r 4) (s + 1) (so q e)) u
+    owns-linked k b p o e u = rw (← n .is, ← add-one s, ← p, kinds, eq-eqb (ownerLink T r) (s + 1) (so q e)) u
       where
-        kinds : (eqb k 5 || eqb k 9) ≡ true
-        kinds = ⊎-elim (λ (e : k ≡ 9). rw e) (λ (e : k ≡ 5). rw e) o
+        kinds : (eqb k union-kind || eqb k command-kind) ≡ true
+        kinds = ⊎-elim (λ (e : k ≡ command-kind). rw e) (λ (e : k ≡ union-kind). rw e) o
 
 -- words of 32 bits
 module _ (T : List ℕ) (small : (k : ℕ) → Fits w32 (getD T k 0)) where

@@ -2,6 +2,7 @@
 use crate::rows::wide;
 use crate::rows::word;
 use rules::NAME_BYTES;
+use rules::row;
 use strings::classes::class_in;
 ghost use mathlib.Core.Path.{_≡_};
 ghost use lib.ListN.{take, drop};
@@ -54,8 +55,8 @@ pub fn same_bytes(x: &[u8], y: &[u8]) -> bool
 pub fn name_of<'a>(schema: &'a [u8], rows: &[u32], r: usize) -> &'a [u8]
     ensures { λ w. ⌜ now w ≡ nameOf (now (schema .entry)) (now (rows .entry)) r ⌝ }
 {
-    let a = wide(word(rows, r, 1));
-    let n = wide(word(rows, r, 2));
+    let a = wide(word(rows, r, row::START));
+    let n = wide(word(rows, r, row::SIZE));
     part_of(schema, a, n)
 }
 

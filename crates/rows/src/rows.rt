@@ -1,9 +1,10 @@
 // Rows of eight words in a slice. Everything is total: past the end every word is 0.
 use rules::ROW_WORDS;
+use rules::kind;
+use rules::row;
 ghost use mathlib.Core.Path.{_≡_};
 ghost use Prim.Native.Nat.{_+_, _-_, _*_, _≤_, _<_, _^_};
-ghost use lib.ListN.{getD};
-ghost use Rattle.grammar.specs.Limits.{row-words};
+ghost use Rattle.rules.specs.Rows as Rows;
 ghost use Rattle.rules.specs.Rows.{past, unnamed, owns, pastChildren};
 ghost use Rattle.rows.specs.Rows.{Follows, Room, First, Counted};
 
@@ -13,9 +14,9 @@ pub fn wide(x: u32) -> usize
     x as usize
 }
 
-// Word i of row r, counted from 0.
+// Word i of row r, both counted from 0.
 pub fn word(rows: &[u32], r: usize, i: usize) -> u32
-    ensures { λ w. ⌜ w ≡ getD (now (rows .entry)) (row-words * r + i) 0 ⌝ }
+    ensures { λ w. ⌜ w ≡ Rows.word (now (rows .entry)) r i ⌝ }
 {
     if rows.len() / ROW_WORDS < r {
         return 0;
@@ -53,16 +54,16 @@ pub fn past_rows(rows: &[u32], c: usize, n: usize) -> usize
 pub fn is_unnamed(rows: &[u32], r: usize) -> bool
     ensures { λ b. ⌜ b ≡ unnamed (now (rows .entry)) r ⌝ }
 {
-    if word(rows, r, 0) != 3 {
+    if word(rows, r, row::KIND) != kind::STRUCT {
         return false;
     }
-    if word(rows, r, 1) != 0 {
+    if word(rows, r, row::START) != 0 {
         return false;
     }
-    if word(rows, r, 2) != 0 {
+    if word(rows, r, row::SIZE) != 0 {
         return false;
     }
-    word(rows, r, 4) == 0
+    word(rows, r, row::BASE) == 0
 }
 
 // Whether row r is a union or a command whose inline struct follows it.
@@ -70,14 +71,14 @@ pub fn owns_struct(rows: &[u32], r: usize) -> bool
     requires { ⌜ r < 2 ^ 61 + 2 ^ 34 ⌝ }
     ensures { λ b. ⌜ b ≡ owns (now (rows .entry)) r ⌝ }
 {
-    let owner = word(rows, r, 0);
-    if owner != 5 {
-        if owner != 9 {
+    let owner = word(rows, r, row::KIND);
+    if owner != kind::UNION {
+        if owner != kind::COMMAND {
             return false;
         }
     }
     let s = next_row(rows, r);
-    if wide(word(rows, r, 3)) != s + 1 {
+    if wide(word(rows, r, row::OWNER_LINK)) != s + 1 {
         return false;
     }
     is_unnamed(rows, s)
@@ -87,12 +88,12 @@ pub fn owns_struct(rows: &[u32], r: usize) -> bool
 pub fn child_count(rows: &[u32], r: usize) -> usize
     ensures { λ n. ⌜ Counted (now (rows .entry)) r n ⌝ }
 {
-    let k = word(rows, r, 0);
+    let k = word(rows, r, row::KIND);
     match k {
-        1 => wide(word(rows, r, 3)),
-        3 => wide(word(rows, r, 3)),
-        5 => wide(word(rows, r, 4)),
-        7 => wide(word(rows, r, 3)),
+        kind::ENUM => wide(word(rows, r, row::COUNT)),
+        kind::STRUCT => wide(word(rows, r, row::COUNT)),
+        kind::UNION => wide(word(rows, r, row::BRANCH_COUNT)),
+        kind::ALTERNATE => wide(word(rows, r, row::COUNT)),
         _ => 0,
     }
 }
@@ -106,7 +107,7 @@ pub fn first_child(rows: &[u32], r: usize) -> usize
     if !owns_struct(rows, r) {
         return s;
     }
-    past_rows(rows, next_row(rows, s), wide(word(rows, s, 3)))
+    past_rows(rows, next_row(rows, s), wide(word(rows, s, row::COUNT)))
 }
 
 // The row after all that belongs to row r.

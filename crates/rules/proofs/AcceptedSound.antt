@@ -17,6 +17,7 @@ use Rattle.grammar.specs.Limits.{row-words, table-rows, schema-bytes, chain-str
 use Rattle.grammar.specs.Notation.{all}
 use Rattle.grammar.specs.Tree.{Items}
 use Rattle.grammar.specs.SchemaText.{SchemaText}
+use Rattle.rules.specs.Kinds.{struct-kind, member-kind, union-kind}
 use Rattle.rules.specs.declared.SchemaRefusal.{SchemaRefusal}
 use Rattle.rules.specs.declared.SchemaRefusal.the-variants as R
 use Rattle.rules.specs.declared.SchemaAnswer.the-variants as SA
@@ -107,7 +108,7 @@ module _ (S : List ℕ) (ds : List Definition) (spans : EveryName (Spans S) ds) 
     fits : TagLinked T f g h r → referencesFit T r ≡ true
     fits = references-fit T f g h r entry (row-is f g h (entries ds) r l) linked owner
 
-    base-of : kind T r ≡ 5 → StructLink T (unionBase T r)
+    base-of : kind T r ≡ union-kind → StructLink T (unionBase T r)
     base-of k =
         ⊎-elim (to-owned T r) (to-struct T (unionBase T r))
         (or-cases (Rows.owns T r) (toStruct T (unionBase T r)) (union-base T f g h r entry (row-is f g h (entries ds) r l) linked owner k))
@@ -120,26 +121,26 @@ module _ (S : List ℕ) (ds : List Definition) (spans : EveryName (Spans S) ds) 
   laid = subst (λ (W : List ℕ). laidOut W (rowCount W) 0 ≡ true) (table-words f g h 0 ds) (table-laid-out f g h ds behind)
 
   -- what a struct has, inherited or its own, are members
-  own-members : (r c : ℕ) → kind T r ≡ 3 → List·Memᴰ c (children T r) → kind T c ≡ 4
+  own-members : (r c : ℕ) → kind T r ≡ struct-kind → List·Memᴰ c (children T r) → kind T c ≡ member-kind
   own-members r c k m =
       let l = there r 2 k in
       fit-child T r (laid-fit T (rowCount T) 0 laid r zero-le (omega (arith, rows))) c m ∙ ap suc k
 
-  all-members : (n l : ℕ) → StructLink T l → (ms : List ℕ) → members T n l ≡ some ms → (m : ℕ) → List·Memᴰ m ms → kind T m ≡ 4
+  all-members : (n l : ℕ) → StructLink T l → (ms : List ℕ) → members T n l ≡ some ms → (m : ℕ) → List·Memᴰ m ms → kind T m ≡ member-kind
   unfolding members
   all-members zero zero s ms p m i = let z : ms ≡ [] = cc in elim (subst (List·Memᴰ m) z i) [ ]
   all-members zero (suc r) s ms p m i = none-not-some p
   all-members (suc n) zero s ms p m i = let z : ms ≡ [] = cc in elim (subst (List·Memᴰ m) z i) [ ]
   all-members (suc n) (suc r) s ms p m i = go (members T n (base T r)) refl p (all-members n (base T r) inherited)
     where
-      struct : kind T r ≡ 3
+      struct : kind T r ≡ struct-kind
       struct = s r refl
 
       inherited : StructLink T (base T r)
       inherited = base-refers T r (fits r (there r 2 struct) (λ k. absurd (omega (arith, struct)))) struct
 
       go : (o : Option (List ℕ)) → members T n (base T r) ≡ o → after o (children T r) ≡ some ms
-          → ((xs : List ℕ) → members T n (base T r) ≡ some xs → (x : ℕ) → List·Memᴰ x xs → kind T x ≡ 4) → kind T m ≡ 4
+          → ((xs : List ℕ) → members T n (base T r) ≡ some xs → (x : ℕ) → List·Memᴰ x xs → kind T x ≡ member-kind) → kind T m ≡ member-kind
       go none q t more = none-not-some t
       go (some xs) q t more =
           let z : ms ≡ xs ++ children T r = cc in
@@ -150,7 +151,7 @@ module _ (S : List ℕ) (ds : List Definition) (spans : EveryName (Spans S) ds) 
   unfolding goodUnions
   tag good r k =
       let l = there r 4 k in
-      let u : unionFits S T r ≡ true = every-one T (isUnion T) (unionFits S T) good r (omega (arith, rows)) (eq-eqb (kind T r) 5 k) in
+      let u : unionFits S T r ≡ true = every-one T (isUnion T) (unionFits S T) good r (omega (arith, rows)) (eq-eqb (kind T r) union-kind k) in
       let fit : List ℕ → Bool = λ ms. discriminatorFits T r ms && all (branchFits S T r ms) (children T r) in
       let o = is-true (members T chain-structs (unionBase T r)) fit (and-right (ltb 0 (branchCount T r)) (is (members T chain-structs (unionBase T r)) fit) u) in
       let ms = o .0 in
@@ -158,9 +159,9 @@ module _ (S : List ℕ) (ds : List Definition) (spans : EveryName (Spans S) ds) 
       let a = any-true (λ m. eqb (discriminator T r) (suc m)) ms (search (and-left, and-right)) in
       let m = a .0 in
       let q : discriminator T r ≡ suc m = eqb-true (discriminator T r) (suc m) (a .2) in
-      let y : kind T m ≡ 4 = all-members chain-structs (unionBase T r) (base-of r l k) ms (o .1) m (a .1) in
+      let y : kind T m ≡ member-kind = all-members chain-structs (unionBase T r) (base-of r l k) ms (o .1) m (a .1) in
       let z : discriminator T r - 1 ≡ m = omega arith in
-      and-of (ltb 0 (discriminator T r)) (eqb (kind T (discriminator T r - 1)) 4) (lt-ltb 0 (discriminator T r) (omega arith)) (rw z (eq-eqb (kind T m) 4 y))
+      and-of (ltb 0 (discriminator T r)) (eqb (kind T (discriminator T r - 1)) member-kind) (lt-ltb 0 (discriminator T r) (omega arith)) (rw z (eq-eqb (kind T m) member-kind y))
 
   whole : length T % row-words ≡ 0
   whole = let z = length-words f g h 0 (entries ds) in omega arith

@@ -11,6 +11,7 @@ use lib.Dec.{eqb, ltb}
 use lib.ListN.{length, getD, List·getD-eq-default}
 use borrow.Author.Tests.{eq-eqb, ne-eqb, ltb-true, ltb-false}
 use Rattle.grammar.specs.Limits.{row-words}
+use Rattle.rules.specs.Kinds.{enum-kind, struct-kind, union-kind, alternate-kind, command-kind}
 use Rattle.rules.specs.Definitions.{Name, Data}
 use Rattle.rules.specs.Definitions.Data.{absent, inline, named}
 use Rattle.rules.specs.SchemaTable.{bytesOf}
@@ -28,7 +29,7 @@ abbrev pub Behind : Name → Type 0
 Behind n = 0 < n .start
 
 -- of its kind a definition, and no inline struct
-pub definition-of : (e : Entry) → ((eqb (entryKind e) 1 || eqb (entryKind e) 3 || eqb (entryKind e) 5 || eqb (entryKind e) 7 || eqb (entryKind e) 9) && not (isInlineRow e)) ≡ isOwn e
+pub definition-of : (e : Entry) → ((eqb (entryKind e) enum-kind || eqb (entryKind e) struct-kind || eqb (entryKind e) union-kind || eqb (entryKind e) alternate-kind || eqb (entryKind e) command-kind) && not (isInlineRow e)) ≡ isOwn e
 definition-of (enumRow n c) = refl
 definition-of (alternateRow n c) = refl
 definition-of (valueRow n) = refl

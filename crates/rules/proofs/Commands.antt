@@ -9,6 +9,7 @@ use mathlib.Core.Logic.{⊎-elim}
 use mathlib.Core.List.{List}
 use mathlib.Core.Option.{none, some}
 use borrow.Author.Tests.{eqb-true, eq-eqb}
+use Rattle.rules.specs.Kinds.{command-kind}
 use Rattle.rules.specs.Names.{sameName}
 use Rattle.rules.specs.Rows.{rowCount, kind, isCommand, nameOf}
 use Rattle.rules.specs.Envelope.{Names}
@@ -25,7 +26,7 @@ module _ (S T x : List ℕ) where
           rw (← q)
           (record {
             row = omega arith;
-            command = eqb-true (kind T r) 9 (and-left (isCommand T r) (sameName (nameOf S T r) x) t);
+            command = eqb-true (kind T r) command-kind (and-left (isCommand T r) (sameName (nameOf S T r) x) t);
             same-name = same-true (nameOf S T r) x (and-right (isCommand T r) (sameName (nameOf S T r) x) t);
           })
 
@@ -41,7 +42,7 @@ module _ (S T x : List ℕ) where
       passed : r ≡ c → (isCommand T r && sameName (nameOf S T r) x) ≡ true
       passed q =
           rw q
-          (and-of (isCommand T c) (sameName (nameOf S T c) x) (eq-eqb (kind T c) 9 (m .command)) (rw (m .same-name) (same-refl x)))
+          (and-of (isCommand T c) (sameName (nameOf S T c) x) (eq-eqb (kind T c) command-kind (m .command)) (rw (m .same-name) (same-refl x)))
 
       go : (t : Bool) → (isCommand T r && sameName (nameOf S T r) x) ≡ t → cond t (some r) (commandFrom S T x (suc r) n) ≡ none
           → (suc r + n ≡ rowCount T → commandFrom S T x (suc r) n ≡ none → (c : ℕ) → suc r ≤ c → Names S T x c → ⊥) → ⊥

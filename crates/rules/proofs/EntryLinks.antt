@@ -8,6 +8,7 @@ use native.Mathlib.Omega.{arith}
 use lib.Dec.{eqb, ltb}
 use lib.ListN.{length, getD}
 use borrow.Author.Tests.{eq-eqb}
+use Rattle.rules.specs.Kinds.{member-kind, union-kind}
 use Rattle.rules.specs.Definitions.{Name, TypeText, Data}
 use Rattle.rules.specs.Definitions.TypeText.{nothing, one, listOf}
 use Rattle.rules.specs.Definitions.Data.{absent, inline, named}
@@ -22,21 +23,21 @@ use Rattle.rules.proofs.CellRows.{word-is}
 
 -- the words of row r of T, which follow each other in ws
 pub record RowIs (T : List ℕ) (r : ℕ) (ws : List ℕ) : Type 0 where
-  pub word-1 : kind T r ≡ getD ws 0 0
-  pub word-4 : word T r 4 ≡ getD ws 3 0
-  pub word-5 : word T r 5 ≡ getD ws 4 0
-  pub word-6 : word T r 6 ≡ getD ws 5 0
-  pub word-7 : word T r 7 ≡ getD ws 6 0
-  pub word-8 : word T r 8 ≡ getD ws 7 0
+  pub word-0 : kind T r ≡ getD ws 0 0
+  pub word-3 : word T r 3 ≡ getD ws 3 0
+  pub word-4 : word T r 4 ≡ getD ws 4 0
+  pub word-5 : word T r 5 ≡ getD ws 5 0
+  pub word-6 : word T r 6 ≡ getD ws 6 0
+  pub word-7 : word T r 7 ≡ getD ws 7 0
 
 pub row-is : (f g : Name → ℕ) (h : ℕ → Name → ℕ) (es : List Entry) (r : ℕ) → r < length es → RowIs (wordsFrom f g h 0 es) r (wordsOf f g h r (getD es r blank))
 row-is f g h es r l = record {
-  word-1 = word-is f g h es r 0 l (omega arith);
-  word-4 = word-is f g h es r 3 l (omega arith);
-  word-5 = word-is f g h es r 4 l (omega arith);
-  word-6 = word-is f g h es r 5 l (omega arith);
-  word-7 = word-is f g h es r 6 l (omega arith);
-  word-8 = word-is f g h es r 7 l (omega arith);
+  word-0 = word-is f g h es r 0 l (omega arith);
+  word-3 = word-is f g h es r 3 l (omega arith);
+  word-4 = word-is f g h es r 4 l (omega arith);
+  word-5 = word-is f g h es r 5 l (omega arith);
+  word-6 = word-is f g h es r 6 l (omega arith);
+  word-7 = word-is f g h es r 7 l (omega arith);
 }
 
 module _ (T : List ℕ) (f g : Name → ℕ) where
@@ -115,48 +116,48 @@ module _ (T : List ℕ) (f g : Name → ℕ) where
 
     -- unused words are 0
     pub rest-zero : (r : ℕ) (e : Entry) → RowIs T r (wordsOf f g h r e) → restZero T r ≡ true
-    rest-zero r (enumRow n c) w = rw (w .word-1) (rw (w .word-5, w .word-6, w .word-7, w .word-8))
-    rest-zero r (valueRow n) w = rw (w .word-1) (rw (w .word-4, w .word-5, w .word-6, w .word-7, w .word-8))
-    rest-zero r (structRow n b c) w = rw (w .word-1) (rw (w .word-6, w .word-7, w .word-8))
-    rest-zero r (inlineRow c) w = rw (w .word-1) (rw (w .word-6, w .word-7, w .word-8))
-    rest-zero r (memberRow m) w = rw (w .word-1) (rw (w .word-7, w .word-8))
-    rest-zero r (unionRow n b tag c) w = rw (w .word-1) (rw (w .word-7, w .word-8))
-    rest-zero r (branchRow p) w = rw (w .word-1) (rw (w .word-5, w .word-6, w .word-7, w .word-8))
-    rest-zero r (alternateRow n c) w = rw (w .word-1) (rw (w .word-5, w .word-6, w .word-7, w .word-8))
-    rest-zero r (alternativeRow p) w = rw (w .word-1) (rw (w .word-5, w .word-6, w .word-7, w .word-8))
-    rest-zero r (commandRow n a t oob) w = rw (w .word-1) (rw (w .word-8))
+    rest-zero r (enumRow n c) w = rw (w .word-0) (rw (w .word-4, w .word-5, w .word-6, w .word-7))
+    rest-zero r (valueRow n) w = rw (w .word-0) (rw (w .word-3, w .word-4, w .word-5, w .word-6, w .word-7))
+    rest-zero r (structRow n b c) w = rw (w .word-0) (rw (w .word-5, w .word-6, w .word-7))
+    rest-zero r (inlineRow c) w = rw (w .word-0) (rw (w .word-5, w .word-6, w .word-7))
+    rest-zero r (memberRow m) w = rw (w .word-0) (rw (w .word-6, w .word-7))
+    rest-zero r (unionRow n b tag c) w = rw (w .word-0) (rw (w .word-6, w .word-7))
+    rest-zero r (branchRow p) w = rw (w .word-0) (rw (w .word-4, w .word-5, w .word-6, w .word-7))
+    rest-zero r (alternateRow n c) w = rw (w .word-0) (rw (w .word-4, w .word-5, w .word-6, w .word-7))
+    rest-zero r (alternativeRow p) w = rw (w .word-0) (rw (w .word-4, w .word-5, w .word-6, w .word-7))
+    rest-zero r (commandRow n a t oob) w = rw (w .word-0) (rw (w .word-7))
 
     -- references fit, given that a union's discriminator is a member
     abbrev pub TagLinked : ℕ → Type 0
-    TagLinked r = kind T r ≡ 5 → (ltb 0 (discriminator T r) && eqb (kind T (discriminator T r - 1)) 4) ≡ true
+    TagLinked r = kind T r ≡ union-kind → (ltb 0 (discriminator T r) && eqb (kind T (discriminator T r - 1)) member-kind) ≡ true
 
     pub references-fit : (r : ℕ) (e : Entry) → RowIs T r (wordsOf f g h r e) → EntryLinked e → Rows.owns T r ≡ owns e → TagLinked r → referencesFit T r ≡ true
-    references-fit r (enumRow n c) w k i t = rw (w .word-1)
-    references-fit r (valueRow n) w k i t = rw (w .word-1)
-    references-fit r (structRow n b c) w k i t = rw (w .word-1) (rw (w .word-5, base-linked r b k))
-    references-fit r (inlineRow c) w k i t = rw (w .word-1) (rw (w .word-5))
+    references-fit r (enumRow n c) w k i t = rw (w .word-0)
+    references-fit r (valueRow n) w k i t = rw (w .word-0)
+    references-fit r (structRow n b c) w k i t = rw (w .word-0) (rw (w .word-4, base-linked r b k))
+    references-fit r (inlineRow c) w k i t = rw (w .word-0) (rw (w .word-4))
     references-fit r (memberRow m) w k i t =
-        rw (w .word-1) (rw (w .word-4, w .word-5, w .word-6, type-linked (m .type) k, is-flag (isList (m .type)), is-flag (m .optional)))
-    references-fit r (unionRow n b tag c) w k i t = rw (w .word-1) (rw (w .word-4, union-linked r b k i, t (w .word-1)))
-    references-fit r (branchRow p) w k i t = rw (w .word-1) (rw (w .word-4, k))
-    references-fit r (alternateRow n c) w k i t = rw (w .word-1)
-    references-fit r (alternativeRow p) w k i t = rw (w .word-1) (rw (w .word-4, k))
+        rw (w .word-0) (rw (w .word-3, w .word-4, w .word-5, type-linked (m .type) k, is-flag (isList (m .type)), is-flag (m .optional)))
+    references-fit r (unionRow n b tag c) w k i t = rw (w .word-0) (rw (w .word-3, union-linked r b k i, t (w .word-0)))
+    references-fit r (branchRow p) w k i t = rw (w .word-0) (rw (w .word-3, k))
+    references-fit r (alternateRow n c) w k i t = rw (w .word-0)
+    references-fit r (alternativeRow p) w k i t = rw (w .word-0) (rw (w .word-3, k))
     references-fit r (commandRow n a x oob) w k i t =
-        rw (w .word-1) (rw (w .word-4, w .word-5, w .word-6, w .word-7, data-linked r a (k .0) i, is-flag oob, return-linked x (k .1)))
+        rw (w .word-0) (rw (w .word-3, w .word-4, w .word-5, w .word-6, data-linked r a (k .0) i, is-flag oob, return-linked x (k .1)))
 
     -- a union's base is its own inline struct or a struct that has a name
-    no-union : {A : Type 0} {a k : ℕ} → a ≡ k → a ≡ 5 → eqb k 5 ≡ false → A
-    no-union {k = k} p q e = let z : k ≡ 5 = cc in clash (eq-eqb k 5 z) e
+    no-union : {A : Type 0} {a k : ℕ} → a ≡ k → a ≡ 5 → eqb k union-kind ≡ false → A
+    no-union {k = k} p q e = let z : k ≡ union-kind = cc in clash (eq-eqb k union-kind z) e
 
-    pub union-base : (r : ℕ) (e : Entry) → RowIs T r (wordsOf f g h r e) → EntryLinked e → Rows.owns T r ≡ owns e → kind T r ≡ 5
+    pub union-base : (r : ℕ) (e : Entry) → RowIs T r (wordsOf f g h r e) → EntryLinked e → Rows.owns T r ≡ owns e → kind T r ≡ union-kind
         → (Rows.owns T r || toStruct T (unionBase T r)) ≡ true
-    union-base r (enumRow n c) w k i e = no-union (w .word-1) e refl
-    union-base r (valueRow n) w k i e = no-union (w .word-1) e refl
-    union-base r (structRow n b c) w k i e = no-union (w .word-1) e refl
-    union-base r (inlineRow c) w k i e = no-union (w .word-1) e refl
-    union-base r (memberRow m) w k i e = no-union (w .word-1) e refl
-    union-base r (unionRow n b tag c) w k i e = rw (w .word-4) (union-linked r b k i)
-    union-base r (branchRow p) w k i e = no-union (w .word-1) e refl
-    union-base r (alternateRow n c) w k i e = no-union (w .word-1) e refl
-    union-base r (alternativeRow p) w k i e = no-union (w .word-1) e refl
-    union-base r (commandRow n a t oob) w k i e = no-union (w .word-1) e refl
+    union-base r (enumRow n c) w k i e = no-union (w .word-0) e refl
+    union-base r (valueRow n) w k i e = no-union (w .word-0) e refl
+    union-base r (structRow n b c) w k i e = no-union (w .word-0) e refl
+    union-base r (inlineRow c) w k i e = no-union (w .word-0) e refl
+    union-base r (memberRow m) w k i e = no-union (w .word-0) e refl
+    union-base r (unionRow n b tag c) w k i e = rw (w .word-3) (union-linked r b k i)
+    union-base r (branchRow p) w k i e = no-union (w .word-0) e refl
+    union-base r (alternateRow n c) w k i e = no-union (w .word-0) e refl
+    union-base r (alternativeRow p) w k i e = no-union (w .word-0) e refl
+    union-base r (commandRow n a t oob) w k i e = no-union (w .word-0) e refl

@@ -15,6 +15,7 @@ use Rattle.grammar.specs.Tree.Scalar.{num, str}
 use Rattle.grammar.specs.Tree.Json.{leaf, arr, obj}
 use Rattle.grammar.specs.Tree.Fields.{no-fields}
 use Rattle.grammar.specs.Tree.Kind.{object, array, string, number, boolean, null-kind}
+use Rattle.rules.specs.Kinds.{enum-kind}
 use Rattle.rules.specs.Types.{any-type, takes}
 use Rattle.rules.specs.Rows.{kind}
 use Rattle.rules.specs.Readings.{Typed, typed, Reads, ReadsArguments}
@@ -29,7 +30,7 @@ use Rattle.rules.proofs.Grid.{other-kind, grid-entry, takes-below, grid
 pub record Unquoted (T : List ℕ) (x : Typed) : Type 0 where
   pub string-not-number : (a e : ℕ) (cs : List ℕ) → x .value ≡ leaf a e (str cs) → 2 ≤ x .ref → x .ref ≤ 12 → ⊥
   pub number-not-string : (a e : ℕ) (i : Bool) (token : List ℕ) → x .value ≡ leaf a e (num i token) → x .ref ≡ 1 → ⊥
-  pub number-not-enum : (a e : ℕ) (i : Bool) (token : List ℕ) (r : ℕ) → x .value ≡ leaf a e (num i token) → x .ref ≡ first-row + r → kind T r ≡ 1 → ⊥
+  pub number-not-enum : (a e : ℕ) (i : Bool) (token : List ℕ) (r : ℕ) → x .value ≡ leaf a e (num i token) → x .ref ≡ first-row + r → kind T r ≡ enum-kind → ⊥
 
 -- the entries that must be empty: strings at 2 to 12, numbers at 1
 abbrev crossed : ℕ → Kind → Bool
@@ -58,7 +59,7 @@ module _ (T : List ℕ) where
       taken : {k : Kind} → kindOf j ≡ k → takes t k ≡ true
       taken e = subst (λ k. takes t k ≡ true) e h
 
-  at-row : (j : Json) (t f r : ℕ) → t ≡ first-row + r → (kindOf j ≡ number → kind T r ≡ 1 → ⊥) → Unquoted T (typed j t f)
+  at-row : (j : Json) (t f r : ℕ) → t ≡ first-row + r → (kindOf j ≡ number → kind T r ≡ enum-kind → ⊥) → Unquoted T (typed j t f)
   at-row j t f r z n = record {
     string-not-number = λ a e cs p (l : 2 ≤ t) (m : t ≤ 12). omega arith;
     number-not-string = λ a e i token p (l : t ≡ 1). omega arith;
@@ -107,7 +108,7 @@ module _ (S T : List ℕ) where
     | enum {a} {e} {t} {cs = cs} r z k v n ↦ first-and T _ _ (at-row T (leaf a e (str cs)) t 0 r z (λ p _. other-kind string number refl p)) (none-of T)
     | struct {a} {e} {t} {fs} r z k g n (h → ih) ↦ first-and T _ _ (at-object T a e fs t) ih
     | union {a} {e} {t} {fs} r z k g b q n (h → ih) ↦ first-and T _ _ (at-object T a e fs t) ih
-    | alternate {j} {t} r z k c (h → ih) ↦ first-and T _ _ (at-row T j t 0 r z (λ _ (q : kind T r ≡ 1). omega arith)) ih
+    | alternate {j} {t} r z k c (h → ih) ↦ first-and T _ _ (at-row T j t 0 r z (λ _ (q : kind T r ≡ enum-kind). omega arith)) ih
     | array-of {a} {e} {t} {js} (h → ih) ↦ first-and T _ _ (at-array T a e js t) ih
     | no-item ↦ none-of T
     | one-item (h → ih) (g → ih′) p ↦ both-of T _ _ _ ih ih′ p

@@ -17,6 +17,7 @@ use Rattle.grammar.specs.Tree.Json.{leaf, arr, obj}
 use Rattle.grammar.specs.Tree.Items.{no-items, item}
 use Rattle.grammar.specs.Tree.Fields.{no-fields, field}
 use Rattle.grammar.specs.Tree.Kind.{object, string, array as array-kind}
+use Rattle.rules.specs.Kinds.{enum-kind, union-kind, alternate-kind}
 use Rattle.rules.specs.Types.{any-type, builtInTakes, takes}
 use Rattle.rules.specs.Values.{valueAt, anyOf}
 use Rattle.rules.specs.Rows.{kind, typeRef, arrayMark, unionBase, discriminator, arguments, children, members, nameOf, typeKind}
@@ -60,14 +61,14 @@ module _ (S T : List ℕ) where
   read-any (arr a e js) = read-direct (arr a e js) any-type 0 (via-below S T array-kind any-type 0 (omega arith))
   read-any (obj a e fs) = read-direct (obj a e fs) any-type 0 (via-below S T object any-type 0 (omega arith))
 
-  read-enum : (a e t r v : ℕ) (cs : List ℕ) → t ≡ first-row + r → kind T r ≡ 1 → List·Memᴰ v (children T r) → nameOf S T v ≡ cs
+  read-enum : (a e t r v : ℕ) (cs : List ℕ) → t ≡ first-row + r → kind T r ≡ enum-kind → List·Memᴰ v (children T r) → nameOf S T v ≡ cs
       → readingOf S T (leaf a e (str cs)) t 0 ≡ some (typed (leaf a e (str cs)) t 0 ∷ [])
   read-enum a e t r v cs z q m n =
       let names : List (List ℕ) = namesOf S T (children T r) in
       let i : anyOf names cs ≡ true = anyOf-of names cs (subst (λ x. List·Memᴰ x names) n (in-map (nameOf S T) (children T r) v m)) in
       rw (via-row S T string t 0 r z (omega arith), scalar-enum S T t r cs z q, i)
 
-  read-object : (a e t r : ℕ) (fs : Fields) (ms : List ℕ) (ts : List Typed) → t ≡ first-row + r → (kind T r ≡ 7 → ⊥) → membersAt S T t fs ≡ some ms
+  read-object : (a e t r : ℕ) (fs : Fields) (ms : List ℕ) (ts : List Typed) → t ≡ first-row + r → (kind T r ≡ alternate-kind → ⊥) → membersAt S T t fs ≡ some ms
       → Mandatory S T ms fs → fieldsReading S T fs ms ≡ some ts → readingOf S T (obj a e fs) t 0 ≡ some (typed (obj a e fs) t 0 ∷ ts)
   read-object a e t r fs ms ts z n g m h = rw (via-row S T object t 0 r z n, ne-eqb t any-type (omega arith), g, mandatory-of S T ms fs m, h)
 
@@ -81,7 +82,7 @@ module _ (S T : List ℕ) where
 
 module _ (S T : List ℕ) (F : SoundFacts S T) where
   -- the members of a union: those that the function finds, and no two of one name
-  read-branch : (t r : ℕ) (fs : Fields) (ms bs : List ℕ) → t ≡ first-row + r → kind T r ≡ 5 → members T chain-structs (unionBase T r) ≡ some ms
+  read-branch : (t r : ℕ) (fs : Fields) (ms bs : List ℕ) → t ≡ first-row + r → kind T r ≡ union-kind → members T chain-structs (unionBase T r) ≡ some ms
       → Branch S T r fs bs → membersAt S T t fs ≡ some (ms ++ bs)
   unfolding members
   read-branch t r fs ms bs z q g (branch {d} {b = b} {cs} p v m n h) =
@@ -92,13 +93,13 @@ module _ (S T : List ℕ) (F : SoundFacts S T) where
       let y : discriminator T r - 1 ≡ d = omega arith in
       members-union S T t r fs z q ∙ rw (g, y, v, branch-missing S T cs (children T r) n)
 
-  branch-apart : (r : ℕ) (fs : Fields) (ms bs : List ℕ) → kind T r ≡ 5 → members T chain-structs (unionBase T r) ≡ some ms
+  branch-apart : (r : ℕ) (fs : Fields) (ms bs : List ℕ) → kind T r ≡ union-kind → members T chain-structs (unionBase T r) ≡ some ms
       → Branch S T r fs bs → apart same (namesOf S T (ms ++ bs)) ≡ true
   branch-apart r fs ms bs q g (branch {b = b} p v m n h) = F .branch-apart r b ms bs q g m h
   branch-apart r fs ms bs q g (no-branch p v n) = rw (append-nil ms) (F .union-apart r ms q g)
 
   -- an alternate's alternative is the one of the value's kind
-  read-alternate : (j : Json) (t r c : ℕ) (ts : List Typed) → t ≡ first-row + r → kind T r ≡ 7 → List·Memᴰ c (children T r) → Reads S T j (typeRef T c) 0 ts
+  read-alternate : (j : Json) (t r c : ℕ) (ts : List Typed) → t ≡ first-row + r → kind T r ≡ alternate-kind → List·Memᴰ c (children T r) → Reads S T j (typeRef T c) 0 ts
       → readingOf S T j (typeRef T c) 0 ≡ some ts → readingOf S T j t 0 ≡ some (typed j t 0 ∷ ts)
   read-alternate j t r c ts z q m h e =
       let k = F .has-kind r c q m in

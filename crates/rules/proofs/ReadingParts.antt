@@ -12,6 +12,7 @@ use Rattle.grammar.specs.Limits.{first-row, chain-structs}
 use Rattle.grammar.specs.Tree.{Scalar, Json, Fields, Kind, kindOf, scalarKind}
 use Rattle.grammar.specs.Tree.Scalar.{null, bool, num, str}
 use Rattle.grammar.specs.Tree.Kind.{object, string}
+use Rattle.rules.specs.Kinds.{enum-kind, struct-kind, union-kind, alternate-kind}
 use Rattle.rules.specs.Types.{any-type, builtInTakes}
 use Rattle.rules.specs.Values.{valueAt, anyOf}
 use Rattle.rules.specs.Rows.{kind, isEnum, isStruct, isUnion, isAlternate, unionBase, discriminator, children, members, nameOf, typeKind}
@@ -48,30 +49,30 @@ found-some (suc m) o ts h = (m, refl, h)
 
 module _ (S T : List ℕ) where
   -- the type by which a value is read
-  via-direct : (k : Kind) (t f : ℕ) → (first-row ≤ t → kind T (t - first-row) ≡ 7 → ⊥) → via S T k t f ≡ direct
+  via-direct : (k : Kind) (t f : ℕ) → (first-row ≤ t → kind T (t - first-row) ≡ alternate-kind → ⊥) → via S T k t f ≡ direct
   unfolding via
   via-direct k t f n = go (eqb f 0 && leb first-row t && isAlternate T (t - first-row)) refl
     where
       go : (b : Bool) → eqb f 0 && leb first-row t && isAlternate T (t - first-row) ≡ b
           → cond b (fromAlternatives (ofKind T k (children T (t - first-row)))) direct ≡ direct
-      go true e = absurd (n (leb-true first-row t (search (and-left, and-right))) (eqb-true (kind T (t - first-row)) 7 (search (and-left, and-right))))
+      go true e = absurd (n (leb-true first-row t (search (and-left, and-right))) (eqb-true (kind T (t - first-row)) alternate-kind (search (and-left, and-right))))
       go false e = refl
 
   pub via-below : (k : Kind) (t f : ℕ) → t < first-row → via S T k t f ≡ direct
   via-below k t f l = via-direct k t f (λ (m : first-row ≤ t) e. omega arith)
 
-  pub via-row : (k : Kind) (t f r : ℕ) → t ≡ first-row + r → (kind T r ≡ 7 → ⊥) → via S T k t f ≡ direct
+  pub via-row : (k : Kind) (t f r : ℕ) → t ≡ first-row + r → (kind T r ≡ alternate-kind → ⊥) → via S T k t f ≡ direct
   via-row k t f r e n =
       let z : t - first-row ≡ r = omega arith in
-      via-direct k t f (λ m q. n (subst (λ x. kind T x ≡ 7) z q))
+      via-direct k t f (λ m q. n (subst (λ x. kind T x ≡ alternate-kind) z q))
 
-  pub via-alternate : (k : Kind) (t r : ℕ) → t ≡ first-row + r → kind T r ≡ 7 → via S T k t 0 ≡ fromAlternatives (ofKind T k (children T r))
+  pub via-alternate : (k : Kind) (t r : ℕ) → t ≡ first-row + r → kind T r ≡ alternate-kind → via S T k t 0 ≡ fromAlternatives (ofKind T k (children T r))
   unfolding via
   via-alternate k t r e q =
       let z : t - first-row ≡ r = omega arith in
       rw (le-leb first-row t (omega arith), z, q)
 
-  no-kind : (t r : ℕ) → t ≡ first-row + r → kind T r ≡ 7 → typeKind T t ≡ none
+  no-kind : (t r : ℕ) → t ≡ first-row + r → kind T r ≡ alternate-kind → typeKind T t ≡ none
   no-kind t r e q = row-kind T t r e ∙ rw q
 
   pub via-of-kind : (k j : Kind) (t f : ℕ) → typeKind T t ≡ some j → via S T k t f ≡ direct
@@ -81,7 +82,7 @@ module _ (S T : List ℕ) where
   pub record Alternative (k : Kind) (t f u : ℕ) : Type 0 where
     pub no-array : f ≡ 0
     pub to-row : t ≡ first-row + (t - first-row)
-    pub to-alternate : kind T (t - first-row) ≡ 7
+    pub to-alternate : kind T (t - first-row) ≡ alternate-kind
     pub first-of : ofKind T k (children T (t - first-row)) ≡ some u
 
   pub via-alternative : (k : Kind) (t f u : ℕ) → via S T k t f ≡ alternative u → Alternative k t f u
@@ -97,7 +98,7 @@ module _ (S T : List ℕ) where
       go true e h = record {
         no-array = eqb-true f 0 (search (and-left, and-right));
         to-row = omega (arith, leb-true first-row t (search (and-left, and-right)));
-        to-alternate = eqb-true (kind T (t - first-row)) 7 (search (and-left, and-right));
+        to-alternate = eqb-true (kind T (t - first-row)) alternate-kind (search (and-left, and-right));
         first-of = of (ofKind T k (children T (t - first-row))) h;
       }
       go false e h = absurd (let z : _≡_ {A = ℕ} 0 1 = cc in omega arith)
@@ -107,7 +108,7 @@ module _ (S T : List ℕ) where
   unfolding scalarFits
   scalar-built-in t v l = rw (lt-ltb t first-row l)
 
-  pub scalar-enum : (t r : ℕ) (cs : List ℕ) → t ≡ first-row + r → kind T r ≡ 1 → scalarFits S T t (str cs) ≡ anyOf (namesOf S T (children T r)) cs
+  pub scalar-enum : (t r : ℕ) (cs : List ℕ) → t ≡ first-row + r → kind T r ≡ enum-kind → scalarFits S T t (str cs) ≡ anyOf (namesOf S T (children T r)) cs
   unfolding scalarFits
   scalar-enum t r cs e k =
       let z : t - first-row ≡ r = omega arith in
@@ -117,7 +118,7 @@ module _ (S T : List ℕ) where
   pub record EnumValue (t : ℕ) (v : Scalar) : Type 0 where
     pub codes : List ℕ
     pub is-string : v ≡ str codes
-    pub to-enum : kind T (t - first-row) ≡ 1
+    pub to-enum : kind T (t - first-row) ≡ enum-kind
     pub row : ℕ
     pub is-child : List·Memᴰ row (children T (t - first-row))
     pub is-name : nameOf S T row ≡ codes
@@ -134,7 +135,7 @@ module _ (S T : List ℕ) where
       record {
         codes = cs;
         is-string = refl;
-        to-enum = eqb-true (kind T (t - first-row)) 1 (and-left (isEnum T (t - first-row)) (anyOf names cs) g);
+        to-enum = eqb-true (kind T (t - first-row)) enum-kind (and-left (isEnum T (t - first-row)) (anyOf names cs) g);
         row = m .0;
         is-child = m .1;
         is-name = sym (m .2);
@@ -144,13 +145,13 @@ module _ (S T : List ℕ) where
   abbrev pub unionMembers : ℕ → Fields → Option (List ℕ)
   unionMembers r fs = append (members T chain-structs (unionBase T r)) (chosen S T r (valueAt (nameOf S T (discriminator T r - 1)) fs))
 
-  pub members-struct : (t r : ℕ) (fs : Fields) → t ≡ first-row + r → kind T r ≡ 3 → membersAt S T t fs ≡ members T chain-structs (suc r)
+  pub members-struct : (t r : ℕ) (fs : Fields) → t ≡ first-row + r → kind T r ≡ struct-kind → membersAt S T t fs ≡ members T chain-structs (suc r)
   unfolding membersAt
   members-struct t r fs e k =
       let z : t - first-row ≡ r = omega arith in
       rw (le-ltb t first-row (omega arith), z, k)
 
-  pub members-union : (t r : ℕ) (fs : Fields) → t ≡ first-row + r → kind T r ≡ 5 → membersAt S T t fs ≡ unionMembers r fs
+  pub members-union : (t r : ℕ) (fs : Fields) → t ≡ first-row + r → kind T r ≡ union-kind → membersAt S T t fs ≡ unionMembers r fs
   unfolding membersAt
   members-union t r fs e k =
       let z : t - first-row ≡ r = omega arith in
@@ -158,8 +159,8 @@ module _ (S T : List ℕ) where
 
   -- no other types have members
   pub data ObjectType (t : ℕ) (fs : Fields) (ms : List ℕ) : Type 0 where
-    a-struct : (r : ℕ) → t ≡ first-row + r → kind T r ≡ 3 → members T chain-structs (suc r) ≡ some ms → ObjectType t fs ms
-    a-union : (r : ℕ) → t ≡ first-row + r → kind T r ≡ 5 → unionMembers r fs ≡ some ms → ObjectType t fs ms
+    a-struct : (r : ℕ) → t ≡ first-row + r → kind T r ≡ struct-kind → members T chain-structs (suc r) ≡ some ms → ObjectType t fs ms
+    a-union : (r : ℕ) → t ≡ first-row + r → kind T r ≡ union-kind → unionMembers r fs ≡ some ms → ObjectType t fs ms
 
   pub members-say : (t : ℕ) (fs : Fields) (ms : List ℕ) → membersAt S T t fs ≡ some ms → ObjectType t fs ms
   unfolding membersAt
@@ -168,8 +169,8 @@ module _ (S T : List ℕ) where
       go : (r : ℕ) (b c d : Bool) → t - first-row ≡ r → ltb t first-row ≡ b → isStruct T r ≡ c → isUnion T r ≡ d
           → cond b none (cond c (members T chain-structs (suc r)) (cond d (unionMembers r fs) none)) ≡ some ms → ObjectType t fs ms
       go r true c d z p q s h = absurd (none-not-some h)
-      go r false true d z p q s h = a-struct r (omega (arith, ltb-false t first-row p)) (eqb-true (kind T r) 3 q) h
-      go r false false true z p q s h = a-union r (omega (arith, ltb-false t first-row p)) (eqb-true (kind T r) 5 s) h
+      go r false true d z p q s h = a-struct r (omega (arith, ltb-false t first-row p)) (eqb-true (kind T r) struct-kind q) h
+      go r false false true z p q s h = a-union r (omega (arith, ltb-false t first-row p)) (eqb-true (kind T r) union-kind s) h
       go r false false false z p q s h = absurd (none-not-some h)
 
   -- a value that is read at a type of one JSON kind has that kind

@@ -12,6 +12,7 @@ use borrow.Author.Tests.{ltb-true, eqb-true, le-leb}
 use Rattle.grammar.specs.Limits.{first-row}
 use Rattle.grammar.specs.Notation.{all, within}
 use Rattle.grammar.proofs.Booleans.{within-is}
+use Rattle.rules.specs.Kinds.{struct-kind, command-kind}
 use Rattle.rules.specs.Types.{built-ins}
 use Rattle.rules.specs.Names.{sameName}
 use Rattle.rules.specs.Definitions.{Name, TypeText, Member, Data, Pair, Body, Definition}
@@ -67,7 +68,7 @@ module _ (S : List ℕ) (ds : List Definition) (behind : EveryName Behind ds) (h
       let l = structLink S ds n in
       let p : 0 < l = ltb-true 0 l e in
       let q : l ≡ suc (l - 1) = omega arith in
-      let z = found (λ k. eqb k 3) (bytesOf S n) (l - 1) q in
+      let z = found (λ k. eqb k struct-kind) (bytesOf S n) (l - 1) q in
       and-of (ltb 0 l && isStruct T (l - 1)) (not (Rows.unnamed T (l - 1))) (and-of (ltb 0 l) (isStruct T (l - 1)) e (z .1)) (own-row (l - 1) (z .0))
 
   -- of the definitions all but commands are types
@@ -76,7 +77,7 @@ module _ (S : List ℕ) (ds : List Definition) (behind : EveryName Behind ds) (h
       let type : Bool = isEnum T r || isStruct T r || isUnion T r || isAlternate T r in
       let k : kind T r < 9 = ltb-true (kind T r) 9 f in
       let i : type || isCommand T r ≡ true = and-left (type || isCommand T r) (not (Rows.unnamed T r)) e in
-      let t : type ≡ true = ⊎-elim (λ p. p) (λ p. let z : kind T r ≡ 9 = eqb-true (kind T r) 9 p in absurd (omega arith)) (or-cases type (isCommand T r) i) in
+      let t : type ≡ true = ⊎-elim (λ p. p) (λ p. let z : kind T r ≡ command-kind = eqb-true (kind T r) command-kind p in absurd (omega arith)) (or-cases type (isCommand T r) i) in
       let z : first-row + r - first-row ≡ r = omega arith in
       or-right (within 1 15 (first-row + r))
       (leb first-row (first-row + r) && (isEnum T (first-row + r - first-row) || isStruct T (first-row + r - first-row) || isUnion T (first-row + r - first-row) || isAlternate T (first-row + r - first-row)) && not (Rows.unnamed T (first-row + r - first-row)))

@@ -13,8 +13,9 @@ use borrow.Author.Tests.{eq-eqb, eqb-true, ltb-true, ltb-false}
 use Rattle.grammar.specs.Limits.{row-words, chain-structs}
 use Rattle.grammar.specs.Notation.{same, all, apart}
 use Rattle.grammar.specs.Tree.{Kind}
+use Rattle.rules.specs.Kinds.{struct-kind, member-kind, union-kind, branch-kind, alternate-kind, command-kind}
 use Rattle.rules.specs.Types.{column, sameKind}
-use Rattle.rules.specs.Rows.{upFrom, rowCount, word, kind, isEnum, isStruct, isUnion, isAlternate, isCommand, base, typeRef, unionBase, discriminator, branchStruct, next, unnamed, owns, children, members, after, typeKind, nameOf}
+use Rattle.rules.specs.Rows.{upFrom, rowCount, kind, isEnum, isStruct, isUnion, isAlternate, isCommand, base, typeRef, unionBase, discriminator, branchStruct, next, unnamed, owns, children, members, after, typeKind, nameOf, ownerLink}
 use Rattle.rules.specs.Rules.{everyRow, namesOf, is, sameKinds, kindsOf, noClash, those, isDefinition, distinctNames, goodChains, goodUnions, goodAlternates, chainFits, unionFits, alternateFits, discriminatorFits, branchFits}
 use Rattle.rules.specs.Envelope.{Names}
 use Rattle.rules.specs.Sound.{sound, restZero, referencesFit, toStruct}
@@ -23,26 +24,26 @@ use Rattle.rules.proofs.TableRows.{no-children, unnamed-struct, owned-s
 
 -- 0, or a link to a struct
 abbrev pub StructLink : List ℕ → ℕ → Type 0
-StructLink T l = (s : ℕ) → l ≡ suc s → kind T s ≡ 3
+StructLink T l = (s : ℕ) → l ≡ suc s → kind T s ≡ struct-kind
 
 pub record SoundFacts (S T : List ℕ) : Type 0 where
   -- a row of some kind is one of the table's, and its children are of the kind after its own
   pub row-there : (r : ℕ) → (kind T r ≡ 0 → ⊥) → r < rowCount T
   pub child-kind : (r c : ℕ) → List·Memᴰ c (children T r) → kind T c ≡ suc (kind T r)
   -- links
-  pub base-link : (r : ℕ) → kind T r ≡ 3 → StructLink T (base T r)
-  pub union-link : (r : ℕ) → kind T r ≡ 5 → StructLink T (unionBase T r)
-  pub branch-link : (r b : ℕ) → kind T r ≡ 5 → List·Memᴰ b (children T r) → StructLink T (branchStruct T b)
-  pub discriminator-link : (r : ℕ) → kind T r ≡ 5 → (d : ℕ) × (discriminator T r ≡ suc d)
+  pub base-link : (r : ℕ) → kind T r ≡ struct-kind → StructLink T (base T r)
+  pub union-link : (r : ℕ) → kind T r ≡ union-kind → StructLink T (unionBase T r)
+  pub branch-link : (r b : ℕ) → kind T r ≡ union-kind → List·Memᴰ b (children T r) → StructLink T (branchStruct T b)
+  pub discriminator-link : (r : ℕ) → kind T r ≡ union-kind → (d : ℕ) × (discriminator T r ≡ suc d)
   -- names that one object may have as keys, and names of one list
   pub children-apart : (r : ℕ) → apart same (namesOf S T (children T r)) ≡ true
-  pub struct-apart : (r : ℕ) (ms : List ℕ) → kind T r ≡ 3 → members T chain-structs (suc r) ≡ some ms → apart same (namesOf S T ms) ≡ true
-  pub union-apart : (r : ℕ) (ms : List ℕ) → kind T r ≡ 5 → members T chain-structs (unionBase T r) ≡ some ms → apart same (namesOf S T ms) ≡ true
-  pub branch-apart : (r b : ℕ) (ms bs : List ℕ) → kind T r ≡ 5 → members T chain-structs (unionBase T r) ≡ some ms → List·Memᴰ b (children T r)
+  pub struct-apart : (r : ℕ) (ms : List ℕ) → kind T r ≡ struct-kind → members T chain-structs (suc r) ≡ some ms → apart same (namesOf S T ms) ≡ true
+  pub union-apart : (r : ℕ) (ms : List ℕ) → kind T r ≡ union-kind → members T chain-structs (unionBase T r) ≡ some ms → apart same (namesOf S T ms) ≡ true
+  pub branch-apart : (r b : ℕ) (ms bs : List ℕ) → kind T r ≡ union-kind → members T chain-structs (unionBase T r) ≡ some ms → List·Memᴰ b (children T r)
       → members T chain-structs (branchStruct T b) ≡ some bs → apart same (namesOf S T (ms ++ bs)) ≡ true
   -- alternatives
-  pub has-kind : (r c : ℕ) → kind T r ≡ 7 → List·Memᴰ c (children T r) → (k : Kind) × (typeKind T (typeRef T c) ≡ some k)
-  pub one-of-kind : (r c c′ : ℕ) (k : Kind) → kind T r ≡ 7 → List·Memᴰ c (children T r) → List·Memᴰ c′ (children T r)
+  pub has-kind : (r c : ℕ) → kind T r ≡ alternate-kind → List·Memᴰ c (children T r) → (k : Kind) × (typeKind T (typeRef T c) ≡ some k)
+  pub one-of-kind : (r c c′ : ℕ) (k : Kind) → kind T r ≡ alternate-kind → List·Memᴰ c (children T r) → List·Memᴰ c′ (children T r)
       → typeKind T (typeRef T c) ≡ some k → typeKind T (typeRef T c′) ≡ some k → c ≡ c′
   -- commands
   pub one-command : (x : List ℕ) (c c′ : ℕ) → Names S T x c → Names S T x c′ → c ≡ c′
@@ -59,19 +60,19 @@ module _ (T : List ℕ) where
   pub to-struct : (l : ℕ) → toStruct T l ≡ true → StructLink T l
   to-struct l e s p =
       let z : l - 1 ≡ s = omega arith in
-      subst (λ x. kind T x ≡ 3) z (eqb-true (kind T (l - 1)) 3 (search (and-left, and-right)))
+      subst (λ x. kind T x ≡ struct-kind) z (eqb-true (kind T (l - 1)) struct-kind (search (and-left, and-right)))
 
-  pub to-owned : (r : ℕ) → owns T r ≡ true → StructLink T (word T r 4)
+  pub to-owned : (r : ℕ) → owns T r ≡ true → StructLink T (ownerLink T r)
   unfolding owns
   to-owned r e s p =
-      let z : word T r 4 ≡ suc (next T r) = eqb-true (word T r 4) (suc (next T r)) (search (and-left, and-right)) in
+      let z : ownerLink T r ≡ suc (next T r) = eqb-true (ownerLink T r) (suc (next T r)) (search (and-left, and-right)) in
       let y : next T r ≡ s = omega arith in
-      subst (λ x. kind T x ≡ 3) y (owned-struct T r e)
+      subst (λ x. kind T x ≡ struct-kind) y (owned-struct T r e)
 
-  pub base-refers : (r : ℕ) → referencesFit T r ≡ true → kind T r ≡ 3 → StructLink T (base T r)
+  pub base-refers : (r : ℕ) → referencesFit T r ≡ true → kind T r ≡ struct-kind → StructLink T (base T r)
   base-refers r f k s p =
       ⊎-elim
-      (λ e. let z : base T r ≡ 0 = eqb-true (base T r) 0 (or-implies (isStruct T r) (eqb (base T r) 0) e (eq-eqb (kind T r) 3 k)) in absurd (omega arith))
+      (λ e. let z : base T r ≡ 0 = eqb-true (base T r) 0 (or-implies (isStruct T r) (eqb (base T r) 0) e (eq-eqb (kind T r) struct-kind k)) in absurd (omega arith))
       (λ e. to-struct (base T r) e s p)
       (or-cases (not (isStruct T r) || eqb (base T r) 0) (toStruct T (base T r)) (search (and-left, and-right)))
 
@@ -102,36 +103,36 @@ module _ (S T : List ℕ) (h : sound S T ≡ true) where
   unfolding sound
   refers r n = and-right (restZero T r) (referencesFit T r) (every T (λ x. restZero T x && referencesFit T x) (search (and-left, and-right) depth 13) r (there r n))
 
-  base-to : (r : ℕ) → kind T r ≡ 3 → StructLink T (base T r)
+  base-to : (r : ℕ) → kind T r ≡ struct-kind → StructLink T (base T r)
   base-to r k = base-refers T r (refers r (omega arith)) k
 
   -- what a union refers to
   abbrev unionRefers : ℕ → Bool
-  unionRefers r = (owns T r || toStruct T (unionBase T r)) && ltb 0 (discriminator T r) && eqb (kind T (discriminator T r - 1)) 4
+  unionRefers r = (owns T r || toStruct T (unionBase T r)) && ltb 0 (discriminator T r) && eqb (kind T (discriminator T r - 1)) member-kind
 
-  union-refers : (r : ℕ) → kind T r ≡ 5 → unionRefers r ≡ true
+  union-refers : (r : ℕ) → kind T r ≡ union-kind → unionRefers r ≡ true
   union-refers r k =
       let f : referencesFit T r ≡ true = refers r (omega arith) in
-      or-implies (isUnion T r) (unionRefers r) (search (and-left, and-right)) (eq-eqb (kind T r) 5 k)
+      or-implies (isUnion T r) (unionRefers r) (search (and-left, and-right)) (eq-eqb (kind T r) union-kind k)
 
-  union-to : (r : ℕ) → kind T r ≡ 5 → StructLink T (unionBase T r)
+  union-to : (r : ℕ) → kind T r ≡ union-kind → StructLink T (unionBase T r)
   union-to r k =
       let f : unionRefers r ≡ true = union-refers r k in
       ⊎-elim (to-owned T r) (to-struct T (unionBase T r))
       (or-cases (owns T r) (toStruct T (unionBase T r)) (search (and-left, and-right)))
 
-  discriminator-to : (r : ℕ) → kind T r ≡ 5 → (d : ℕ) × (discriminator T r ≡ suc d)
+  discriminator-to : (r : ℕ) → kind T r ≡ union-kind → (d : ℕ) × (discriminator T r ≡ suc d)
   discriminator-to r k =
       let f : unionRefers r ≡ true = union-refers r k in
       let z : 0 < discriminator T r = ltb-true 0 (discriminator T r) (search (and-left, and-right)) in
       (discriminator T r - 1, omega arith)
 
-  branch-to : (r b : ℕ) → kind T r ≡ 5 → List·Memᴰ b (children T r) → StructLink T (branchStruct T b)
+  branch-to : (r b : ℕ) → kind T r ≡ union-kind → List·Memᴰ b (children T r) → StructLink T (branchStruct T b)
   branch-to r b k m =
       let k′ : kind T b ≡ suc (kind T r) = fit r b m in
       let f : referencesFit T b ≡ true = refers b (omega arith) in
       to-struct T (branchStruct T b)
-      (or-implies (eqb (kind T b) 6) (toStruct T (branchStruct T b)) (search (and-left, and-right)) (eq-eqb (kind T b) 6 (omega arith)))
+      (or-implies (eqb (kind T b) branch-kind) (toStruct T (branchStruct T b)) (search (and-left, and-right)) (eq-eqb (kind T b) branch-kind (omega arith)))
 
   -- names
   own-apart : (r : ℕ) → apart same (namesOf S T (children T r)) ≡ true
@@ -143,9 +144,9 @@ module _ (S T : List ℕ) (h : sound S T ≡ true) where
       go false e = let z : kind T r ≡ 0 = past-end r (ltb-false r (rowCount T) e) in rw (no-children T r (omega arith))
 
   -- what a struct inherits and what it has of its own do not clash
-  inherits : (r : ℕ) → kind T r ≡ 3 → chainFits S T r ≡ true
+  inherits : (r : ℕ) → kind T r ≡ struct-kind → chainFits S T r ≡ true
   unfolding sound goodChains
-  inherits r k = every-one T (isStruct T) (chainFits S T) (search (and-left, and-right) depth 13) r (there r (omega arith)) (eq-eqb (kind T r) 3 k)
+  inherits r k = every-one T (isStruct T) (chainFits S T) (search (and-left, and-right) depth 13) r (there r (omega arith)) (eq-eqb (kind T r) struct-kind k)
 
   chain-apart : (n l : ℕ) → StructLink T l → (ms : List ℕ) → members T n l ≡ some ms → apart same (namesOf S T ms) ≡ true
   unfolding members
@@ -165,18 +166,18 @@ module _ (S T : List ℕ) (h : sound S T ≡ true) where
           rw y (apart-append (nameOf S T) inherited (children T r) (more inherited p) (own-apart r) k)
 
   -- a union's branches repeat no member of its base
-  union-fits : (r : ℕ) → kind T r ≡ 5 → unionFits S T r ≡ true
+  union-fits : (r : ℕ) → kind T r ≡ union-kind → unionFits S T r ≡ true
   unfolding sound goodUnions
-  union-fits r k = every-one T (isUnion T) (unionFits S T) (search (and-left, and-right) depth 13) r (there r (omega arith)) (eq-eqb (kind T r) 5 k)
+  union-fits r k = every-one T (isUnion T) (unionFits S T) (search (and-left, and-right) depth 13) r (there r (omega arith)) (eq-eqb (kind T r) union-kind k)
 
-  branch-fits : (r b : ℕ) (ms : List ℕ) → kind T r ≡ 5 → members T chain-structs (unionBase T r) ≡ some ms → List·Memᴰ b (children T r) → branchFits S T r ms b ≡ true
+  branch-fits : (r b : ℕ) (ms : List ℕ) → kind T r ≡ union-kind → members T chain-structs (unionBase T r) ≡ some ms → List·Memᴰ b (children T r) → branchFits S T r ms b ≡ true
   branch-fits r b ms k e m =
       let u : unionFits S T r ≡ true = union-fits r k in
       let fits : List ℕ → Bool = λ xs. discriminatorFits T r xs && all (branchFits S T r xs) (children T r) in
       let f : fits ms ≡ true = is-at (members T chain-structs (unionBase T r)) fits ms (search (and-left, and-right)) e in
       all-true (branchFits S T r ms) (children T r) (and-right (discriminatorFits T r ms) (all (branchFits S T r ms) (children T r)) f) b m
 
-  with-branch : (r b : ℕ) (ms bs : List ℕ) → kind T r ≡ 5 → members T chain-structs (unionBase T r) ≡ some ms → List·Memᴰ b (children T r)
+  with-branch : (r b : ℕ) (ms bs : List ℕ) → kind T r ≡ union-kind → members T chain-structs (unionBase T r) ≡ some ms → List·Memᴰ b (children T r)
       → members T chain-structs (branchStruct T b) ≡ some bs → apart same (namesOf S T (ms ++ bs)) ≡ true
   with-branch r b ms bs k e m f =
       let t : branchFits S T r ms b ≡ true = branch-fits r b ms k e m in
@@ -185,11 +186,11 @@ module _ (S T : List ℕ) (h : sound S T ≡ true) where
       (is-at (members T chain-structs (branchStruct T b)) (λ xs. noClash (namesOf S T ms) (namesOf S T xs)) bs (search (and-left, and-right)) f)
 
   -- alternatives
-  alternate-fits : (r : ℕ) → kind T r ≡ 7 → alternateFits T r ≡ true
+  alternate-fits : (r : ℕ) → kind T r ≡ alternate-kind → alternateFits T r ≡ true
   unfolding sound goodAlternates
-  alternate-fits r k = every-one T (isAlternate T) (alternateFits T) (search (and-left, and-right) depth 13) r (there r (omega arith)) (eq-eqb (kind T r) 7 k)
+  alternate-fits r k = every-one T (isAlternate T) (alternateFits T) (search (and-left, and-right) depth 13) r (there r (omega arith)) (eq-eqb (kind T r) alternate-kind k)
 
-  kind-of : (r c : ℕ) → kind T r ≡ 7 → List·Memᴰ c (children T r) → (k : Kind) × (typeKind T (typeRef T c) ≡ some k)
+  kind-of : (r c : ℕ) → kind T r ≡ alternate-kind → List·Memᴰ c (children T r) → (k : Kind) × (typeKind T (typeRef T c) ≡ some k)
   kind-of r c e m =
       let f : alternateFits T r ≡ true = alternate-fits r e in
       let k : List·Memᴰ (typeKind T (typeRef T c)) (kindsOf T (children T r)) = in-map (λ x. typeKind T (typeRef T x)) (children T r) c m in
@@ -197,7 +198,7 @@ module _ (S T : List ℕ) (h : sound S T ≡ true) where
       let i = is-true (typeKind T (typeRef T c)) (λ (k : Kind). true) g in
       (i .0, i .1)
 
-  of-one-kind : (r c c′ : ℕ) (k : Kind) → kind T r ≡ 7 → List·Memᴰ c (children T r) → List·Memᴰ c′ (children T r)
+  of-one-kind : (r c c′ : ℕ) (k : Kind) → kind T r ≡ alternate-kind → List·Memᴰ c (children T r) → List·Memᴰ c′ (children T r)
       → typeKind T (typeRef T c) ≡ some k → typeKind T (typeRef T c′) ≡ some k → c ≡ c′
   of-one-kind r c c′ k e m m′ p q =
       let f : alternateFits T r ≡ true = alternate-fits r e in
@@ -213,7 +214,7 @@ module _ (S T : List ℕ) (h : sound S T ≡ true) where
   a-definition x c n =
       in-those (isDefinition T) (upFrom 0 (rowCount T)) c (in-upFrom (rowCount T) 0 c zero-le (omega (arith, n .row)))
       (and-of (isEnum T c || isStruct T c || isUnion T c || isAlternate T c || isCommand T c) (not (unnamed T c))
-      (or-right (isEnum T c || isStruct T c || isUnion T c || isAlternate T c) (isCommand T c) (eq-eqb (kind T c) 9 (n .command)))
+      (or-right (isEnum T c || isStruct T c || isUnion T c || isAlternate T c) (isCommand T c) (eq-eqb (kind T c) command-kind (n .command)))
       (not-of (unnamed T c) (λ i. let z = unnamed-struct T c i in omega (arith, n .command))))
 
   of-one-name : (x : List ℕ) (c c′ : ℕ) → Names S T x c → Names S T x c′ → c ≡ c′
@@ -231,7 +232,7 @@ sound-facts S T h = record {
   branch-link = branch-to S T h;
   discriminator-link = discriminator-to S T h;
   children-apart = own-apart S T h;
-  struct-apart = λ r ms k. chain-apart S T h chain-structs (suc r) (λ s e. subst (λ x. kind T x ≡ 3) (let z : r ≡ s = cc in z) k) ms;
+  struct-apart = λ r ms k. chain-apart S T h chain-structs (suc r) (λ s e. subst (λ x. kind T x ≡ struct-kind) (let z : r ≡ s = cc in z) k) ms;
   union-apart = λ r ms k. chain-apart S T h chain-structs (unionBase T r) (union-to S T h r k) ms;
   branch-apart = with-branch S T h;
   has-kind = kind-of S T h;

@@ -11,6 +11,7 @@ use native.Mathlib.Omega.{arith}
 use lib.Dec.{eqb, ltb}
 use lib.ListN.{length}
 use borrow.Author.Tests.{ne-eqb, eqb-true, eqb-false, ltb-true, ltb-false}
+use Rattle.rules.specs.Kinds.{enum-kind, struct-kind, union-kind, alternate-kind, command-kind}
 use Rattle.rules.specs.Rows.{rowCount, kind, isEnum, isStruct, isUnion, isAlternate, isCommand, count, base, next, walk, past, unnamed, owns, firstChild, childCount, children, pastChildren, members, after}
 use Rattle.rules.specs.Sound.{laidOut, definitionAt, childrenFit}
 use Rattle.rules.proofs.Lists.{clash, none-not-some, and-left, and-right, or-cases, or-implies, all-true}
@@ -84,16 +85,16 @@ module _ (T : List ℕ) where
 module _ (T : List ℕ) where
   -- of a kind that has no children
   abbrev pub Childless : ℕ → Type 0
-  Childless r = (kind T r ≡ 1 → ⊥) × (kind T r ≡ 3 → ⊥) × (kind T r ≡ 5 → ⊥) × (kind T r ≡ 7 → ⊥)
+  Childless r = (kind T r ≡ enum-kind → ⊥) × (kind T r ≡ struct-kind → ⊥) × (kind T r ≡ union-kind → ⊥) × (kind T r ≡ alternate-kind → ⊥)
 
   pub no-children : (r : ℕ) → Childless r → children T r ≡ []
   unfolding children childCount walk
-  no-children r n = rw (ne-eqb (kind T r) 1 (n .0), ne-eqb (kind T r) 3 (n .1), ne-eqb (kind T r) 5 (n .2), ne-eqb (kind T r) 7 (n .3))
+  no-children r n = rw (ne-eqb (kind T r) enum-kind (n .0), ne-eqb (kind T r) struct-kind (n .1), ne-eqb (kind T r) union-kind (n .2), ne-eqb (kind T r) alternate-kind (n .3))
 
   childless-fit : (r : ℕ) → Childless r → childrenFit T r ≡ true
   childless-fit r n = rw (no-children r n)
 
-  odd-kind : (k : ℕ) → eqb k 1 || eqb k 3 || eqb k 5 || eqb k 7 || eqb k 9 ≡ true → k % 2 ≡ 1
+  odd-kind : (k : ℕ) → eqb k enum-kind || eqb k struct-kind || eqb k union-kind || eqb k alternate-kind || eqb k command-kind ≡ true → k % 2 ≡ 1
   odd-kind k e = go (eqb (k % 2) 1) refl
     where
       go : (b : Bool) → eqb (k % 2) 1 ≡ b → k % 2 ≡ 1
@@ -101,14 +102,14 @@ module _ (T : List ℕ) where
       go false p =
           let n : k % 2 ≡ 1 → ⊥ = eqb-false (k % 2) 1 p in
           absurd
-          (clash e (rw (ne-eqb k 1 (omega arith), ne-eqb k 3 (omega arith), ne-eqb k 5 (omega arith), ne-eqb k 7 (omega arith), ne-eqb k 9 (omega arith))))
+          (clash e (rw (ne-eqb k enum-kind (omega arith), ne-eqb k struct-kind (omega arith), ne-eqb k union-kind (omega arith), ne-eqb k alternate-kind (omega arith), ne-eqb k command-kind (omega arith))))
 
   -- an unnamed struct, its owner, and where children begin
-  pub unnamed-struct : (r : ℕ) → unnamed T r ≡ true → kind T r ≡ 3
+  pub unnamed-struct : (r : ℕ) → unnamed T r ≡ true → kind T r ≡ struct-kind
   unfolding unnamed
-  unnamed-struct r e = eqb-true (kind T r) 3 (search (and-left, and-right))
+  unnamed-struct r e = eqb-true (kind T r) struct-kind (search (and-left, and-right))
 
-  pub owned-struct : (r : ℕ) → owns T r ≡ true → kind T (next T r) ≡ 3
+  pub owned-struct : (r : ℕ) → owns T r ≡ true → kind T (next T r) ≡ struct-kind
   unfolding owns
   owned-struct r e = unnamed-struct (next T r) (search (and-left, and-right))
 
@@ -120,22 +121,22 @@ module _ (T : List ℕ) where
   unfolding firstChild
   first-owner r e = rw e
 
-  pub struct-plain : (r : ℕ) → kind T r ≡ 3 → owns T r ≡ false
+  pub struct-plain : (r : ℕ) → kind T r ≡ struct-kind → owns T r ≡ false
   unfolding owns
   struct-plain r e = rw e refl
 
-  pub struct-count : (r : ℕ) → kind T r ≡ 3 → childCount T r ≡ count T r
+  pub struct-count : (r : ℕ) → kind T r ≡ struct-kind → childCount T r ≡ count T r
   unfolding childCount
   struct-count r e = rw e refl
 
-  struct-children : (r : ℕ) → kind T r ≡ 3 → children T r ≡ walk T (next T r) (count T r)
+  struct-children : (r : ℕ) → kind T r ≡ struct-kind → children T r ≡ walk T (next T r) (count T r)
   unfolding children
   struct-children r e = rw (first-plain r (struct-plain r e), struct-count r e)
 
   -- an owner's children begin where those of its inline struct end
   pub owner-first : (r : ℕ) → owns T r ≡ true → firstChild T r ≡ pastChildren T (next T r)
   unfolding pastChildren
-  owner-first r e = let k : kind T (next T r) ≡ 3 = owned-struct r e in rw (first-owner r e, first-plain (next T r) (struct-plain (next T r) k), struct-count (next T r) k)
+  owner-first r e = let k : kind T (next T r) ≡ struct-kind = owned-struct r e in rw (first-owner r e, first-plain (next T r) (struct-plain (next T r) k), struct-count (next T r) k)
 
   pub first-above : (r : ℕ) → r < firstChild T r
   first-above r = go (owns T r) refl
@@ -185,7 +186,7 @@ module _ (T : List ℕ) where
       in-inline y l false e = let i : firstChild T r ≡ next T r = first-plain r e in absurd (omega arith)
       in-inline y l true e = go (ltb x (next T (next T r))) refl
         where
-          k : kind T (next T r) ≡ 3
+          k : kind T (next T r) ≡ struct-kind
           k = owned-struct r e
 
           f : childrenFit T (next T r) ≡ true

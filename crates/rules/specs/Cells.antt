@@ -3,6 +3,7 @@ use Prim.Native.Nat.{ℕ, suc, _+_}
 use mathlib.Core.Bool.{Bool, true, false, cond, _&&_}
 use mathlib.Core.List.{List, [], _∷_, _++_, map}
 use lib.ListN.{length}
+use Rattle.rules.specs.Kinds.{enum-kind, value-kind, struct-kind, member-kind, union-kind, branch-kind, alternate-kind, alternative-kind, command-kind}
 use Rattle.rules.specs.Names.{sameName}
 use Rattle.rules.specs.Rows.{kind, nameOf}
 use Rattle.rules.specs.Definitions.{Name, TypeText, Member, Data, Pair, Body, Definition}
@@ -57,16 +58,16 @@ entries (d ∷ ds) = (ownEntry (d .name) (d .body) ∷ childEntries (d .body)) +
 -- The words of an entry at row r, and of entries from row r on.
 module _ (asStruct asType : Name → ℕ) (asTag : ℕ → Name → ℕ) where
   abbrev pub wordsOf : ℕ → Entry → List ℕ
-  wordsOf r (enumRow n c) = row 1 n c 0 0 0
-  wordsOf r (valueRow n) = row 2 n 0 0 0 0
-  wordsOf r (structRow n b c) = row 3 n c (dataLink asStruct asType asTag r b) 0 0
-  wordsOf r (inlineRow c) = row 3 unnamed c 0 0 0
-  wordsOf r (memberRow m) = row 4 (m .name) (typeOf asStruct asType asTag (m .type)) (flag (isList (m .type))) (flag (m .optional)) 0
-  wordsOf r (unionRow n b tag c) = row 5 n (dataLink asStruct asType asTag r b) c (asTag r tag) 0
-  wordsOf r (branchRow p) = row 6 (p .name) (asStruct (p .type)) 0 0 0
-  wordsOf r (alternateRow n c) = row 7 n c 0 0 0
-  wordsOf r (alternativeRow p) = row 8 (p .name) (asType (p .type)) 0 0 0
-  wordsOf r (commandRow n a t oob) = row 9 n (dataLink asStruct asType asTag r a) (flag oob) (typeOf asStruct asType asTag t) (flag (isList t))
+  wordsOf r (enumRow n c) = row enum-kind n c 0 0 0
+  wordsOf r (valueRow n) = row value-kind n 0 0 0 0
+  wordsOf r (structRow n b c) = row struct-kind n c (dataLink asStruct asType asTag r b) 0 0
+  wordsOf r (inlineRow c) = row struct-kind unnamed c 0 0 0
+  wordsOf r (memberRow m) = row member-kind (m .name) (typeOf asStruct asType asTag (m .type)) (flag (isList (m .type))) (flag (m .optional)) 0
+  wordsOf r (unionRow n b tag c) = row union-kind n (dataLink asStruct asType asTag r b) c (asTag r tag) 0
+  wordsOf r (branchRow p) = row branch-kind (p .name) (asStruct (p .type)) 0 0 0
+  wordsOf r (alternateRow n c) = row alternate-kind n c 0 0 0
+  wordsOf r (alternativeRow p) = row alternative-kind (p .name) (asType (p .type)) 0 0 0
+  wordsOf r (commandRow n a t oob) = row command-kind n (dataLink asStruct asType asTag r a) (flag oob) (typeOf asStruct asType asTag t) (flag (isList t))
 
   unfoldable pub wordsFrom : ℕ → List Entry → List ℕ
   wordsFrom r [] = []
@@ -74,16 +75,16 @@ module _ (asStruct asType : Name → ℕ) (asTag : ℕ → Name → ℕ) where
 
 -- what the words tell of an entry whatever its references become
 abbrev pub entryKind : Entry → ℕ
-entryKind (enumRow n c) = 1
-entryKind (valueRow n) = 2
-entryKind (structRow n b c) = 3
-entryKind (inlineRow c) = 3
-entryKind (memberRow m) = 4
-entryKind (unionRow n b tag c) = 5
-entryKind (branchRow p) = 6
-entryKind (alternateRow n c) = 7
-entryKind (alternativeRow p) = 8
-entryKind (commandRow n a t oob) = 9
+entryKind (enumRow n c) = enum-kind
+entryKind (valueRow n) = value-kind
+entryKind (structRow n b c) = struct-kind
+entryKind (inlineRow c) = struct-kind
+entryKind (memberRow m) = member-kind
+entryKind (unionRow n b tag c) = union-kind
+entryKind (branchRow p) = branch-kind
+entryKind (alternateRow n c) = alternate-kind
+entryKind (alternativeRow p) = alternative-kind
+entryKind (commandRow n a t oob) = command-kind
 
 abbrev pub entryName : Entry → Name
 entryName (enumRow n c) = n

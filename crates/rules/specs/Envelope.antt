@@ -10,6 +10,7 @@ use Rattle.grammar.specs.Tree.{Json}
 use Rattle.grammar.specs.Tree.Json.{obj}
 use Rattle.grammar.specs.Tree.Fields.{no-fields}
 use Rattle.grammar.specs.Keys.{keysOf}
+use Rattle.rules.specs.Kinds.{command-kind}
 use Rattle.rules.specs.Values.{_>>=_, asFields, asString, valueAt, anyOf}
 use Rattle.rules.specs.Rows.{rowCount, kind, allowOob, nameOf}
 
@@ -50,7 +51,7 @@ envelope j = do
 -- row c is the command of that name
 pub record Names (S T : List ℕ) (name : List ℕ) (c : ℕ) : Type 0 where
   pub row : c < rowCount T
-  pub command : kind T c ≡ 9
+  pub command : kind T c ≡ command-kind
   pub same-name : nameOf S T c ≡ name
 
 -- an out-of-band call wants allow-oob

@@ -3,6 +3,7 @@ pub mod Types
 pub mod Values
 pub mod Definitions
 pub mod Names
+pub mod Kinds
 pub mod Rows
 pub mod SchemaTable
 pub mod Rules

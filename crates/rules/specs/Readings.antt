@@ -11,6 +11,7 @@ use Rattle.grammar.specs.Tree.Json.{leaf, arr, obj}
 use Rattle.grammar.specs.Tree.Items.{no-items, item}
 use Rattle.grammar.specs.Tree.Fields.{no-fields, field}
 use Rattle.grammar.specs.Tree.{Scalar}
+use Rattle.rules.specs.Kinds.{enum-kind, struct-kind, union-kind, alternate-kind}
 use Rattle.rules.specs.Types.{any-type, builtInTakes}
 use Rattle.rules.specs.Values.{valueAt}
 use Rattle.rules.specs.Rows.{kind, typeRef, arrayMark, optional, unionBase, discriminator, branchStruct, arguments, children, members, nameOf}
@@ -52,16 +53,16 @@ module _ (S T : List ℕ) where
       -- any takes anything and has no records inside
       any-value : {j : Json} → Reads j any-type 0 (typed j any-type 0 ∷ [])
       -- Enum: a string equal to a value
-      enum : {a e t v : ℕ} {cs : List ℕ} (r : ℕ) → t ≡ first-row + r → kind T r ≡ 1 → List·Memᴰ v (children T r) → nameOf S T v ≡ cs
+      enum : {a e t v : ℕ} {cs : List ℕ} (r : ℕ) → t ≡ first-row + r → kind T r ≡ enum-kind → List·Memᴰ v (children T r) → nameOf S T v ≡ cs
           → Reads (leaf a e (str cs)) t 0 (typed (leaf a e (str cs)) t 0 ∷ [])
       -- Struct: every key a member, every mandatory member there, each value read at its type
-      struct : {a e t : ℕ} {fs : Fields} {ms : List ℕ} {ts : List Typed} (r : ℕ) → t ≡ first-row + r → kind T r ≡ 3 → members T chain-structs (suc r) ≡ some ms
+      struct : {a e t : ℕ} {fs : Fields} {ms : List ℕ} {ts : List Typed} (r : ℕ) → t ≡ first-row + r → kind T r ≡ struct-kind → members T chain-structs (suc r) ≡ some ms
           → Mandatory ms fs → ReadsFields ms fs ts → Reads (obj a e fs) t 0 (typed (obj a e fs) t 0 ∷ ts)
       -- Union: as a struct over the base's members and those of the branch
-      union : {a e t : ℕ} {fs : Fields} {ms bs ns : List ℕ} {ts : List Typed} (r : ℕ) → t ≡ first-row + r → kind T r ≡ 5 → members T chain-structs (unionBase T r) ≡ some ms
+      union : {a e t : ℕ} {fs : Fields} {ms bs ns : List ℕ} {ts : List Typed} (r : ℕ) → t ≡ first-row + r → kind T r ≡ union-kind → members T chain-structs (unionBase T r) ≡ some ms
           → Branch r fs bs → ns ≡ ms ++ bs → Mandatory ns fs → ReadsFields ns fs ts → Reads (obj a e fs) t 0 (typed (obj a e fs) t 0 ∷ ts)
       -- Alternate: its record, then an alternative's
-      alternate : {j : Json} {t c : ℕ} {ts : List Typed} (r : ℕ) → t ≡ first-row + r → kind T r ≡ 7 → List·Memᴰ c (children T r)
+      alternate : {j : Json} {t c : ℕ} {ts : List Typed} (r : ℕ) → t ≡ first-row + r → kind T r ≡ alternate-kind → List·Memᴰ c (children T r)
           → Reads j (typeRef T c) 0 ts → Reads j t 0 (typed j t 0 ∷ ts)
       -- Array: each element read at the element type
       array : {a e t : ℕ} {js : Items} {ts : List Typed} → ReadsItems js t ts → Reads (arr a e js) t 1 (typed (arr a e js) t 1 ∷ ts)

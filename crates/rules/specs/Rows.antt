@@ -8,6 +8,7 @@ use lib.ListN.{getD, length, take, drop}
 use Rattle.grammar.specs.Limits.{row-words, first-row}
 use Rattle.grammar.specs.Tree.{Kind}
 use Rattle.grammar.specs.Tree.Kind.{object, string}
+use Rattle.rules.specs.Kinds.{enum-kind, struct-kind, union-kind, alternate-kind, command-kind}
 use Rattle.rules.specs.Types.{built-in-kinds}
 
 -- n numbers from a on
@@ -24,79 +25,83 @@ module _ (T : List ℕ) where
   abbrev pub rowCount : ℕ
   rowCount = length T / row-words
 
-  -- word i of row r; words are counted from 1, rows from 0
+  -- word i of row r, both counted from 0
   abbrev pub word : ℕ → ℕ → ℕ
-  word r i = getD T (row-words * r + (i - 1)) 0
+  word r i = getD T (row-words * r + i) 0
 
-  -- words 1 to 3 of every row: its kind, and where its name stands in the schema
+  -- words 0 to 2 of every row: its kind, and where its name stands in the schema
   abbrev pub kind : ℕ → ℕ
-  kind r = word r 1
+  kind r = word r 0
 
   abbrev pub start : ℕ → ℕ
-  start r = word r 2
+  start r = word r 1
 
   abbrev pub size : ℕ → ℕ
-  size r = word r 3
+  size r = word r 2
 
-  -- the kinds of definitions; the children of kinds 1, 3, 5 and 7 have kinds 2, 4, 6 and 8
+  -- the kinds of definitions
   abbrev pub isEnum : ℕ → Bool
-  isEnum r = eqb (kind r) 1
+  isEnum r = eqb (kind r) enum-kind
 
   abbrev pub isStruct : ℕ → Bool
-  isStruct r = eqb (kind r) 3
+  isStruct r = eqb (kind r) struct-kind
 
   abbrev pub isUnion : ℕ → Bool
-  isUnion r = eqb (kind r) 5
+  isUnion r = eqb (kind r) union-kind
 
   abbrev pub isAlternate : ℕ → Bool
-  isAlternate r = eqb (kind r) 7
+  isAlternate r = eqb (kind r) alternate-kind
 
   abbrev pub isCommand : ℕ → Bool
-  isCommand r = eqb (kind r) 9
+  isCommand r = eqb (kind r) command-kind
 
-  -- words 4 on, by kind. An enum's, a struct's or an alternate's count of children
+  -- words 3 on, by kind. An enum's, a struct's or an alternate's count of children
   abbrev pub count : ℕ → ℕ
-  count r = word r 4
+  count r = word r 3
 
   -- a struct's base link
   abbrev pub base : ℕ → ℕ
-  base r = word r 5
+  base r = word r 4
 
   -- a member's or an alternative's type reference; of a member, 1 if array and 1 if optional
   abbrev pub typeRef : ℕ → ℕ
-  typeRef r = word r 4
+  typeRef r = word r 3
 
   abbrev pub arrayMark : ℕ → ℕ
-  arrayMark r = word r 5
+  arrayMark r = word r 4
 
   abbrev pub optional : ℕ → ℕ
-  optional r = word r 6
+  optional r = word r 5
 
   -- a union's base link, count of branches and link of discriminator member; a branch's struct link
   abbrev pub unionBase : ℕ → ℕ
-  unionBase r = word r 4
+  unionBase r = word r 3
 
   abbrev pub branchCount : ℕ → ℕ
-  branchCount r = word r 5
+  branchCount r = word r 4
 
   abbrev pub discriminator : ℕ → ℕ
-  discriminator r = word r 6
+  discriminator r = word r 5
 
   abbrev pub branchStruct : ℕ → ℕ
-  branchStruct r = word r 4
+  branchStruct r = word r 3
+
+  -- the link by which a union, its base, or a command, its data, owns an inline struct
+  abbrev pub ownerLink : ℕ → ℕ
+  ownerLink r = word r 3
 
   -- a command's argument struct link, 1 if allow-oob, return type reference or 0, 1 if the return is an array
   abbrev pub arguments : ℕ → ℕ
-  arguments r = word r 4
+  arguments r = word r 3
 
   abbrev pub allowOob : ℕ → ℕ
-  allowOob r = word r 5
+  allowOob r = word r 4
 
   abbrev pub returns : ℕ → ℕ
-  returns r = word r 6
+  returns r = word r 5
 
   abbrev pub returnsArray : ℕ → ℕ
-  returnsArray r = word r 7
+  returnsArray r = word r 6
 
   -- the row after row r and what belongs to that row alone
   unfoldable pub next : ℕ → ℕ
@@ -116,7 +121,7 @@ module _ (T : List ℕ) where
   unnamed r = isStruct r && eqb (start r) 0 && eqb (size r) 0 && eqb (base r) 0
 
   unfoldable pub owns : ℕ → Bool
-  owns r = (isUnion r || isCommand r) && eqb (word r 4) (suc (next r)) && unnamed (next r)
+  owns r = (isUnion r || isCommand r) && eqb (ownerLink r) (suc (next r)) && unnamed (next r)
 
   -- the children of row r, past its inline struct and that one's: values, members, branches or alternatives
   unfoldable pub firstChild : ℕ → ℕ

@@ -7,6 +7,7 @@ use lib.Dec.{eqb, ltb, leb}
 use Rattle.grammar.specs.Limits.{chain-structs, first-row}
 use Rattle.grammar.specs.Notation.{all, apart}
 use Rattle.grammar.specs.Tree.{Kind}
+use Rattle.rules.specs.Kinds.{value-kind, branch-kind}
 use Rattle.rules.specs.Types.{built-ins, sameKind}
 use Rattle.rules.specs.Names.{goodName, sameName, clash}
 use Rattle.rules.specs.Rows.{upFrom, rowCount, kind, isEnum, isStruct, isUnion, isAlternate, isCommand, count, base, typeRef, arrayMark, optional, unionBase, branchCount, discriminator, branchStruct, returns, unnamed, children, members, typeKind, nameOf}
@@ -50,7 +51,7 @@ module _ (S T : List ℕ) where
 
   -- 5: every name is good; an inline struct has none
   unfoldable pub goodNames : Bool
-  goodNames = everyRow T (λ r. unnamed T r || goodName (eqb (kind T r) 2 || eqb (kind T r) 6) (nameOf S T r))
+  goodNames = everyRow T (λ r. unnamed T r || goodName (eqb (kind T r) value-kind || eqb (kind T r) branch-kind) (nameOf S T r))
 
   abbrev pub definitionNames : List (List ℕ)
   definitionNames = namesOf (those (isDefinition T) (upFrom 0 (rowCount T)))

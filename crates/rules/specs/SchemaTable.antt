@@ -7,6 +7,7 @@ use lib.Dec.{eqb, ltb}
 use lib.ListN.{length, take, drop}
 use Rattle.grammar.specs.Limits.{chain-structs, first-row}
 use Rattle.grammar.specs.Notation.{all}
+use Rattle.rules.specs.Kinds.{enum-kind, value-kind, struct-kind, member-kind, union-kind, branch-kind, alternate-kind, alternative-kind, command-kind}
 use Rattle.rules.specs.Types.{built-ins}
 use Rattle.rules.specs.Names.{sameName}
 use Rattle.rules.specs.Definitions.{Name, TypeText, Member, Data, Pair, Body, Definition}
@@ -30,17 +31,17 @@ rowsTaken (command a t oob) = suc (dataRows a)
 
 -- the kind of its row; all but a command's are types
 abbrev pub rowKind : Body → ℕ
-rowKind (enum vs) = 1
-rowKind (struct b ms) = 3
-rowKind (union b tag bs) = 5
-rowKind (alternate alts) = 7
-rowKind (command a t oob) = 9
+rowKind (enum vs) = enum-kind
+rowKind (struct b ms) = struct-kind
+rowKind (union b tag bs) = union-kind
+rowKind (alternate alts) = alternate-kind
+rowKind (command a t oob) = command-kind
 
 abbrev pub isStruct : Body → Bool
-isStruct b = eqb (rowKind b) 3
+isStruct b = eqb (rowKind b) struct-kind
 
 abbrev pub isType : Body → Bool
-isType b = ltb (rowKind b) 9
+isType b = ltb (rowKind b) command-kind
 
 -- the place of a name in a list, counted from 1; 0 if it is not there
 abbrev pub later : ℕ → ℕ
@@ -88,21 +89,21 @@ module _ (asStruct asType : Name → ℕ) (asTag : ℕ → Name → ℕ) where
   dataLink r (named n) = asStruct n
 
   abbrev pub memberRows : List Member → List ℕ
-  memberRows ms = concat (map (λ (m : Member). row 4 (m .name) (typeOf (m .type)) (flag (isList (m .type))) (flag (m .optional)) 0) ms)
+  memberRows ms = concat (map (λ (m : Member). row member-kind (m .name) (typeOf (m .type)) (flag (isList (m .type))) (flag (m .optional)) 0) ms)
 
   abbrev pub inlineStruct : Data → List ℕ
   inlineStruct absent = []
-  inlineStruct (inline ms) = row 3 (record { start = 0; size = 0 }) (length ms) 0 0 0 ++ memberRows ms
+  inlineStruct (inline ms) = row struct-kind (record { start = 0; size = 0 }) (length ms) 0 0 0 ++ memberRows ms
   inlineStruct (named n) = []
 
   -- the rows of a definition at row r, named n
   abbrev pub rowsOf : ℕ → Name → Body → List ℕ
-  rowsOf r n (enum vs) = row 1 n (length vs) 0 0 0 ++ concat (map (λ (v : Name). row 2 v 0 0 0 0) vs)
-  rowsOf r n (struct b ms) = row 3 n (length ms) (dataLink r b) 0 0 ++ memberRows ms
+  rowsOf r n (enum vs) = row enum-kind n (length vs) 0 0 0 ++ concat (map (λ (v : Name). row value-kind v 0 0 0 0) vs)
+  rowsOf r n (struct b ms) = row struct-kind n (length ms) (dataLink r b) 0 0 ++ memberRows ms
   rowsOf r n (union b tag bs) =
-      row 5 n (dataLink r b) (length bs) (asTag r tag) 0 ++ inlineStruct b ++ concat (map (λ (p : Pair). row 6 (p .name) (asStruct (p .type)) 0 0 0) bs)
-  rowsOf r n (alternate alts) = row 7 n (length alts) 0 0 0 ++ concat (map (λ (p : Pair). row 8 (p .name) (asType (p .type)) 0 0 0) alts)
-  rowsOf r n (command a t oob) = row 9 n (dataLink r a) (flag oob) (typeOf t) (flag (isList t)) ++ inlineStruct a
+      row 5 n (dataLink r b) (length bs) (asTag r tag) 0 ++ inlineStruct b ++ concat (map (λ (p : Pair). row branch-kind (p .name) (asStruct (p .type)) 0 0 0) bs)
+  rowsOf r n (alternate alts) = row alternate-kind n (length alts) 0 0 0 ++ concat (map (λ (p : Pair). row alternative-kind (p .name) (asType (p .type)) 0 0 0) alts)
+  rowsOf r n (command a t oob) = row command-kind n (dataLink r a) (flag oob) (typeOf t) (flag (isList t)) ++ inlineStruct a
 
   -- the definitions from row r on, in schema order, each followed by its children
   abbrev pub tableFrom : ℕ → List Definition → List ℕ

@@ -6,6 +6,7 @@ use lib.Dec.{eqb, ltb, leb}
 use lib.ListN.{getD, length}
 use Rattle.grammar.specs.Limits.{row-words, first-row, table-rows, schema-bytes}
 use Rattle.grammar.specs.Notation.{within, all}
+use Rattle.rules.specs.Kinds.{member-kind, branch-kind, alternative-kind}
 use Rattle.rules.specs.Rows.{upFrom, rowCount, word, kind, start, size, isEnum, isStruct, isUnion, isAlternate, isCommand, base, typeRef, arrayMark, optional, unionBase, discriminator, branchStruct, arguments, allowOob, returns, returnsArray, next, unnamed, owns, children, pastChildren}
 use Rattle.rules.specs.Rules.{everyRow, isDefinition, goodNames, distinctNames, goodChains, goodUnions, goodAlternates, goodReturns}
 
@@ -27,12 +28,12 @@ module _ (T : List ℕ) where
   laidOut zero r = eqb r (rowCount T)
   laidOut (suc n) r = eqb r (rowCount T) || definitionAt r && laidOut n (pastChildren T r)
 
-  -- the last word that each kind uses, from kind 1 on; the words after it are 0
-  abbrev pub lastUsed : ℕ → ℕ
-  lastUsed k = getD (0 ∷ 4 ∷ 3 ∷ 5 ∷ 6 ∷ 6 ∷ 4 ∷ 4 ∷ 4 ∷ 7 ∷ []) k 0
+  -- how many words each kind uses, from kind 1 on; the words after them are 0
+  abbrev pub wordsUsed : ℕ → ℕ
+  wordsUsed k = getD (0 ∷ 4 ∷ 3 ∷ 5 ∷ 6 ∷ 6 ∷ 4 ∷ 4 ∷ 4 ∷ 7 ∷ []) k 0
 
   abbrev pub restZero : ℕ → Bool
-  restZero r = all (λ i. eqb (word T r i) 0) (upFrom (suc (lastUsed (kind T r))) (row-words - lastUsed (kind T r)))
+  restZero r = all (λ i. eqb (word T r i) 0) (upFrom (wordsUsed (kind T r)) (row-words - wordsUsed (kind T r)))
 
   abbrev pub isFlag : ℕ → Bool
   isFlag n = leb n 1
@@ -51,10 +52,10 @@ module _ (T : List ℕ) where
   abbrev pub referencesFit : ℕ → Bool
   referencesFit r =
       (not (isStruct T r) || eqb (base T r) 0 || toStruct (base T r))
-      && (not (eqb (kind T r) 4) || toType (typeRef T r) && isFlag (arrayMark T r) && isFlag (optional T r))
-      && (not (isUnion T r) || (owns T r || toStruct (unionBase T r)) && ltb 0 (discriminator T r) && eqb (kind T (discriminator T r - 1)) 4)
-      && (not (eqb (kind T r) 6) || toStruct (branchStruct T r))
-      && (not (eqb (kind T r) 8) || toType (typeRef T r))
+      && (not (eqb (kind T r) member-kind) || toType (typeRef T r) && isFlag (arrayMark T r) && isFlag (optional T r))
+      && (not (isUnion T r) || (owns T r || toStruct (unionBase T r)) && ltb 0 (discriminator T r) && eqb (kind T (discriminator T r - 1)) member-kind)
+      && (not (eqb (kind T r) branch-kind) || toStruct (branchStruct T r))
+      && (not (eqb (kind T r) alternative-kind) || toType (typeRef T r))
       && (not (isCommand T r)
       || (eqb (arguments T r) 0 || owns T r || toStruct (arguments T r)) && isFlag (allowOob T r)
       && (eqb (returns T r) 0 && eqb (returnsArray T r) 0 || toType (returns T r) && isFlag (returnsArray T r)))

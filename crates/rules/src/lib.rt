@@ -1,4 +1,6 @@
-// The paper's answers as values with names; their numbers stand in specs/. It has no code of its own.
+// The paper's answers, the words of rows and the limits as values with names; their meaning stands in specs/. It has no code of its own.
+pub mod kind;
+pub mod row;
 
 // Why a schema is refused, in the order of the paper's table (1 to 13).
 pub enum SchemaRefusal {

@@ -9,6 +9,7 @@ use lib.ListN.{length, take, replicate, length-replicate}
 use lib.Seq.{length-take-le}
 use borrow.Author.Tests.{lt-ltb, le-ltb}
 use Rattle.grammar.specs.Limits.{schema-bytes, row-words}
+use Rattle.text.specs.Nodes.{node-words}
 use Rattle.grammar.specs.Tree.{Items}
 use Rattle.grammar.specs.Keys.{keysOnceI}
 use Rattle.grammar.specs.SchemaText.{SchemaText}
@@ -32,7 +33,7 @@ use Rattle.text.specs.Keys.{KeysOnce}
 use Rattle.text.specs.Texts.{SchemaTold, ReadsSchema}
 use Rattle.text.specs.declared.texts.Text.{Text}
 use Rattle.text.specs.declared.texts.Text.the-variants as Texts
-use Rattle.schema.specs.Stages.{objects, written, resultBy, Answered, Zero, IsTable, Refers, TextRead, RawRows, Compiles}
+use Rattle.schema.specs.Stages.{most-nodes, most-rows, objects, written, resultBy, Answered, Zero, IsTable, Refers, TextRead, RawRows, Compiles}
 use Rattle.schema.proofs.StageLaws.{test, stop, on}
 
 pub cleared-length : (old : List ℕ) {mid : List ℕ} → mid ≡ take 0 old ++ replicate (length old - 0) 0 → length mid ≡ length old
@@ -114,7 +115,7 @@ module _ {S raw new : List ℕ} {found : Bool} (w : RawRows S raw) (r : Resolves
       record { told = λ ds e. let z : some (w .ds) ≡ some ds = sym (text-written (w .text) ∙ w .are) ∙ e in let y : w .ds ≡ ds = cc in resolved .1 ∙ ap (allRefer S) y }
 
 -- text read into nodes that fit
-pub text-read : {S v w : List ℕ} {x : Text} {n : ℕ} → ReadsSchema S v w x → x ≡ Texts.Whole n → length S ≤ schema-bytes → length w ≡ 2 * schema-bytes → TextRead S w n
+pub text-read : {S v w : List ℕ} {x : Text} {n : ℕ} → ReadsSchema S v w x → x ≡ Texts.Whole n → length S ≤ schema-bytes → length w ≡ node-words * most-nodes → TextRead S w n
 text-read {S} {w = w} {n = n} r e h k =
     let t : SchemaTold S w (Texts.Whole n) = subst (λ (y : Text). SchemaTold S w y) e (r .told) in
     record { js = t .items; text = t .text; holds = t .holds (omega (arith, t .few)); few = t .few; short = h }
@@ -127,13 +128,13 @@ module _ {S w old new : List ℕ} {count : ℕ} {x : Put} (t : TextRead S w coun
   pub put-rows : {n : ℕ} → x ≡ Rows n → RowsPut old new (t .js) count n
   put-rows e = subst (λ (y : Put). PutTold old new (t .js) count y) e (p .told (t .js) _ (t .short) (t .holds))
 
-  pub put-few : {n : ℕ} → x ≡ Rows n → row-words * n ≤ 4 * schema-bytes
+  pub put-few : {n : ℕ} → x ≡ Rows n → row-words * n ≤ row-words * most-rows
   put-few e = omega (arith, put-rows e .few, t .few, t .short)
 
-  pub raw-length : {n : ℕ} → x ≡ Rows n → length new ≡ 4 * schema-bytes → row-words * n ≡ length (take (row-words * n) new)
+  pub raw-length : {n : ℕ} → x ≡ Rows n → length new ≡ row-words * most-rows → row-words * n ≡ length (take (row-words * n) new)
   raw-length {n} e k = sym (length-take-le (row-words * n) new (omega (arith, put-few e)))
 
-  pub raw-rows : {n : ℕ} → x ≡ Rows n → length new ≡ 4 * schema-bytes → RawRows S (take (row-words * n) new)
+  pub raw-rows : {n : ℕ} → x ≡ Rows n → length new ≡ row-words * most-rows → RawRows S (take (row-words * n) new)
   raw-rows {n} e k =
       let r = put-rows e in
       let f : row-words * n ≤ length old = omega (arith, put-few e, p .same-length) in

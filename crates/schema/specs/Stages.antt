@@ -18,6 +18,13 @@ use Rattle.rules.specs.RawTable.{rawFrom}
 use Rattle.rules.specs.Answers.{SchemaResult, schemaRefusals, first, objectsIn, schemaTest, tableIn, schemaAnswered, schemaResult}
 use Rattle.text.specs.Nodes.{HoldsItems}
 
+-- A node takes at least two bytes of the schema, and a row a node of its own.
+abbrev pub most-nodes : ℕ
+most-nodes = schema-bytes / 2
+
+abbrev pub most-rows : ℕ
+most-rows = most-nodes
+
 -- the objects of the text, and their definitions
 unfoldable pub objects : List ℕ → Option Items
 objects S = objectsIn (readSchema S)
@@ -64,7 +71,7 @@ pub record RawRows (S raw : List ℕ) : Type 0 where
   pub are : definitions js ≡ some ds
   pub rows : raw ≡ rawFrom 0 ds
   pub whole : length raw ≡ row-words * (length raw / row-words)
-  pub few : length raw ≤ 4 * length S
+  pub few : 2 * length raw ≤ row-words * length S
   pub short : length S ≤ schema-bytes
 
 -- the whole outcome

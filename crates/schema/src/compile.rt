@@ -8,6 +8,7 @@ use rules::SCHEMA_BYTES;
 use rules::SchemaAnswer;
 use rules::SchemaRefusal;
 use text::keys::keys_once;
+use text::nodes::NODE_WORDS;
 use text::texts::Text;
 use text::texts::read_schema;
 use words::clear;
@@ -16,14 +17,14 @@ ghost use lib.ListN.{length};
 ghost use Rattle.grammar.specs.Limits.{schema-bytes};
 ghost use Rattle.schema.specs.Stages.{Answered, Zero, TextRead, RawRows, Compiles};
 
-// A node has four words, and there is at most one for every two bytes.
-const NODE_WORDS: usize = 2 * SCHEMA_BYTES;
+// There is at most one node for every two bytes, and at most one row for each node.
+const MOST_NODES: usize = SCHEMA_BYTES / 2;
 
-// There is at most one row for each node.
-const RAW_WORDS: usize = 4 * SCHEMA_BYTES;
+const MOST_ROWS: usize = MOST_NODES;
 
-// There is at most one row for every two bytes.
-const MOST_ROWS: usize = SCHEMA_BYTES / 2;
+const NODE_ROOM: usize = NODE_WORDS * MOST_NODES;
+
+const ROW_ROOM: usize = ROW_WORDS * MOST_ROWS;
 
 // Names that refer become links and references; then the rules, over the table.
 fn with_rows(schema: &[u8], table: &mut [u32], rows: &mut [u32]) -> SchemaAnswer
@@ -45,7 +46,7 @@ fn with_nodes(schema: &[u8], nodes: &[u32], count: usize, rows: &mut [u32]) -> S
     if !keys_once(schema, true, nodes, count) {
         return SchemaAnswer::Refused(SchemaRefusal::RepeatedKey);
     }
-    let mut table = [0u32; RAW_WORDS];
+    let mut table = [0u32; ROW_ROOM];
     match put_definitions(schema, nodes, count, &mut table) {
         Put::Refused => SchemaAnswer::Refused(SchemaRefusal::NotDefinitions),
         Put::Rows(n) => {
@@ -60,7 +61,7 @@ fn with_text(schema: &[u8], rows: &mut [u32]) -> SchemaAnswer
     requires { ⌜ (length (now schema) ≤ schema-bytes) × Zero (now rows) ⌝ }
     ensures { λ r. ⌜ Answered (now (schema .entry)) 1 (now (rows .entry)) (now (rows .exit)) r ⌝ }
 {
-    let mut nodes = [0u32; NODE_WORDS];
+    let mut nodes = [0u32; NODE_ROOM];
     match read_schema(schema, &mut nodes) {
         Text::Whole(count) => with_nodes(schema, &nodes, count, rows),
         Text::Fault(_e) => SchemaAnswer::Refused(SchemaRefusal::NotText),

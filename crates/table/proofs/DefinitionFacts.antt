@@ -10,6 +10,7 @@ use lib.Dec.{eqb}
 use lib.ListN.{length}
 use borrow.Author.Tests.{ne-eqb}
 use Rattle.grammar.specs.Notation.{same}
+use Rattle.rules.specs.Kinds.{enum-kind, value-kind, struct-kind, union-kind, branch-kind, alternate-kind, command-kind}
 use Rattle.rules.proofs.TableRows.{unnamed-struct}
 use Rattle.rules.specs.Names.{goodName}
 use Rattle.rules.specs.Rows.{rowCount, kind, unnamed, nameOf}
@@ -29,7 +30,7 @@ module _ (S T : List ℕ) (r : ℕ) where
   pub unnamed-fits : unnamed T r ≡ true → true ≡ nameFits S T r
   unnamed-fits i = rw i
 
-  pub name-fits-at : (digits b : Bool) (x : List ℕ) → unnamed T r ≡ false → x ≡ nameOf S T r → digits ≡ (eqb (kind T r) 2 || eqb (kind T r) 6)
+  pub name-fits-at : (digits b : Bool) (x : List ℕ) → unnamed T r ≡ false → x ≡ nameOf S T r → digits ≡ (eqb (kind T r) value-kind || eqb (kind T r) branch-kind)
       → b ≡ goodName digits x → b ≡ nameFits S T r
   name-fits-at digits b x i p q e = rw (i, ← p, ← q) e
 
@@ -108,18 +109,18 @@ module _ (x : List ℕ) where
 
 -- kinds of definitions
 module _ (T : List ℕ) (r k : ℕ) (e : k ≡ kind T r) where
-  not-unnamed : (k ≡ 3 → ⊥) → unnamed T r ≡ false
+  not-unnamed : (k ≡ struct-kind → ⊥) → unnamed T r ≡ false
   not-unnamed n = go (unnamed T r) refl
     where
       go : (b : Bool) → unnamed T r ≡ b → b ≡ false
       go true i = absurd (n (e ∙ unnamed-struct T r i))
       go false i = refl
 
-  pub own-definition : ofDefinition k ≡ true → (k ≡ 3 → ⊥) → true ≡ isDefinition T r
+  pub own-definition : ofDefinition k ≡ true → (k ≡ struct-kind → ⊥) → true ≡ isDefinition T r
   own-definition d n = rw (not-unnamed n, ← e, d)
 
-  pub struct-definition : k ≡ 3 → not (unnamed T r) ≡ isDefinition T r
+  pub struct-definition : k ≡ struct-kind → not (unnamed T r) ≡ isDefinition T r
   struct-definition d = rw (← e, d)
 
-  pub no-definition : (k ≡ 1 → ⊥) → (k ≡ 3 → ⊥) → (k ≡ 5 → ⊥) → (k ≡ 7 → ⊥) → (k ≡ 9 → ⊥) → false ≡ isDefinition T r
-  no-definition a b c d f = rw (← e, ne-eqb k 1 a, ne-eqb k 3 b, ne-eqb k 5 c, ne-eqb k 7 d, ne-eqb k 9 f)
+  pub no-definition : (k ≡ enum-kind → ⊥) → (k ≡ struct-kind → ⊥) → (k ≡ union-kind → ⊥) → (k ≡ alternate-kind → ⊥) → (k ≡ command-kind → ⊥) → false ≡ isDefinition T r
+  no-definition a b c d f = rw (← e, ne-eqb k enum-kind a, ne-eqb k struct-kind b, ne-eqb k union-kind c, ne-eqb k alternate-kind d, ne-eqb k command-kind f)

@@ -13,6 +13,7 @@ use Rattle.grammar.specs.Limits.{first-row}
 use Rattle.grammar.specs.Notation.{all, apart}
 use Rattle.grammar.specs.Tree.{Kind}
 use Rattle.grammar.specs.Tree.Kind.{object, array, string, number, boolean, null-kind}
+use Rattle.rules.specs.Kinds.{struct-kind, union-kind, branch-kind}
 use Rattle.rules.specs.Types.{built-in-kinds, column}
 use Rattle.rules.specs.Rows.{upFrom, kind, count, typeRef, returns, walk, children, typeKind}
 use Rattle.rules.specs.Rules.{is, sameKinds, kindsOf, alternateFits, returnFits}
@@ -63,7 +64,7 @@ module _ (T : List ℕ) where
       ∙ all-same (λ r. not (sameKinds (some j) (kindOf r))) (λ r. not (eqb (columnOr6 (kindOf r)) (column j))) l (λ r. same-column j (kindOf r))
 
   module _ (r : ℕ) (l : List ℕ) {k : ℕ} (e : k ≡ columnOr6 (kindOf r)) where
-    kinds-none : k ≡ 6 → kindsFit T (r ∷ l) ≡ false
+    kinds-none : k ≡ branch-kind → kindsFit T (r ∷ l) ≡ false
     unfolding kindsFit
     kinds-none z = go (kindOf r) refl
       where
@@ -71,7 +72,7 @@ module _ (T : List ℕ) where
         go none q = rw q
         go (some j) q = let c : columnOr6 (kindOf r) ≡ column j = ap columnOr6 q in absurd (omega (arith, column-small j))
 
-    kinds-more : (k ≡ 6 → ⊥) → kindsFit T (r ∷ l) ≡ kindNew T k l && kindsFit T l
+    kinds-more : (k ≡ branch-kind → ⊥) → kindsFit T (r ∷ l) ≡ kindNew T k l && kindsFit T l
     unfolding kindsFit
     kinds-more n = go (kindOf r) refl
       where
@@ -104,10 +105,10 @@ module _ {T : List ℕ} {whole : Bool} {c n : ℕ} (l : WalkLeft (kindsFit T) T 
   kinds-end h = left-ends l h
 
   module _ (h : 0 < n) {k : ℕ} (p : k ≡ columnOr6 (typeKind T (typeRef T c))) where
-    pub kinds-fail : k ≡ 6 → false ≡ whole
+    pub kinds-fail : k ≡ branch-kind → false ≡ whole
     kinds-fail z = left-hit l h (λ rs. kinds-none T c rs p z)
 
-    module _ (m : k ≡ 6 → ⊥) {c′ : ℕ} (f : Follows T c c′) where
+    module _ (m : k ≡ branch-kind → ⊥) {c′ : ℕ} (f : Follows T c c′) where
       pub kinds-clash : kindNew T k (walk T c′ (n - 1)) ≡ false → false ≡ whole
       kinds-clash e = sym (left-at l h (f .is) ∙ kinds-more T c (walk T c′ (n - 1)) p m ∙ rw e)
 
@@ -136,5 +137,5 @@ module _ (T : List ℕ) {t : ℕ} where
     return-built-in h = rw (ne-eqb t 0 n, lt-leb 16 t h)
 
     module _ (h : 16 ≤ t) {k : ℕ} (p : k ≡ kind T (t - 16)) where
-      pub return-is : (b : Bool) → eqb k 3 || eqb k 5 ≡ b → b ≡ returnFits T t
+      pub return-is : (b : Bool) → eqb k struct-kind || eqb k union-kind ≡ b → b ≡ returnFits T t
       return-is b e = rw (ne-eqb t 0 n, le-leb 16 t h, ← p, e)

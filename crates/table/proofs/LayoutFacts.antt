@@ -13,16 +13,17 @@ use lib.ListN.{getD, List·getD-eq-default}
 use borrow.Author.Tests.{eq-eqb, ne-eqb}
 use Rattle.grammar.specs.Limits.{row-words}
 use Rattle.grammar.specs.Notation.{all}
+use Rattle.rules.specs.Kinds.{enum-kind, struct-kind, union-kind, alternate-kind, command-kind}
 use Rattle.rules.specs.Rows.{upFrom, rowCount, word, kind, owns, pastChildren}
 use Rattle.rules.specs.Rules.{isDefinition}
-use Rattle.rules.specs.Sound.{childrenFit, inlineFits, definitionAt, laidOut, lastUsed, restZero}
+use Rattle.rules.specs.Sound.{childrenFit, inlineFits, definitionAt, laidOut, wordsUsed, restZero}
 use Rattle.rules.proofs.TableRows.{past-children-above}
 use Rattle.rows.specs.Rows.{Follows}
 use Rattle.rows.proofs.Walks.{granted, denied, upTo, upTo-of}
 
 -- kinds of definitions
 abbrev pub ofDefinition : ℕ → Bool
-ofDefinition k = eqb k 1 || eqb k 3 || eqb k 5 || eqb k 7 || eqb k 9
+ofDefinition k = eqb k enum-kind || eqb k struct-kind || eqb k union-kind || eqb k alternate-kind || eqb k command-kind
 
 -- where a definition begins
 module _ (T : List ℕ) (r : ℕ) where
@@ -97,13 +98,13 @@ above : (n k : ℕ) → NoneOf n k → 0 < k → n < k
 above zero k h p = p
 above (suc n) k h p = let q : n < k = above n k (h .0) p in omega (arith, h .1)
 
-pub none-used : (k : ℕ) → NoneOf 9 k → 0 ≡ lastUsed [] k
+pub none-used : (k : ℕ) → NoneOf 9 k → 0 ≡ wordsUsed [] k
 none-used zero h = refl
 none-used (suc k) h = sym (List·getD-eq-default (0 ∷ 4 ∷ 3 ∷ 5 ∷ 6 ∷ 6 ∷ 4 ∷ 4 ∷ 4 ∷ 7 ∷ []) 0 (above 9 (suc k) h (omega arith)))
 
-pub rest-upTo : (T : List ℕ) (r k i : ℕ) → k ≡ kind T r → i ≡ lastUsed [] k → restZero T r ≡ upTo (λ j. eqb (getD T (row-words * r + j) 0) 0) i row-words
+pub rest-upTo : (T : List ℕ) (r k i : ℕ) → k ≡ kind T r → i ≡ wordsUsed [] k → restZero T r ≡ upTo (λ j. eqb (getD T (row-words * r + j) 0) 0) i row-words
 rest-upTo T r k i p q =
     rw (q, p)
-    (upTo-of (λ j. eqb (getD T (row-words * r + j) 0) 0) row-words (λ j. all (λ n. eqb (word T r n) 0) (upFrom (suc j) (row-words - j)))
-    (λ j h. let m : row-words - j ≡ suc (row-words - suc j) = omega arith in let n : suc j - 1 ≡ j = omega arith in rw (add-one, m, n))
-    (λ j h. let m : row-words - j ≡ 0 = omega arith in rw m) (lastUsed T (kind T r)))
+    (upTo-of (λ j. eqb (getD T (row-words * r + j) 0) 0) row-words (λ j. all (λ n. eqb (word T r n) 0) (upFrom j (row-words - j)))
+    (λ j h. let m : row-words - j ≡ suc (row-words - suc j) = omega arith in rw (add-one, m))
+    (λ j h. let m : row-words - j ≡ 0 = omega arith in rw m) (wordsUsed T (kind T r)))

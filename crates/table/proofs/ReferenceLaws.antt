@@ -8,6 +8,7 @@ use native.Mathlib.Omega.{arith}
 use lib.Dec.{eqb, leb}
 use borrow.Author.Tests.{lt-ltb, le-leb, lt-leb, eq-eqb, ne-eqb, eqb-true, eqb-false}
 use Rattle.grammar.proofs.Booleans.{within-is, within-above}
+use Rattle.rules.specs.Kinds.{struct-kind, member-kind, union-kind, branch-kind, alternative-kind, command-kind}
 use Rattle.rules.specs.Rows.{kind, base, typeRef, arrayMark, optional, unionBase, discriminator, branchStruct, arguments, allowOob, returns, returnsArray, unnamed, owns}
 use Rattle.rules.specs.Sound.{toStruct, toType, referencesFit}
 use Rattle.rules.proofs.TableRows.{unnamed-struct}
@@ -27,7 +28,7 @@ module _ (T : List ℕ) where
     struct-is q i = rw (lt-ltb 0 l (omega arith), ← p, eq-eqb w 3 q, i)
 
   -- types
-  not-unnamed : (r : ℕ) → (kind T r ≡ 3 → ⊥) → unnamed T r ≡ false
+  not-unnamed : (r : ℕ) → (kind T r ≡ struct-kind → ⊥) → unnamed T r ≡ false
   not-unnamed r n = decided (unnamed T r) (λ e. n (unnamed-struct T r e))
 
   pub built-in-type : {t : ℕ} → t < 16 → not (eqb t 0) ≡ toType T t
@@ -77,7 +78,7 @@ module _ (T : List ℕ) (r : ℕ) where
       unfolding unionRefers
       union-no-tag z = rw (← p, e, ← q, z)
 
-      pub union-is : (d ≡ 0 → ⊥) → {k : ℕ} → k ≡ kind T (d - 1) → eqb k 4 ≡ unionRefers T r
+      pub union-is : (d ≡ 0 → ⊥) → {k : ℕ} → k ≡ kind T (d - 1) → eqb k member-kind ≡ unionRefers T r
       unfolding unionRefers
       union-is n k = rw (← p, e, ← q, lt-ltb 0 d (omega arith), k)
 
@@ -115,30 +116,30 @@ module _ (T : List ℕ) (r : ℕ) where
 
   -- a row, by its kind
   module _ {k : ℕ} (p : k ≡ kind T r) where
-    module _ (e : k ≡ 3) {l : ℕ} (q : l ≡ base T r) where
+    module _ (e : k ≡ struct-kind) {l : ℕ} (q : l ≡ base T r) where
       pub refers-none : l ≡ 0 → true ≡ referencesFit T r
       refers-none z = rw (← p, ← q, e, z)
 
       pub refers-base : (l ≡ 0 → ⊥) → {b : Bool} → b ≡ toStruct T l → b ≡ referencesFit T r
       refers-base n f = rw (← p, ← q, e, ne-eqb l 0 n) (simp and-true f)
 
-    pub refers-member : k ≡ 4 → {b : Bool} → b ≡ memberRefers T r → b ≡ referencesFit T r
+    pub refers-member : k ≡ member-kind → {b : Bool} → b ≡ memberRefers T r → b ≡ referencesFit T r
     unfolding memberRefers
     refers-member e f = rw (← p, e) (simp and-true f)
 
-    pub refers-union : k ≡ 5 → {b : Bool} → b ≡ unionRefers T r → b ≡ referencesFit T r
+    pub refers-union : k ≡ union-kind → {b : Bool} → b ≡ unionRefers T r → b ≡ referencesFit T r
     unfolding unionRefers
     refers-union e f = rw (← p, e) (simp and-true f)
 
-    pub refers-branch : k ≡ 6 → {l : ℕ} → l ≡ branchStruct T r → {b : Bool} → b ≡ toStruct T l → b ≡ referencesFit T r
+    pub refers-branch : k ≡ branch-kind → {l : ℕ} → l ≡ branchStruct T r → {b : Bool} → b ≡ toStruct T l → b ≡ referencesFit T r
     refers-branch e q f = rw (← p, ← q, e) (simp and-true f)
 
-    pub refers-alternative : k ≡ 8 → {t : ℕ} → t ≡ typeRef T r → {b : Bool} → b ≡ toType T t → b ≡ referencesFit T r
+    pub refers-alternative : k ≡ alternative-kind → {t : ℕ} → t ≡ typeRef T r → {b : Bool} → b ≡ toType T t → b ≡ referencesFit T r
     refers-alternative e q f = rw (← p, ← q, e) (simp and-true f)
 
-    pub refers-command : k ≡ 9 → {b : Bool} → b ≡ commandRefers T r → b ≡ referencesFit T r
+    pub refers-command : k ≡ command-kind → {b : Bool} → b ≡ commandRefers T r → b ≡ referencesFit T r
     unfolding commandRefers argumentsRefer
     refers-command e f = rw (← p, e) f
 
-    pub refers-not : (k ≡ 3 → ⊥) × (k ≡ 4 → ⊥) × (k ≡ 5 → ⊥) × (k ≡ 6 → ⊥) × (k ≡ 8 → ⊥) × (k ≡ 9 → ⊥) → true ≡ referencesFit T r
-    refers-not n = rw (← p, ne-eqb k 3 (n .0), ne-eqb k 4 (n .1), ne-eqb k 5 (n .2), ne-eqb k 6 (n .3), ne-eqb k 8 (n .4), ne-eqb k 9 (n .5))
+    pub refers-not : (k ≡ struct-kind → ⊥) × (k ≡ member-kind → ⊥) × (k ≡ union-kind → ⊥) × (k ≡ branch-kind → ⊥) × (k ≡ alternative-kind → ⊥) × (k ≡ command-kind → ⊥) → true ≡ referencesFit T r
+    refers-not n = rw (← p, ne-eqb k struct-kind (n .0), ne-eqb k member-kind (n .1), ne-eqb k union-kind (n .2), ne-eqb k branch-kind (n .3), ne-eqb k alternative-kind (n .4), ne-eqb k command-kind (n .5))

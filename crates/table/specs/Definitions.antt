@@ -7,6 +7,7 @@ use lib.Dec.{eqb}
 use lib.ListN.{length}
 use Rattle.grammar.specs.Notation.{all, apart}
 use Rattle.buckets.specs.Buckets.{Free}
+use Rattle.rules.specs.Kinds.{value-kind, branch-kind}
 use Rattle.rules.specs.Types.{built-ins}
 use Rattle.rules.specs.Names.{goodName, sameName, clash}
 use Rattle.rules.specs.Rows.{upFrom, rowCount, kind, unnamed, children, nameOf}
@@ -15,7 +16,7 @@ use Rattle.rows.specs.Index.{itself, RowIndex, freshIn}
 
 -- row r is an inline struct or has a good name
 abbrev pub nameFits : List ℕ → List ℕ → ℕ → Bool
-nameFits S T r = unnamed T r || goodName (eqb (kind T r) 2 || eqb (kind T r) 6) (nameOf S T r)
+nameFits S T r = unnamed T r || goodName (eqb (kind T r) value-kind || eqb (kind T r) branch-kind) (nameOf S T r)
 
 -- the place of a name in a list whose first name has the number n; 0 if it is not there
 unfoldable pub placeFrom : ℕ → List (List ℕ) → List ℕ → ℕ

@@ -9,6 +9,7 @@ use Rattle.grammar.specs.Limits.{chain-structs, first-row}
 use Rattle.grammar.specs.Notation.{all, apart}
 use Rattle.grammar.specs.Tree.{Kind}
 use Rattle.grammar.specs.Tree.Kind.{object, string}
+use Rattle.rules.specs.Kinds.{enum-kind, struct-kind, member-kind, union-kind}
 use Rattle.rules.specs.Types.{column}
 use Rattle.rules.specs.Rows.{rowCount, kind, start, size, isEnum, typeRef, arrayMark, optional, unionBase, discriminator, branchStruct}
 use Rattle.rules.specs.Rows.{arguments, allowOob, returns, returnsArray, owns, typeKind, nameOf}
@@ -23,7 +24,7 @@ columnOr6 (some k) = column k
 
 -- the column of a type of that row kind
 abbrev pub rowColumn : ℕ → ℕ
-rowColumn k = columnOr6 (cond (eqb k 1) (some string) (cond (eqb k 3 || eqb k 5) (some object) none))
+rowColumn k = columnOr6 (cond (eqb k enum-kind) (some string) (cond (eqb k struct-kind || eqb k union-kind) (some object) none))
 
 module _ (T : List ℕ) where
   -- what a member, a union and a command refer to
@@ -31,7 +32,7 @@ module _ (T : List ℕ) where
   memberRefers r = toType T (typeRef T r) && isFlag T (arrayMark T r) && isFlag T (optional T r)
 
   unfoldable pub unionRefers : ℕ → Bool
-  unionRefers r = (owns T r || toStruct T (unionBase T r)) && ltb 0 (discriminator T r) && eqb (kind T (discriminator T r - 1)) 4
+  unionRefers r = (owns T r || toStruct T (unionBase T r)) && ltb 0 (discriminator T r) && eqb (kind T (discriminator T r - 1)) member-kind
 
   unfoldable pub argumentsRefer : ℕ → Bool
   argumentsRefer r = eqb (arguments T r) 0 || owns T r || toStruct T (arguments T r)

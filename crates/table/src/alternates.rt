@@ -6,6 +6,8 @@ use rows::rows::wide;
 use rows::rows::word;
 use rules::FIRST_ROW;
 use rules::ROW_WORDS;
+use rules::kind;
+use rules::row;
 ghost use mathlib.Core.Path.{_≡_};
 ghost use Prim.Native.Nat.{_<_, _^_};
 ghost use lib.ListN.{length};
@@ -25,7 +27,7 @@ pub fn type_kind(rows: &[u32], t: usize) -> u32
         13 => 4,
         14 => 5,
         15 => 6,
-        _ => row_kind(word(rows, t - FIRST_ROW, 0)),
+        _ => row_kind(word(rows, t - FIRST_ROW, row::KIND)),
     }
 }
 
@@ -34,9 +36,9 @@ fn row_kind(k: u32) -> u32
     ensures { λ c. ⌜ c ≡ rowColumn k ⌝ }
 {
     match k {
-        1 => 2,
-        3 => 0,
-        5 => 0,
+        kind::ENUM => 2,
+        kind::STRUCT => 0,
+        kind::UNION => 0,
         _ => 6,
     }
 }
@@ -49,7 +51,7 @@ fn kind_is_new(rows: &[u32], k: u32, b: usize, n: usize) -> bool
     let mut i = b;
     let mut left = n;
     while 0 < left {
-        if type_kind(rows, wide(word(rows, i, 3))) == k {
+        if type_kind(rows, wide(word(rows, i, row::TYPE_REF))) == k {
             return false;
         }
         i = next_row(rows, i);
@@ -66,7 +68,7 @@ fn kinds_apart(rows: &[u32], a: usize, n: usize) -> bool
     let mut i = a;
     let mut left = n;
     while 0 < left {
-        let k = type_kind(rows, wide(word(rows, i, 3)));
+        let k = type_kind(rows, wide(word(rows, i, row::TYPE_REF)));
         if k == 6 {
             return false;
         }
@@ -84,7 +86,7 @@ fn alternate_fits(rows: &[u32], r: usize) -> bool
     requires { ⌜ r < 2 ^ 38 ⌝ }
     ensures { λ b. ⌜ b ≡ alternateFits (now (rows .entry)) r ⌝ }
 {
-    if word(rows, r, 3) == 0 {
+    if word(rows, r, row::COUNT) == 0 {
         return false;
     }
     kinds_apart(rows, first_child(rows, r), child_count(rows, r))
@@ -97,7 +99,7 @@ pub fn good_alternates(rows: &[u32]) -> bool
     let n = rows.len() / ROW_WORDS;
     let mut r = 0;
     while r < n {
-        if word(rows, r, 0) == 7 {
+        if word(rows, r, row::KIND) == kind::ALTERNATE {
             if !alternate_fits(rows, r) {
                 return false;
             }

@@ -8,6 +8,8 @@ use rows::rows::wide;
 use rows::rows::word;
 use rules::CHAIN_STRUCTS;
 use rules::ROW_WORDS;
+use rules::kind;
+use rules::row;
 ghost use mathlib.Core.Path.{_≡_};
 ghost use Prim.Native.Nat.{_<_, _^_};
 ghost use lib.Dec.{eqb};
@@ -30,7 +32,7 @@ pub fn chain_ends(rows: &[u32], link: usize, left: usize) -> bool
     if left == 0 {
         return false;
     }
-    chain_ends(rows, wide(word(rows, link - 1, 4)), left - 1)
+    chain_ends(rows, wide(word(rows, link - 1, row::BASE)), left - 1)
 }
 
 // Whether row r has a child with the name of row c.
@@ -89,7 +91,7 @@ pub fn is_member(rows: &[u32], link: usize, left: usize, m: usize) -> bool
         return false;
     }
     let s = link - 1;
-    if is_member(rows, wide(word(rows, s, 4)), left - 1, m) {
+    if is_member(rows, wide(word(rows, s, row::BASE)), left - 1, m) {
         return true;
     }
     is_child(rows, s, m)
@@ -114,7 +116,14 @@ pub fn children_new(
         return true;
     }
     let s = other - 1;
-    if !children_new(schema, rows, marks, r, wide(word(rows, s, 4)), left - 1) {
+    if !children_new(
+        schema,
+        rows,
+        marks,
+        r,
+        wide(word(rows, s, row::BASE)),
+        left - 1,
+    ) {
         return false;
     }
     lists_apart(schema, rows, marks, r, s)
@@ -139,7 +148,14 @@ pub fn members_new(
         return true;
     }
     let s = link - 1;
-    if !members_new(schema, rows, marks, wide(word(rows, s, 4)), left - 1, other) {
+    if !members_new(
+        schema,
+        rows,
+        marks,
+        wide(word(rows, s, row::BASE)),
+        left - 1,
+        other,
+    ) {
         return false;
     }
     children_new(schema, rows, marks, s, other, CHAIN_STRUCTS)
@@ -150,7 +166,7 @@ fn chain_fits(schema: &[u8], rows: &[u32], marks: &[u32], r: usize) -> bool
     requires { ⌜ (r < 2 ^ 39) × Marks (now schema) (now rows) (now marks) ⌝ }
     ensures { λ b. ⌜ b ≡ chainFits (now (schema .entry)) (now (rows .entry)) r ⌝ }
 {
-    let base = wide(word(rows, r, 4));
+    let base = wide(word(rows, r, row::BASE));
     if !chain_ends(rows, base, BASE_STRUCTS) {
         return false;
     }
@@ -164,7 +180,7 @@ pub fn good_chains(schema: &[u8], rows: &[u32], marks: &[u32]) -> bool
     let n = rows.len() / ROW_WORDS;
     let mut r = 0;
     while r < n {
-        if word(rows, r, 0) == 3 {
+        if word(rows, r, row::KIND) == kind::STRUCT {
             if !chain_fits(schema, rows, marks, r) {
                 return false;
             }

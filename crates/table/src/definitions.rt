@@ -12,6 +12,8 @@ use rows::rows::first_child;
 use rows::rows::is_unnamed;
 use rows::rows::word;
 use rules::ROW_WORDS;
+use rules::kind;
+use rules::row;
 use strings::classes::class_table;
 ghost use mathlib.Core.Path.{_≡_};
 ghost use Prim.Native.Nat.{_*_, _≤_, _<_, _^_};
@@ -88,8 +90,8 @@ fn takes_digit(k: u32) -> bool
     ensures { λ b. ⌜ b ≡ (eqb k 2 || eqb k 6) ⌝ }
 {
     match k {
-        2 => true,
-        6 => true,
+        kind::VALUE => true,
+        kind::BRANCH => true,
         _ => false,
     }
 }
@@ -105,7 +107,7 @@ fn name_fits(schema: &[u8], rows: &[u32], classes: &[u8; 256], r: usize) -> bool
     good_name(
         name_of(schema, rows, r),
         classes,
-        takes_digit(word(rows, r, 0)),
+        takes_digit(word(rows, r, row::KIND)),
     )
 }
 
@@ -114,13 +116,13 @@ pub fn is_definition(rows: &[u32], r: usize) -> bool
     requires { ⌜ r < 2 ^ 39 ⌝ }
     ensures { λ b. ⌜ b ≡ isDefinition (now (rows .entry)) r ⌝ }
 {
-    let k = word(rows, r, 0);
+    let k = word(rows, r, row::KIND);
     match k {
-        1 => true,
-        3 => !is_unnamed(rows, r),
-        5 => true,
-        7 => true,
-        9 => true,
+        kind::ENUM => true,
+        kind::STRUCT => !is_unnamed(rows, r),
+        kind::UNION => true,
+        kind::ALTERNATE => true,
+        kind::COMMAND => true,
         _ => false,
     }
 }

@@ -8,23 +8,25 @@ use rows::rows::past_children;
 use rows::rows::wide;
 use rows::rows::word;
 use rules::ROW_WORDS;
+use rules::kind;
+use rules::row;
 ghost use mathlib.Core.Path.{_≡_};
 ghost use Prim.Native.Nat.{_+_, _<_, _^_};
 ghost use lib.ListN.{length};
 ghost use mathlib.Core.List.{[]};
 ghost use Rattle.rules.specs.Rows.{rowCount};
-ghost use Rattle.rules.specs.Sound.{childrenFit, inlineFits, definitionAt, laidOut, lastUsed, restZero};
+ghost use Rattle.rules.specs.Sound.{childrenFit, inlineFits, definitionAt, laidOut, wordsUsed, restZero};
 
 // Whether every child of row r is of the kind after r's.
 fn children_fit(rows: &[u32], r: usize) -> bool
     requires { ⌜ r < 2 ^ 61 + 2 ^ 34 ⌝ }
     ensures { λ b. ⌜ b ≡ childrenFit (now (rows .entry)) r ⌝ }
 {
-    let k = wide(word(rows, r, 0)) + 1;
+    let k = wide(word(rows, r, row::KIND)) + 1;
     let mut c = first_child(rows, r);
     let mut left = child_count(rows, r);
     while 0 < left {
-        if wide(word(rows, c, 0)) != k {
+        if wide(word(rows, c, row::KIND)) != k {
             return false;
         }
         c = next_row(rows, c);
@@ -74,20 +76,39 @@ pub fn is_laid_out(rows: &[u32]) -> bool
     r == n
 }
 
-// The last word that a kind uses, counted from 1.
-fn last_used(k: u32) -> usize
-    ensures { λ n. ⌜ n ≡ lastUsed [] k ⌝ }
+// The words that each kind uses: up to its last one.
+const ENUM_WORDS: usize = row::COUNT + 1;
+
+const VALUE_WORDS: usize = row::SIZE + 1;
+
+const STRUCT_WORDS: usize = row::BASE + 1;
+
+const MEMBER_WORDS: usize = row::OPTIONAL + 1;
+
+const UNION_WORDS: usize = row::DISCRIMINATOR + 1;
+
+const BRANCH_WORDS: usize = row::BRANCH_STRUCT + 1;
+
+const ALTERNATE_WORDS: usize = row::COUNT + 1;
+
+const ALTERNATIVE_WORDS: usize = row::TYPE_REF + 1;
+
+const COMMAND_WORDS: usize = row::RETURNS_ARRAY + 1;
+
+// How many words a kind uses.
+fn words_used(k: u32) -> usize
+    ensures { λ n. ⌜ n ≡ wordsUsed [] k ⌝ }
 {
     match k {
-        1 => 4,
-        2 => 3,
-        3 => 5,
-        4 => 6,
-        5 => 6,
-        6 => 4,
-        7 => 4,
-        8 => 4,
-        9 => 7,
+        kind::ENUM => ENUM_WORDS,
+        kind::VALUE => VALUE_WORDS,
+        kind::STRUCT => STRUCT_WORDS,
+        kind::MEMBER => MEMBER_WORDS,
+        kind::UNION => UNION_WORDS,
+        kind::BRANCH => BRANCH_WORDS,
+        kind::ALTERNATE => ALTERNATE_WORDS,
+        kind::ALTERNATIVE => ALTERNATIVE_WORDS,
+        kind::COMMAND => COMMAND_WORDS,
         _ => 0,
     }
 }
@@ -96,7 +117,7 @@ fn last_used(k: u32) -> usize
 pub fn rest_zero(rows: &[u32], r: usize) -> bool
     ensures { λ b. ⌜ b ≡ restZero (now (rows .entry)) r ⌝ }
 {
-    let mut i = last_used(word(rows, r, 0));
+    let mut i = words_used(word(rows, r, row::KIND));
     while i < ROW_WORDS {
         if word(rows, r, i) != 0 {
             return false;

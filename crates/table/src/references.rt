@@ -4,6 +4,8 @@ use rows::rows::owns_struct;
 use rows::rows::wide;
 use rows::rows::word;
 use rules::FIRST_ROW;
+use rules::kind;
+use rules::row;
 ghost use mathlib.Core.Path.{_≡_};
 ghost use mathlib.Core.Bool.{_||_};
 ghost use Prim.Native.Nat.{_<_, _^_};
@@ -19,7 +21,7 @@ pub fn to_struct(rows: &[u32], link: usize) -> bool
     if link == 0 {
         return false;
     }
-    if word(rows, link - 1, 0) != 3 {
+    if word(rows, link - 1, row::KIND) != kind::STRUCT {
         return false;
     }
     !is_unnamed(rows, link - 1)
@@ -44,12 +46,12 @@ pub fn to_type(rows: &[u32], t: usize) -> bool
     if t < FIRST_ROW {
         return t != 0;
     }
-    let k = word(rows, t - FIRST_ROW, 0);
+    let k = word(rows, t - FIRST_ROW, row::KIND);
     match k {
-        1 => true,
-        3 => !is_unnamed(rows, t - FIRST_ROW),
-        5 => true,
-        7 => true,
+        kind::ENUM => true,
+        kind::STRUCT => !is_unnamed(rows, t - FIRST_ROW),
+        kind::UNION => true,
+        kind::ALTERNATE => true,
         _ => false,
     }
 }
@@ -57,27 +59,27 @@ pub fn to_type(rows: &[u32], t: usize) -> bool
 fn member_fits(rows: &[u32], r: usize) -> bool
     ensures { λ b. ⌜ b ≡ memberRefers (now (rows .entry)) r ⌝ }
 {
-    if !to_type(rows, wide(word(rows, r, 3))) {
+    if !to_type(rows, wide(word(rows, r, row::TYPE_REF))) {
         return false;
     }
-    if 1 < word(rows, r, 4) {
+    if 1 < word(rows, r, row::ARRAY_MARK) {
         return false;
     }
-    word(rows, r, 5) <= 1
+    word(rows, r, row::OPTIONAL) <= 1
 }
 
 fn union_fits(rows: &[u32], r: usize) -> bool
     requires { ⌜ r < 2 ^ 38 ⌝ }
     ensures { λ b. ⌜ b ≡ unionRefers (now (rows .entry)) r ⌝ }
 {
-    if !to_own_or_struct(rows, r, wide(word(rows, r, 3))) {
+    if !to_own_or_struct(rows, r, wide(word(rows, r, row::UNION_BASE))) {
         return false;
     }
-    let d = wide(word(rows, r, 5));
+    let d = wide(word(rows, r, row::DISCRIMINATOR));
     if d == 0 {
         return false;
     }
-    word(rows, d - 1, 0) == 4
+    word(rows, d - 1, row::KIND) == kind::MEMBER
 }
 
 // The argument link of command r.
@@ -85,7 +87,7 @@ fn arguments_fit(rows: &[u32], r: usize) -> bool
     requires { ⌜ r < 2 ^ 38 ⌝ }
     ensures { λ b. ⌜ b ≡ argumentsRefer (now (rows .entry)) r ⌝ }
 {
-    let link = wide(word(rows, r, 3));
+    let link = wide(word(rows, r, row::ARGUMENTS));
     if link == 0 {
         return true;
     }
@@ -99,11 +101,11 @@ fn command_fits(rows: &[u32], r: usize) -> bool
     if !arguments_fit(rows, r) {
         return false;
     }
-    if 1 < word(rows, r, 4) {
+    if 1 < word(rows, r, row::ALLOW_OOB) {
         return false;
     }
-    let t = wide(word(rows, r, 5));
-    let array = word(rows, r, 6);
+    let t = wide(word(rows, r, row::RETURNS));
+    let array = word(rows, r, row::RETURNS_ARRAY);
     if t == 0 {
         return array == 0;
     }
@@ -118,20 +120,20 @@ pub fn references_fit(rows: &[u32], r: usize) -> bool
     requires { ⌜ r < 2 ^ 38 ⌝ }
     ensures { λ b. ⌜ b ≡ referencesFit (now (rows .entry)) r ⌝ }
 {
-    let k = word(rows, r, 0);
+    let k = word(rows, r, row::KIND);
     match k {
-        3 => {
-            let link = wide(word(rows, r, 4));
+        kind::STRUCT => {
+            let link = wide(word(rows, r, row::BASE));
             if link == 0 {
                 return true;
             }
             to_struct(rows, link)
         }
-        4 => member_fits(rows, r),
-        5 => union_fits(rows, r),
-        6 => to_struct(rows, wide(word(rows, r, 3))),
-        8 => to_type(rows, wide(word(rows, r, 3))),
-        9 => command_fits(rows, r),
+        kind::MEMBER => member_fits(rows, r),
+        kind::UNION => union_fits(rows, r),
+        kind::BRANCH => to_struct(rows, wide(word(rows, r, row::BRANCH_STRUCT))),
+        kind::ALTERNATIVE => to_type(rows, wide(word(rows, r, row::TYPE_REF))),
+        kind::COMMAND => command_fits(rows, r),
         _ => true,
     }
 }

@@ -3,6 +3,8 @@ use rows::rows::wide;
 use rows::rows::word;
 use rules::FIRST_ROW;
 use rules::ROW_WORDS;
+use rules::kind;
+use rules::row;
 ghost use mathlib.Core.Path.{_≡_};
 ghost use Prim.Native.Nat.{_<_, _^_};
 ghost use lib.ListN.{length};
@@ -17,10 +19,10 @@ fn return_fits(rows: &[u32], t: usize) -> bool
     if t < FIRST_ROW {
         return false;
     }
-    let k = word(rows, t - FIRST_ROW, 0);
+    let k = word(rows, t - FIRST_ROW, row::KIND);
     match k {
-        3 => true,
-        5 => true,
+        kind::STRUCT => true,
+        kind::UNION => true,
         _ => false,
     }
 }
@@ -32,8 +34,8 @@ pub fn good_returns(rows: &[u32]) -> bool
     let n = rows.len() / ROW_WORDS;
     let mut r = 0;
     while r < n {
-        if word(rows, r, 0) == 9 {
-            if !return_fits(rows, wide(word(rows, r, 5))) {
+        if word(rows, r, row::KIND) == kind::COMMAND {
+            if !return_fits(rows, wide(word(rows, r, row::RETURNS))) {
                 return false;
             }
         }

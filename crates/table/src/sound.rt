@@ -14,6 +14,7 @@ use rows::rows::word;
 use rules::ROW_WORDS;
 use rules::SCHEMA_BYTES;
 use rules::TABLE_ROWS;
+use rules::row;
 ghost use mathlib.Core.Path.{_≡_};
 ghost use Prim.Native.Nat.{_*_, _≤_, _<_, _^_};
 ghost use lib.ListN.{length};
@@ -32,7 +33,7 @@ fn names_within(schema: &[u8], rows: &[u32]) -> bool
     let n = rows.len() / ROW_WORDS;
     let mut r = 0;
     while r < n {
-        if schema.len() < wide(word(rows, r, 1)) + wide(word(rows, r, 2)) {
+        if schema.len() < wide(word(rows, r, row::START)) + wide(word(rows, r, row::SIZE)) {
             return false;
         }
         r += 1;

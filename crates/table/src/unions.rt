@@ -11,6 +11,8 @@ use rows::rows::word;
 use rules::CHAIN_STRUCTS;
 use rules::FIRST_ROW;
 use rules::ROW_WORDS;
+use rules::kind;
+use rules::row;
 ghost use mathlib.Core.Path.{_≡_};
 ghost use Prim.Native.Nat.{_<_, _^_};
 ghost use lib.ListN.{length};
@@ -24,28 +26,33 @@ ghost use Rattle.table.specs.RuleParts.{isTag, tagFits, branchNew};
 fn is_tag(rows: &[u32], d: usize) -> bool
     ensures { λ b. ⌜ b ≡ isTag (now (rows .entry)) d ⌝ }
 {
-    if word(rows, d, 5) != 0 {
+    if word(rows, d, row::OPTIONAL) != 0 {
         return false;
     }
-    if word(rows, d, 4) != 0 {
+    if word(rows, d, row::ARRAY_MARK) != 0 {
         return false;
     }
-    let t = wide(word(rows, d, 3));
+    let t = wide(word(rows, d, row::TYPE_REF));
     if t < FIRST_ROW {
         return false;
     }
-    word(rows, t - FIRST_ROW, 0) == 1
+    word(rows, t - FIRST_ROW, row::KIND) == kind::ENUM
 }
 
 // Whether the discriminator of union r fits: a tag that is a member of the base.
 fn discriminator_fits(rows: &[u32], r: usize) -> bool
     ensures { λ b. ⌜ b ≡ tagFits (now (rows .entry)) r ⌝ }
 {
-    let link = wide(word(rows, r, 5));
+    let link = wide(word(rows, r, row::DISCRIMINATOR));
     if link == 0 {
         return false;
     }
-    if !is_member(rows, wide(word(rows, r, 3)), CHAIN_STRUCTS, link - 1) {
+    if !is_member(
+        rows,
+        wide(word(rows, r, row::UNION_BASE)),
+        CHAIN_STRUCTS,
+        link - 1,
+    ) {
         return false;
     }
     is_tag(rows, link - 1)
@@ -59,7 +66,7 @@ fn branch_fits(schema: &[u8], rows: &[u32], marks: &[u32], b: usize, e: usize, b
     if !has_child(schema, rows, marks, e, b) {
         return false;
     }
-    let link = wide(word(rows, b, 3));
+    let link = wide(word(rows, b, row::BRANCH_STRUCT));
     if !chain_ends(rows, link, CHAIN_STRUCTS) {
         return false;
     }
@@ -87,18 +94,18 @@ fn union_is_good(schema: &[u8], rows: &[u32], marks: &[u32], r: usize) -> bool
     requires { ⌜ (r < 2 ^ 38) × Marks (now schema) (now rows) (now marks) ⌝ }
     ensures { λ b. ⌜ b ≡ unionFits (now (schema .entry)) (now (rows .entry)) r ⌝ }
 {
-    if word(rows, r, 4) == 0 {
+    if word(rows, r, row::BRANCH_COUNT) == 0 {
         return false;
     }
-    let base = wide(word(rows, r, 3));
+    let base = wide(word(rows, r, row::UNION_BASE));
     if !chain_ends(rows, base, CHAIN_STRUCTS) {
         return false;
     }
     if !discriminator_fits(rows, r) {
         return false;
     }
-    let tag = wide(word(rows, r, 5)) - 1;
-    let e = wide(word(rows, tag, 3)) - FIRST_ROW;
+    let tag = wide(word(rows, r, row::DISCRIMINATOR)) - 1;
+    let e = wide(word(rows, tag, row::TYPE_REF)) - FIRST_ROW;
     branches_fit(schema, rows, marks, r, e, base)
 }
 
@@ -109,7 +116,7 @@ pub fn good_unions(schema: &[u8], rows: &[u32], marks: &[u32]) -> bool
     let n = rows.len() / ROW_WORDS;
     let mut r = 0;
     while r < n {
-        if word(rows, r, 0) == 5 {
+        if word(rows, r, row::KIND) == kind::UNION {
             if !union_is_good(schema, rows, marks, r) {
                 return false;
             }

@@ -10,8 +10,9 @@ use Rattle.grammar.specs.Tree.{Json, Json.arr, Items, Items.no-items, Items.ite
 use Rattle.grammar.specs.Machine.{Dialect, Stack, Stack.in-array, Out, depth, reverseItems}
 use Rattle.grammar.specs.Machine.Control.{AtValue, AtElement, After}
 use Rattle.grammar.proofs.TokenRuns.{TokensComplete}
+use Rattle.tokens.specs.NodeKinds.{array-node}
 use Rattle.tokens.specs.Tokens.{Skips.after-value, Skips.at-element, Skipped, Follows}
-use Rattle.text.specs.Nodes.{putNode, next, Holds, HoldsItems}
+use Rattle.text.specs.Nodes.{node-words, putNode, next, Holds, HoldsItems}
 use Rattle.text.specs.Readers.{Wrote, ValueEnds, ValueTold, ReadsValue, Opens}
 use Rattle.text.specs.declared.reader.Read.{Read}
 use Rattle.text.specs.declared.reader.Read.the-variants.{Past, Fault, Deep}
@@ -37,7 +38,7 @@ module _ (D : Dialect) (s : List ℕ) where
       f w′ (λ y c d. q y c (omega arith) ∙ r .below y d) (item v gs) x (omega arith, j, subst (λ (u : ℕ). HoldsItems D s w′ gs left u x) (sym z) b)
 
   -- the array's own node, written last
-  array-held : (w : List ℕ) (js : Items) (left k at e n : ℕ) → k < n → Put w k 8 at e n → HoldsItems D s w js left (suc k) n → Holds D s w (arr at e js) (suc left) k
+  array-held : (w : List ℕ) (js : Items) (left k at e n : ℕ) → k < n → Put w k array-node at e n → HoldsItems D s w js left (suc k) n → Holds D s w (arr at e js) (suc left) k
   array-held w js left k at e n h p f =
       let l : left ≡ suc left - 1 = omega arith in
       let g : HoldsItems D s w js left (suc k) (next w k) = subst (λ (u : ℕ). HoldsItems D s w js left (suc k) u) (sym (p .goes)) f in
@@ -49,7 +50,7 @@ pub record ItemsAt (D : Dialect) (s old w : List ℕ) (at k left i n : ℕ) : Ty
   pub reached : Reached s old w at k i n 1
   pub items : Items
   pub runs : (lim : ℕ) (K : Stack) → depth K + suc left ≡ lim → Runs D s lim AtValue K at AtValue (in-array at items K) i
-  pub held : 4 * n ≤ length w → HeldItems D s w items left (suc k) n
+  pub held : node-words * n ≤ length w → HeldItems D s w items left (suc k) n
 
 -- at place e, after a value
 pub record ItemsPast (D : Dialect) (s old w : List ℕ) (at k left e n : ℕ) : Type 0 where
@@ -58,16 +59,16 @@ pub record ItemsPast (D : Dialect) (s old w : List ℕ) (at k left e n : ℕ) : 
   pub items : Items
   pub tree : Json
   pub runs : (lim : ℕ) (K : Stack) → depth K + suc left ≡ lim → Runs D s lim AtValue K at (After tree) (in-array at items K) e
-  pub held : 4 * n ≤ length w → HeldItems D s w (item tree items) left (suc k) n
+  pub held : node-words * n ≤ length w → HeldItems D s w (item tree items) left (suc k) n
 
 module _ {D : Dialect} (L : TokensComplete D) {s : List ℕ} {at k first : ℕ} (o : Opens s at k (code "[")) (x : Skipped D s (at + 1) first) where
   array-begins : {lim : ℕ} {K : Stack} → depth K < lim → Runs D s lim AtValue K at (AtElement at) K first
   array-begins d = then (array-opens L (o .here) d (o .byte)) (blanks at-element x)
 
-  pub items-none : {w put : List ℕ} {left : ℕ} → (first < length s) × (getD s first 0 ≡ code "]") → put ≡ putNode w k 8 at (first + 1) (k + 1)
+  pub items-none : {w put : List ℕ} {left : ℕ} → (first < length s) × (getD s first 0 ≡ code "]") → put ≡ putNode w k array-node at (first + 1) (k + 1)
       → ReadsValue D s w put at k (suc left) (Past (first + 1) (k + 1))
   items-none {w} {left = left} y q =
-      let new : List ℕ = putNode w k 8 at (first + 1) (k + 1) in
+      let new : List ℕ = putNode w k array-node at (first + 1) (k + 1) in
       let r : Reached s w w at k (first + 1) (k + 1) 1 = reached-past (reached-first o x) (omega arith) (omega arith) (omega arith) in
       subst (λ (u : List ℕ). ReadsValue D s w u at k (suc left) (Past (first + 1) (k + 1))) (sym q)
       record {
@@ -132,17 +133,17 @@ module _ {D : Dialect} {s old w : List ℕ} {at k left i n : ℕ} where
               held = a .held;
             }
 
-    pub items-close : {put : List ℕ} → r ≡ Follow.Close p → put ≡ putNode w k 8 at p n → ReadsValue D s old put at k (suc left) (Past p n)
+    pub items-close : {put : List ℕ} → r ≡ Follow.Close p → put ≡ putNode w k array-node at p n → ReadsValue D s old put at k (suc left) (Past p n)
     items-close g q =
         subst (λ (u : List ℕ). ReadsValue D s old u at k (suc left) (Past p n)) (sym q)
-        (at-close f g (λ p. ReadsValue D s old (putNode w k 8 at p n) at k (suc left) (Past p n)) go)
+        (at-close f g (λ p. ReadsValue D s old (putNode w k array-node at p n) at k (suc left) (Past p n)) go)
       where
         js : Items
         js = reverseItems (a .items) (item (a .tree) no-items)
 
-        go : (e : ℕ) → Skipped D s i e → e < length s → getD s e 0 ≡ code "]" → ReadsValue D s old (putNode w k 8 at (e + 1) n) at k (suc left) (Past (e + 1) n)
+        go : (e : ℕ) → Skipped D s i e → e < length s → getD s e 0 ≡ code "]" → ReadsValue D s old (putNode w k array-node at (e + 1) n) at k (suc left) (Past (e + 1) n)
         go e x h z =
-            let new : List ℕ = putNode w k 8 at (e + 1) n in
+            let new : List ℕ = putNode w k array-node at (e + 1) n in
             let u = put-wrote w k 8 at (e + 1) n in
             let r : Reached s old w at k (e + 1) n 1 = reached-past (a .reached) (omega arith) (omega arith) (omega arith) in
             record {

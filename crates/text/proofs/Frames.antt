@@ -15,7 +15,7 @@ use Rattle.grammar.specs.Tree.Items.{no-items, item}
 use Rattle.grammar.specs.Tree.Fields.{no-fields, field}
 use Rattle.grammar.specs.Machine.{Dialect}
 use Rattle.grammar.proofs.Booleans.{by}
-use Rattle.text.specs.Nodes.{node, putNode, Node, next, Holds, HoldsItems, HoldsFields}
+use Rattle.text.specs.Nodes.{node-words, node, putNode, Node, next, Holds, HoldsItems, HoldsFields}
 use Rattle.text.specs.Readers.{Wrote}
 
 -- words stored one after the other
@@ -47,31 +47,31 @@ module _ (w : List ℕ) (k kind start end n : ℕ) where
   pub put-wrote : Wrote w (putNode w k kind start end n) k (suc k)
   unfolding putNode words
   put-wrote =
-      by (λ x. Wrote w x k (suc k)) (leb (4 * k + 4) (length w))
+      by (λ x. Wrote w x k (suc k)) (leb (node-words * k + 4) (length w))
       (λ _. record {
-        same-length = length-sets w (4 * k) words;
-        below = λ x h. sets-below words w (4 * k) x h;
-        above = λ x h. sets-above words w (4 * k) x (omega arith);
+        same-length = length-sets w (node-words * k) words;
+        below = λ x h. sets-below words w (node-words * k) x h;
+        above = λ x h. sets-above words w (node-words * k) x (omega arith);
       })
       (λ _. record { same-length = refl; below = λ x h. refl; above = λ x h. refl })
 
-  pub put-there : 4 * k + 4 ≤ length w → Put (putNode w k kind start end n) k kind start end n
+  pub put-there : node-words * k + 4 ≤ length w → Put (putNode w k kind start end n) k kind start end n
   unfolding putNode words
   put-there h =
-      rw (le-leb (4 * k + 4) (length w) h)
+      rw (le-leb (node-words * k + 4) (length w) h)
       record {
         is =
             record {
-              has-kind = sets-inside words w (4 * k) 0 (omega arith) h;
-              has-start = sets-inside words w (4 * k) 1 (omega arith) h;
-              has-end = sets-inside words w (4 * k) 2 (omega arith) h;
+              has-kind = sets-inside words w (node-words * k) 0 (omega arith) h;
+              has-start = sets-inside words w (node-words * k) 1 (omega arith) h;
+              has-end = sets-inside words w (node-words * k) 2 (omega arith) h;
             };
-        goes = sets-inside words w (4 * k) 3 (omega arith) h;
+        goes = sets-inside words w (node-words * k) 3 (omega arith) h;
       }
 
 -- two lists of words that agree from node a up to node b
 abbrev pub Agree : List ℕ → List ℕ → ℕ → ℕ → Type 0
-Agree w w′ a b = (x : ℕ) → 4 * a ≤ x → x < 4 * b → getD w′ x 0 ≡ getD w x 0
+Agree w w′ a b = (x : ℕ) → node-words * a ≤ x → x < node-words * b → getD w′ x 0 ≡ getD w x 0
 
 module _ (D : Dialect) (s w : List ℕ) where
   pub goes-on : (j : Json) (l k : ℕ) → Holds D s w j l k → k < next w k
@@ -89,7 +89,7 @@ module _ (D : Dialect) (s w : List ℕ) where
 
   module _ (w′ : List ℕ) where
     pub word-same : (k n i : ℕ) → k < n → i < 4 → Agree w w′ k n → node w′ k i ≡ node w k i
-    word-same k n i h g q = q (4 * k + i) (omega arith) (omega arith)
+    word-same k n i h g q = q (node-words * k + i) (omega arith) (omega arith)
 
     pub node-same : (k n kind a e : ℕ) → k < n → Agree w w′ k n → Node w k kind a e → Node w′ k kind a e
     node-same k n kind a e h q x =

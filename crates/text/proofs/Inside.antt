@@ -10,7 +10,7 @@ use lib.ListN.{length, getD}
 use denote.Enum.Declared.{tagOf, declared}
 use Rattle.grammar.specs.Machine.{Dialect}
 use Rattle.tokens.specs.Tokens.{Skipped, FollowingTold, Follows}
-use Rattle.text.specs.Nodes.{putNode}
+use Rattle.text.specs.Nodes.{node-words, putNode}
 use Rattle.text.specs.Readers.{Wrote, Moved, ValueRead, ValueTold, ReadsValue, MemberRead, MemberTold, ReadsMember, Ready, Opens}
 use Rattle.text.specs.declared.reader.Read.{Read}
 use Rattle.text.specs.declared.reader.Read.the-variants.{Past}
@@ -102,7 +102,7 @@ module _ {s old w : List ℕ} {at k i n : ℕ} where
   pub reached-moved : (kind : ℕ) → Reached s old w at k i n 1 → Moved s old (putNode w k kind at i n) at k i n
   reached-moved kind a = record { on = a .on; within = a .within; nodes = a .nodes; few = omega arith; wrote = wrote-put kind at i (a .nodes) (a .wrote) }
 
-  pub reached-put : {slack : ℕ} (kind : ℕ) → Reached s old w at k i n slack → 4 * n ≤ length (putNode w k kind at i n) → Put (putNode w k kind at i n) k kind at i n
+  pub reached-put : {slack : ℕ} (kind : ℕ) → Reached s old w at k i n slack → node-words * n ≤ length (putNode w k kind at i n) → Put (putNode w k kind at i n) k kind at i n
   reached-put kind a h = put-there w k kind at i n (omega (arith, put-wrote w k kind at i n .same-length, a .nodes))
 
   pub reached-ready : {b : ℕ} → Opens s at k b → Reached s old w at k i n 1 → Ready s i n

@@ -13,11 +13,12 @@ use Rattle.buckets.specs.Buckets.{Chain}
 use Rattle.buckets.proofs.BucketLaws.{chain-end, chain-step}
 use Rattle.strings.specs.Strings.{plainString, Means}
 use Rattle.strings.specs.Marks.{markOf, MeansMark}
-use Rattle.text.specs.Nodes.{node}
+use Rattle.text.specs.Nodes.{nodeEnd, nodeKind, nodeStart}
 use Rattle.text.specs.Keys.{KeyAt, SameKeys, KeyMark, Key, nodeOf, Known, noneMeans, Unlisted}
 use Rattle.text.proofs.KeyLoops.{plain-key}
+use Rattle.tokens.specs.NodeKinds.{plain-key-node}
 
-pub marked-key : (D : Dialect) (s w : List ℕ) (a : ℕ) {i j k r : ℕ} → i ≡ node w a 1 → j ≡ node w a 2 → k ≡ node w a 0 → MeansMark D s i j (eqb k 10) r → KeyMark D s w a r
+pub marked-key : (D : Dialect) (s w : List ℕ) (a : ℕ) {i j k r : ℕ} → i ≡ nodeStart w a → j ≡ nodeEnd w a → k ≡ nodeKind w a → MeansMark D s i j (eqb k plain-key-node) r → KeyMark D s w a r
 marked-key D s w a {i} {j} {k} {r} pi pj pk h = record { told = λ cs u. go cs u }
   where
     go : (cs : List ℕ) → KeyAt D s w a cs → r ≡ markOf cs

@@ -16,8 +16,9 @@ use Rattle.grammar.specs.Tree.Fields.{no-fields, field}
 use Rattle.grammar.specs.Keys.{keysOf, keysOnce, keysOnceI, keysOnceF}
 use Rattle.grammar.specs.Machine.{Dialect}
 use Rattle.strings.specs.Strings.{plainString}
+use Rattle.tokens.specs.NodeKinds.{plain-string-node, other-string-node, object-node, plain-key-node, other-key-node}
 use Rattle.tokens.specs.Tokens.{scalarNode, keyNode}
-use Rattle.text.specs.Nodes.{node, next, Holds, HoldsItems, HoldsFields}
+use Rattle.text.specs.Nodes.{node, next, Holds, HoldsItems, HoldsFields, nodeKind}
 use Rattle.text.specs.Keys.{KeyAt}
 
 lt-or-ge : (a b : ℕ) → (a < b) ⊎ (b ≤ a)
@@ -29,22 +30,22 @@ pub and-false : (a b : Bool) → b ≡ false → a && b ≡ false
 and-false true b e = e
 and-false false b e = refl
 
-pub scalar-not-9 : (s : List ℕ) (a e : ℕ) (v : Scalar) → scalarNode s a e v ≡ 9 → ⊥
-scalar-not-9 s a e null h = omega arith
-scalar-not-9 s a e (bool true) h = omega arith
-scalar-not-9 s a e (bool false) h = omega arith
-scalar-not-9 s a e (num true t) h = omega arith
-scalar-not-9 s a e (num false t) h = omega arith
-scalar-not-9 s a e (str cs) h = go (plainString s a e) h
+pub scalar-no-object : (s : List ℕ) (a e : ℕ) (v : Scalar) → scalarNode s a e v ≡ object-node → ⊥
+scalar-no-object s a e null h = omega arith
+scalar-no-object s a e (bool true) h = omega arith
+scalar-no-object s a e (bool false) h = omega arith
+scalar-no-object s a e (num true t) h = omega arith
+scalar-no-object s a e (num false t) h = omega arith
+scalar-no-object s a e (str cs) h = go (plainString s a e) h
   where
-    go : (b : Bool) → _≡_ {A = ℕ} (cond b 6 7) 9 → ⊥
+    go : (b : Bool) → _≡_ {A = ℕ} (cond b plain-string-node other-string-node) 9 → ⊥
     go true h = omega arith
     go false h = omega arith
 
-key-not-9 : (s : List ℕ) (a e : ℕ) → keyNode s a e ≡ 9 → ⊥
-key-not-9 s a e h = go (plainString s a e) h
+key-no-object : (s : List ℕ) (a e : ℕ) → keyNode s a e ≡ object-node → ⊥
+key-no-object s a e h = go (plainString s a e) h
   where
-    go : (b : Bool) → _≡_ {A = ℕ} (cond b 10 11) 9 → ⊥
+    go : (b : Bool) → _≡_ {A = ℕ} (cond b plain-key-node other-key-node) 9 → ⊥
     go true h = omega arith
     go false h = omega arith
 
@@ -85,7 +86,7 @@ module _ (D : Dialect) (s w : List ℕ) where
 
   -- every object whose node is from a up to n has its keys apart
   abbrev pub Clean : ℕ → ℕ → Type 0
-  Clean a n = (k : ℕ) → a ≤ k → k < n → node w k 0 ≡ 9 → Says true k
+  Clean a n = (k : ℕ) → a ≤ k → k < n → nodeKind w k ≡ object-node → Says true k
 
   rising-items : (js : Items) (l k n : ℕ) → HoldsItems D s w js l k n → k ≤ n
   rising-items no-items l k n h = omega arith
@@ -118,13 +119,13 @@ module _ (D : Dialect) (s w : List ℕ) where
         rw (once j l (suc k) (h .3) (λ i x y. c i (omega arith) (omega arith))) (once-fields fs l (next w k) n (h .5) (λ i x y. c i (omega arith) y))
 
   -- an object with a repeated key, at node i
-  module _ (i : ℕ) (object : node w i 0 ≡ 9) (bad : Says false i) where
-    here : (k : ℕ) → k ≡ i → node w k 0 ≡ 9
-    here k e = subst (λ (x : ℕ). node w x 0 ≡ 9) (sym e) object
+  module _ (i : ℕ) (object : nodeKind w i ≡ object-node) (bad : Says false i) where
+    here : (k : ℕ) → k ≡ i → nodeKind w k ≡ object-node
+    here k e = subst (λ (x : ℕ). nodeKind w x ≡ object-node) (sym e) object
 
     mutual
       twice : (j : Json) (l k : ℕ) → Holds D s w j l k → k ≤ i → i < next w k → keysOnce j ≡ false
-      twice (leaf a e v) l k h x y = absurd (scalar-not-9 s a e v (sym (h .0 .has-kind) ∙ here k (omega (arith, h .1))))
+      twice (leaf a e v) l k h x y = absurd (scalar-no-object s a e v (sym (h .0 .has-kind) ∙ here k (omega (arith, h .1))))
       twice (arr a e js) l k h x y =
           ⊎-elim (λ z. absurd (let u = here k z in omega (arith, h .0 .has-kind))) (λ z. twice-items js (l - 1) (suc k) (next w k) (h .3) z y) (eq-or-lt-of-le x)
       twice (obj a e fs) l k h x y =
@@ -139,11 +140,11 @@ module _ (D : Dialect) (s w : List ℕ) where
       twice-fields : (fs : Fields) (l k n : ℕ) → HoldsFields D s w fs l k n → k ≤ i → i < n → keysOnceF fs ≡ false
       twice-fields no-fields l k n h x y = absurd (omega arith)
       twice-fields (field a e cs j fs) l k n h x y =
-          ⊎-elim (λ z. absurd (key-not-9 s a e (sym (h .1 .has-kind) ∙ here k z)))
+          ⊎-elim (λ z. absurd (key-no-object s a e (sym (h .1 .has-kind) ∙ here k z)))
           (λ (z : k < i).
           ⊎-elim (λ (q : i < next w k). rw (twice j l (suc k) (h .3) z (subst (λ (m : ℕ). i < m) (h .4) q)))
           (λ q. and-false (keysOnce j) (keysOnceF fs) (twice-fields fs l (next w k) n (h .5) q y)) (lt-or-ge i (next w k))) (eq-or-lt-of-le x)
 
   -- one node more is clean
-  pub clean-more : (k : ℕ) → Clean 0 k → (node w k 0 ≡ 9 → Says true k) → Clean 0 (suc k)
-  clean-more k h g i x y z = ⊎-elim (λ e. subst (λ (n : ℕ). Says true n) (sym e) (g (subst (λ (n : ℕ). node w n 0 ≡ 9) e z))) (λ q. h i x q z) (eq-or-lt-of-le {n = i} {m = k} (omega arith))
+  pub clean-more : (k : ℕ) → Clean 0 k → (nodeKind w k ≡ object-node → Says true k) → Clean 0 (suc k)
+  clean-more k h g i x y z = ⊎-elim (λ e. subst (λ (n : ℕ). Says true n) (sym e) (g (subst (λ (n : ℕ). nodeKind w n ≡ object-node) e z))) (λ q. h i x q z) (eq-or-lt-of-le {n = i} {m = k} (omega arith))

@@ -13,23 +13,24 @@ use Rattle.grammar.specs.Tree.{Fields}
 use Rattle.grammar.specs.Keys.{keysOf}
 use Rattle.grammar.specs.Machine.{Dialect}
 use Rattle.strings.specs.Strings.{plainString, Means}
+use Rattle.tokens.specs.NodeKinds.{object-node, plain-key-node, other-key-node}
 use Rattle.tokens.specs.Tokens.{keyNode}
-use Rattle.text.specs.Nodes.{node, next, HoldsFields}
+use Rattle.text.specs.Nodes.{node, next, HoldsFields, nodeEnd, nodeKind, nodeStart}
 use Rattle.strings.specs.Meanings.{MeansSame}
 use Rattle.text.specs.Keys.{KeyAt, SameKeys, NewKey, KeysApart, KeysOnce}
 use Rattle.text.proofs.KeyLaws.{first, no-keys, Says, Clean, once-items, twice-items, clean-more}
 
 -- a key's node says that it is plain only where it is
-pub plain-key : (s : List ℕ) (a e k : ℕ) → k ≡ keyNode s a e → eqb k 10 ≡ true → plainString s a e ≡ true
+pub plain-key : (s : List ℕ) (a e k : ℕ) → k ≡ keyNode s a e → eqb k plain-key-node ≡ true → plainString s a e ≡ true
 plain-key s a e k h t = go (plainString s a e) (sym (eqb-true k 10 t) ∙ h)
   where
-    go : (b : Bool) → _≡_ {A = ℕ} 10 (cond b 10 11) → b ≡ true
+    go : (b : Bool) → _≡_ {A = ℕ} 10 (cond b plain-key-node other-key-node) → b ≡ true
     go true q = refl
     go false q = absurd (omega arith)
 
 pub same-keys : (D : Dialect) (s w : List ℕ) (a b i j k x y m : ℕ) (r : Bool)
-    → i ≡ node w a 1 → j ≡ node w a 2 → k ≡ node w a 0 → x ≡ node w b 1 → y ≡ node w b 2 → m ≡ node w b 0
-    → MeansSame D s i j (eqb k 10) x y (eqb m 10) r → SameKeys D s w a b r
+    → i ≡ nodeStart w a → j ≡ nodeEnd w a → k ≡ nodeKind w a → x ≡ nodeStart w b → y ≡ nodeEnd w b → m ≡ nodeKind w b
+    → MeansSame D s i j (eqb k plain-key-node) x y (eqb m plain-key-node) r → SameKeys D s w a b r
 same-keys D s w a b i j k x y m r pi pj pk px py pm h = record { told = λ cs ds u v. go cs ds u v }
   where
     go : (cs ds : List ℕ) → KeyAt D s w a cs → KeyAt D s w b ds → r ≡ same cs ds
@@ -122,14 +123,14 @@ module _ (D : Dialect) (s w : List ℕ) where
   says-so {r} k n p g fs l x =
       g .told fs l (subst₂ (λ (b e : ℕ). HoldsFields D s w fs l b e) (sym (add-one k)) (sym p) x)
 
-  pub once-hit : {r : Bool} (k n m : ℕ) → k < m → node w k 0 ≡ 9 → n ≡ next w k → KeysApart D s w (k + 1) n r → r ≡ false → KeysOnce D s w m false
+  pub once-hit : {r : Bool} (k n m : ℕ) → k < m → nodeKind w k ≡ object-node → n ≡ next w k → KeysApart D s w (k + 1) n r → r ≡ false → KeysOnce D s w m false
   once-hit k n m h o p g t =
       record { told = λ js l x. sym (twice-items D s w k o (subst (λ (b : Bool). Says D s w b k) t (says-so k n p g)) js l 0 m x (omega arith) h) }
 
   pub once-on : {r : Bool} (k n : ℕ) → Clean D s w 0 k → n ≡ next w k → KeysApart D s w (k + 1) n r → r ≡ true → Clean D s w 0 (k + 1)
   once-on k n c p g t = rw (add-one k) (clean-more D s w k c (λ _. subst (λ (b : Bool). Says D s w b k) t (says-so k n p g)))
 
-  pub once-past : (k : ℕ) → Clean D s w 0 k → (node w k 0 ≡ 9 → ⊥) → Clean D s w 0 (k + 1)
+  pub once-past : (k : ℕ) → Clean D s w 0 k → (nodeKind w k ≡ object-node → ⊥) → Clean D s w 0 (k + 1)
   once-past k c o = rw (add-one k) (clean-more D s w k c (λ e. absurd (o e)))
 
   pub once-end : (k m : ℕ) → Clean D s w 0 k → m ≤ k → KeysOnce D s w m true

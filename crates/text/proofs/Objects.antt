@@ -10,8 +10,9 @@ use Rattle.grammar.specs.Tree.{Json, Json.obj, Fields, Fields.no-fields, Fields
 use Rattle.grammar.specs.Machine.{Dialect, Stack, Stack.in-object, Out, depth, reverseFields}
 use Rattle.grammar.specs.Machine.Control.{AtValue, After, AtFirstKey, AtKey}
 use Rattle.grammar.proofs.TokenRuns.{TokensComplete}
+use Rattle.tokens.specs.NodeKinds.{object-node}
 use Rattle.tokens.specs.Tokens.{Skips.after-value, Skips.at-first-key, Skipped, Follows}
-use Rattle.text.specs.Nodes.{putNode, next, Holds, HoldsFields}
+use Rattle.text.specs.Nodes.{node-words, putNode, next, Holds, HoldsFields}
 use Rattle.text.specs.Readers.{Wrote, ValueEnds, MemberEnds, MemberTold, ReadsMember, ReadsObject, Opens}
 use Rattle.text.specs.declared.reader.Read.{Read}
 use Rattle.text.specs.declared.reader.Read.the-variants.{Past, Fault, Deep}
@@ -41,7 +42,7 @@ module _ (D : Dialect) (s : List ℕ) where
       (fields-before w′ a e cs v gs left n m x (frame-fields D s new w′ (field a e cs v no-fields) left n m (λ y c d. q y (omega arith) d) b) c)
 
   -- the object's own node, written last
-  object-held : (w : List ℕ) (fs : Fields) (left k at e n : ℕ) → k < n → Put w k 9 at e n → HoldsFields D s w fs left (suc k) n → Holds D s w (obj at e fs) (suc left) k
+  object-held : (w : List ℕ) (fs : Fields) (left k at e n : ℕ) → k < n → Put w k object-node at e n → HoldsFields D s w fs left (suc k) n → Holds D s w (obj at e fs) (suc left) k
   object-held w fs left k at e n h p f =
       let l : left ≡ suc left - 1 = omega arith in
       let g : HoldsFields D s w fs left (suc k) (next w k) = subst (λ (u : ℕ). HoldsFields D s w fs left (suc k) u) (sym (p .goes)) f in
@@ -53,7 +54,7 @@ pub record FieldsAt (D : Dialect) (s old w : List ℕ) (at k left i n : ℕ) : T
   pub reached : Reached s old w at k i n 1
   pub fields : Fields
   pub runs : (lim : ℕ) (K : Stack) → depth K + suc left ≡ lim → Runs D s lim AtValue K at (AtKey at fields) K i
-  pub held : 4 * n ≤ length w → HeldFields D s w fields left (suc k) n
+  pub held : node-words * n ≤ length w → HeldFields D s w fields left (suc k) n
 
 -- at place e, after a member
 pub record FieldsPast (D : Dialect) (s old w : List ℕ) (at k left e n : ℕ) : Type 0 where
@@ -65,16 +66,16 @@ pub record FieldsPast (D : Dialect) (s old w : List ℕ) (at k left e n : ℕ) :
   pub key : List ℕ
   pub tree : Json
   pub runs : (lim : ℕ) (K : Stack) → depth K + suc left ≡ lim → Runs D s lim AtValue K at (After tree) (in-object at fields start end key K) e
-  pub held : 4 * n ≤ length w → HeldFields D s w (field start end key tree fields) left (suc k) n
+  pub held : node-words * n ≤ length w → HeldFields D s w (field start end key tree fields) left (suc k) n
 
 module _ {D : Dialect} (L : TokensComplete D) {s : List ℕ} {at k first : ℕ} (o : Opens s at k (code "{")) (x : Skipped D s (at + 1) first) where
   object-begins : {lim : ℕ} {K : Stack} → depth K < lim → Runs D s lim AtValue K at (AtFirstKey at) K first
   object-begins d = then (object-opens L (o .here) d (o .byte)) (blanks at-first-key x)
 
-  pub fields-none : {w put : List ℕ} {left : ℕ} → (first < length s) × (getD s first 0 ≡ code "}") → put ≡ putNode w k 9 at (first + 1) (k + 1)
+  pub fields-none : {w put : List ℕ} {left : ℕ} → (first < length s) × (getD s first 0 ≡ code "}") → put ≡ putNode w k object-node at (first + 1) (k + 1)
       → ReadsObject D s w put at k (suc left) (Past (first + 1) (k + 1))
   fields-none {w} {left = left} y q =
-      let new : List ℕ = putNode w k 9 at (first + 1) (k + 1) in
+      let new : List ℕ = putNode w k object-node at (first + 1) (k + 1) in
       let r : Reached s w w at k (first + 1) (k + 1) 1 = reached-past (reached-first o x) (omega arith) (omega arith) (omega arith) in
       subst (λ (u : List ℕ). ReadsObject D s w u at k (suc left) (Past (first + 1) (k + 1))) (sym q)
       record {
@@ -146,17 +147,17 @@ module _ {D : Dialect} {s old w : List ℕ} {at k left i n : ℕ} where
               held = a .held;
             }
 
-    pub fields-close : {put : List ℕ} → r ≡ Follow.Close p → put ≡ putNode w k 9 at p n → ReadsObject D s old put at k (suc left) (Past p n)
+    pub fields-close : {put : List ℕ} → r ≡ Follow.Close p → put ≡ putNode w k object-node at p n → ReadsObject D s old put at k (suc left) (Past p n)
     fields-close g q =
         subst (λ (u : List ℕ). ReadsObject D s old u at k (suc left) (Past p n)) (sym q)
-        (at-close f g (λ p. ReadsObject D s old (putNode w k 9 at p n) at k (suc left) (Past p n)) go)
+        (at-close f g (λ p. ReadsObject D s old (putNode w k object-node at p n) at k (suc left) (Past p n)) go)
       where
         fs : Fields
         fs = reverseFields (a .fields) (field (a .start) (a .end) (a .key) (a .tree) no-fields)
 
-        go : (e : ℕ) → Skipped D s i e → e < length s → getD s e 0 ≡ code "}" → ReadsObject D s old (putNode w k 9 at (e + 1) n) at k (suc left) (Past (e + 1) n)
+        go : (e : ℕ) → Skipped D s i e → e < length s → getD s e 0 ≡ code "}" → ReadsObject D s old (putNode w k object-node at (e + 1) n) at k (suc left) (Past (e + 1) n)
         go e x h z =
-            let new : List ℕ = putNode w k 9 at (e + 1) n in
+            let new : List ℕ = putNode w k object-node at (e + 1) n in
             let u = put-wrote w k 9 at (e + 1) n in
             let r : Reached s old w at k (e + 1) n 0 = reached-past (a .reached) (omega arith) (omega arith) (omega arith) in
             record {

@@ -10,7 +10,7 @@ use Rattle.grammar.specs.Tree.{Json, Fields.no-fields, Fields.field}
 use Rattle.grammar.specs.Machine.{Dialect, Stack.in-object, Out}
 use Rattle.strings.specs.Strings.{Means}
 use Rattle.tokens.specs.Tokens.{keyNode, KeyRuns, KeyTold, ReadsKey}
-use Rattle.text.specs.Nodes.{putNode, next, Holds, HoldsFields}
+use Rattle.text.specs.Nodes.{node-words, putNode, next, Holds, HoldsFields}
 use Rattle.text.specs.Readers.{ValueRead, ValueEnds, ValueTold, ReadsValue, MemberEnds, ReadsMember, Ready}
 use Rattle.text.specs.declared.reader.Read.{Read}
 use Rattle.text.specs.declared.reader.Read.the-variants.{Past, Fault, Deep}
@@ -55,7 +55,7 @@ module _ {D : Dialect} {s : List ℕ} {i a e kind p : ℕ} {r : KeyRead} (f : Re
         let u = put-wrote w k kind a e m in
         let new : List ℕ = putNode w k kind a e m in
         let n : k < m = omega (arith, x .moved .nodes) in
-        let put : 4 * m ≤ length w → Put new k (keyNode s a e) a e m = λ z. subst (λ (j : ℕ). Put new k j a e m) (t .2) (put-there w k kind a e m (omega arith)) in
+        let put : node-words * m ≤ length w → Put new k (keyNode s a e) a e m = λ z. subst (λ (j : ℕ). Put new k j a e m) (t .2) (put-there w k kind a e m (omega arith)) in
         subst (λ (j : List ℕ). ReadsMember D s old j i k left (Past q m)) (sym eq)
         record {
           told =
@@ -75,7 +75,7 @@ module _ {D : Dialect} {s : List ℕ} {i a e kind p : ℕ} {r : KeyRead} (f : Re
                 tree = x .tree;
                 runs = λ lim K o fs d. t .1 .runs lim o fs K ∙ x .runs lim (in-object o fs a e (t .0) K) d;
                 holds = λ z.
-                    let z′ : 4 * m ≤ length w = omega (arith, u .same-length) in
+                    let z′ : node-words * m ≤ length w = omega (arith, u .same-length) in
                     pair-held D s w new a e (t .0) (x .tree) left k m (put z′) (t .1 .means) (x .moved .nodes) (λ j c d. u .above j c) (x .holds z′) (x .ends z′);
               };
         }

@@ -15,7 +15,7 @@ use Rattle.grammar.specs.Machine.{Dialect, Out}
 use Rattle.grammar.specs.Machine.Control.{AtValue}
 use Rattle.grammar.proofs.TokenRuns.{TokensComplete}
 use Rattle.tokens.specs.Tokens.{scalarNode, Skips.at-value, Skipped, ScalarTold, ReadsScalar, Unbracketed}
-use Rattle.text.specs.Nodes.{putNode}
+use Rattle.text.specs.Nodes.{node-words, putNode}
 use Rattle.text.specs.Readers.{StandsTold, Stands, Wrote, ValueEnds, ValueTold, ReadsValue, ReadsLeaf, Ready, Opens}
 use Rattle.text.specs.declared.reader.Read.{Read}
 use Rattle.text.specs.declared.reader.Read.the-variants.{Past, Fault, Deep}
@@ -50,7 +50,7 @@ module _ {D : Dialect} {s : List ℕ} {i : ℕ} {r : ScalarRead} (f : ReadsScala
       let v = t .0 in
       let new : List ℕ = putNode w k kind i e (k + 1) in
       let u = put-wrote w k kind i e (k + 1) in
-      let put : 4 * (k + 1) ≤ length new → Put new k (scalarNode s i e v) i e (k + 1) =
+      let put : node-words * (k + 1) ≤ length new → Put new k (scalarNode s i e v) i e (k + 1) =
       λ z. subst (λ (j : ℕ). Put new k j i e (k + 1)) (t .2) (put-there w k kind i e (k + 1) (omega (arith, u .same-length))) in
       subst (λ (x : List ℕ). ReadsLeaf D s w x i k (Past e (k + 1))) (sym q)
       record {

@@ -27,6 +27,7 @@ use Rattle.text.proofs.Places.{Runs, Ends, then, then-ends, blanks, byt
 use Rattle.text.proofs.Inside.{value-past}
 use Rattle.text.proofs.Values.{stood, missed}
 use Rattle.text.proofs.Arrays.{HeldItems, held-item}
+use Rattle.text.specs.Nodes.{node-words}
 
 -- messages
 message-answers : {s : List ℕ} {o : Out} → Ends message s message-levels AtValue (bottom no-items) 0 o → readMessage s ≡ o
@@ -110,7 +111,7 @@ pub record ObjectsAt (s old w : List ℕ) (i n : ℕ) : Type 0 where
   pub same-length : length w ≡ length old
   pub items : Items
   pub runs : Runs schema s schema-levels AtObject (bottom no-items) 0 (between items) (below items) i
-  pub held : 4 * n ≤ length w → HeldItems schema s w items schema-levels 0 n
+  pub held : node-words * n ≤ length w → HeldItems schema s w items schema-levels 0 n
 
 -- at place p, where an object opens, after blanks from place i on
 pub record ObjectOpens (s old w : List ℕ) (i p n : ℕ) : Type 0 where
@@ -121,7 +122,7 @@ pub record ObjectOpens (s old w : List ℕ) (i p n : ℕ) : Type 0 where
   pub same-length : length w ≡ length old
   pub items : Items
   pub runs : Runs schema s schema-levels AtObject (bottom no-items) 0 AtValue (bottom items) p
-  pub held : 4 * n ≤ length w → HeldItems schema s w items schema-levels 0 n
+  pub held : node-words * n ≤ length w → HeldItems schema s w items schema-levels 0 n
 
 pub objects-begin : {s w : List ℕ} → ObjectsAt s w w 0 0
 objects-begin =

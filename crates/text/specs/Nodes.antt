@@ -12,33 +12,45 @@ use Rattle.grammar.specs.Tree.Items.{no-items, item}
 use Rattle.grammar.specs.Tree.Fields.{no-fields, field}
 use Rattle.grammar.specs.Machine.{Dialect}
 use Rattle.strings.specs.Strings.{Means}
+use Rattle.tokens.specs.NodeKinds.{array-node, object-node}
 use Rattle.tokens.specs.Tokens.{scalarNode, keyNode, ScalarAt}
 
--- word i of node k
-abbrev pub node : List ℕ → ℕ → ℕ → ℕ
-node w k i = getD w (4 * k + i) 0
+abbrev pub node-words : ℕ
+node-words = 4
 
--- the words after node k is written, if all four of it fit
+-- word i of node k: its kind, its start, its end, and the first node after it and what is inside it
+abbrev pub node : List ℕ → ℕ → ℕ → ℕ
+node w k i = getD w (node-words * k + i) 0
+
+abbrev pub nodeKind : List ℕ → ℕ → ℕ
+nodeKind w k = node w k 0
+
+abbrev pub nodeStart : List ℕ → ℕ → ℕ
+nodeStart w k = node w k 1
+
+abbrev pub nodeEnd : List ℕ → ℕ → ℕ
+nodeEnd w k = node w k 2
+
+abbrev pub next : List ℕ → ℕ → ℕ
+next w k = node w k 3
+
+-- the words after node k is written, if all of it fits
 unfoldable pub putNode : List ℕ → ℕ → ℕ → ℕ → ℕ → ℕ → List ℕ
-putNode w k kind start end next = cond (leb (4 * k + 4) (length w)) (sets w (4 * k) (kind ∷ start ∷ end ∷ next ∷ [])) w
+putNode w k kind start end next = cond (leb (node-words * k + node-words) (length w)) (sets w (node-words * k) (kind ∷ start ∷ end ∷ next ∷ [])) w
 
 -- node k has this kind, start and end
 pub record Node (w : List ℕ) (k kind start end : ℕ) : Type 0 where
-  pub has-kind : node w k 0 ≡ kind
-  pub has-start : node w k 1 ≡ start
-  pub has-end : node w k 2 ≡ end
-
--- the first node after node k and what is inside it
-abbrev pub next : List ℕ → ℕ → ℕ
-next w k = node w k 3
+  pub has-kind : nodeKind w k ≡ kind
+  pub has-start : nodeStart w k ≡ start
+  pub has-end : nodeEnd w k ≡ end
 
 module _ (D : Dialect) (s w : List ℕ) where
   abbrev mutual
     -- the node k and those after it hold the value, which has at most l levels: a node for each value and each key, in pre-order
     pub Holds : Json → ℕ → ℕ → Type 0
     Holds (leaf a e v) l k = Node w k (scalarNode s a e v) a e × (next w k ≡ suc k) × ScalarAt D s a e v
-    Holds (arr a e js) l k = Node w k 8 a e × (k < next w k) × (0 < l) × HoldsItems js (l - 1) (suc k) (next w k)
-    Holds (obj a e fs) l k = Node w k 9 a e × (k < next w k) × (0 < l) × HoldsFields fs (l - 1) (suc k) (next w k)
+    Holds (arr a e js) l k = Node w k array-node a e × (k < next w k) × (0 < l) × HoldsItems js (l - 1) (suc k) (next w k)
+    Holds (obj a e fs) l k = Node w k object-node a e × (k < next w k) × (0 < l) × HoldsFields fs (l - 1) (suc k) (next w k)
 
     -- from node k up to node n
     pub HoldsItems : Items → ℕ → ℕ → ℕ → Type 0

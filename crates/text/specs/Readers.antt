@@ -12,13 +12,13 @@ use Rattle.grammar.specs.Machine.Control.{AtValue, After, AtKey}
 use Rattle.grammar.specs.Machine.Out.{fault, deep}
 use Rattle.text.specs.declared.reader.Read.{Read}
 use Rattle.text.specs.declared.reader.Read.the-variants.{Past, Fault, Deep}
-use Rattle.text.specs.Nodes.{next, Holds, HoldsFields}
+use Rattle.text.specs.Nodes.{node-words, next, Holds, HoldsFields}
 
 -- words written from node k up to node n, and no others
 pub record Wrote (old new : List ℕ) (k n : ℕ) : Type 0 where
   pub same-length : length new ≡ length old
-  pub below : (x : ℕ) → x < 4 * k → getD new x 0 ≡ getD old x 0
-  pub above : (x : ℕ) → 4 * n ≤ x → getD new x 0 ≡ getD old x 0
+  pub below : (x : ℕ) → x < node-words * k → getD new x 0 ≡ getD old x 0
+  pub above : (x : ℕ) → node-words * n ≤ x → getD new x 0 ≡ getD old x 0
 
 -- from place i and node k to place e and node n: at most one node for every two bytes, and one more
 pub record Moved (s old new : List ℕ) (i k e n : ℕ) : Type 0 where
@@ -33,8 +33,8 @@ pub record ValueRead (D : Dialect) (s old new : List ℕ) (i k levels e n : ℕ)
   pub moved : Moved s old new i k e n
   pub tree : Json
   pub runs : (lim : ℕ) (K : Stack) → depth K + levels ≡ lim → scan D lim AtValue K i (drop i s) ≡ scan D lim (After tree) K e (drop e s)
-  pub holds : 4 * n ≤ length new → Holds D s new tree levels k
-  pub ends : 4 * n ≤ length new → next new k ≡ n
+  pub holds : node-words * n ≤ length new → Holds D s new tree levels k
+  pub ends : node-words * n ≤ length new → next new k ≡ n
 
 -- the machine ends with this answer, whatever the brackets around
 abbrev pub ValueEnds : Dialect → List ℕ → ℕ → ℕ → Out → Type 0
@@ -72,7 +72,7 @@ pub record MemberRead (D : Dialect) (s old new : List ℕ) (i k levels e n : ℕ
   pub tree : Json
   pub runs : (lim : ℕ) (K : Stack) (o : ℕ) (fs : Fields) → suc (depth K) + levels ≡ lim
       → scan D lim (AtKey o fs) K i (drop i s) ≡ scan D lim (After tree) (in-object o fs start end key K) e (drop e s)
-  pub holds : 4 * n ≤ length new → HoldsFields D s new (field start end key tree no-fields) levels k n
+  pub holds : node-words * n ≤ length new → HoldsFields D s new (field start end key tree no-fields) levels k n
 
 abbrev pub MemberEnds : Dialect → List ℕ → ℕ → ℕ → Out → Type 0
 MemberEnds D s i levels x = (lim : ℕ) (K : Stack) (o : ℕ) (fs : Fields) → suc (depth K) + levels ≡ lim → scan D lim (AtKey o fs) K i (drop i s) ≡ x

@@ -10,7 +10,7 @@ use Rattle.grammar.specs.MessageText.{MessageText, message-lexis}
 use Rattle.grammar.specs.Starts.{TooDeep, Broken}
 use Rattle.grammar.specs.Machine.Schema.{schema}
 use Rattle.grammar.specs.Machine.Message.{message}
-use Rattle.text.specs.Nodes.{next, Holds, HoldsItems}
+use Rattle.text.specs.Nodes.{node-words, next, Holds, HoldsItems}
 use Rattle.text.specs.declared.texts.Text.{Text}
 use Rattle.text.specs.declared.texts.Text.the-variants.{Whole, Fault, Deep, TooLong}
 
@@ -19,15 +19,15 @@ pub record MessageRead (s words : List ℕ) (n : ℕ) : Type 0 where
   pub tree : Json
   pub text : MessageText s tree
   pub few : 2 * n ≤ length s + 1
-  pub holds : 4 * n ≤ length words → Holds message s words tree message-levels 0
-  pub ends : 4 * n ≤ length words → next words 0 ≡ n
+  pub holds : node-words * n ≤ length words → Holds message s words tree message-levels 0
+  pub ends : node-words * n ≤ length words → next words 0 ≡ n
 
 -- schema text: its top-level objects, and n nodes that hold them, where they fit the words
 pub record SchemaRead (s words : List ℕ) (n : ℕ) : Type 0 where
   pub items : Items
   pub text : SchemaText s items
   pub few : 2 * n ≤ length s
-  pub holds : 4 * n ≤ length words → HoldsItems schema s words items schema-levels 0 n
+  pub holds : node-words * n ≤ length words → HoldsItems schema s words items schema-levels 0 n
 
 -- 01, Message answers 23 (Fault) and 24 (Deep)
 abbrev pub MessageTold : List ℕ → List ℕ → Text → Type 0

@@ -1,5 +1,9 @@
 // Repeated keys, over the nodes: one loop over all of them, and no value is read again.
 // The keys of a small object are compared pairwise, those of a larger one looked up in an index by the marks of what they mean.
+use crate::nodes::NODE_END;
+use crate::nodes::NODE_KIND;
+use crate::nodes::NODE_NEXT;
+use crate::nodes::NODE_START;
 use crate::nodes::node_number;
 use crate::nodes::node_word;
 use buckets::BUCKETS;
@@ -8,6 +12,7 @@ use buckets::first;
 use buckets::next;
 use strings::marks::mark_of;
 use strings::meanings::same_meaning;
+use tokens::node;
 ghost use mathlib.Core.Path.{_≡_};
 ghost use mathlib.Core.Bool.{true};
 ghost use Prim.Native.Nat.{_^_, _≤_, _<_};
@@ -29,12 +34,12 @@ const LINKS: usize = 16384;
 fn same_key(s: &[u8], schema: bool, nodes: &[u32], a: usize, b: usize) -> bool
     ensures { λ r. ⌜ SameKeys (dialect schema) (now (s .entry)) (now (nodes .entry)) a b r ⌝ }
 {
-    let i = node_number(nodes, a, 1);
-    let j = node_number(nodes, a, 2);
-    let p = node_word(nodes, a, 0) == 10;
-    let x = node_number(nodes, b, 1);
-    let y = node_number(nodes, b, 2);
-    let q = node_word(nodes, b, 0) == 10;
+    let i = node_number(nodes, a, NODE_START);
+    let j = node_number(nodes, a, NODE_END);
+    let p = node_word(nodes, a, NODE_KIND) == node::PLAIN_KEY;
+    let x = node_number(nodes, b, NODE_START);
+    let y = node_number(nodes, b, NODE_END);
+    let q = node_word(nodes, b, NODE_KIND) == node::PLAIN_KEY;
     same_meaning(s, schema, i, j, p, x, y, q)
 }
 
@@ -47,7 +52,7 @@ fn is_new_key(s: &[u8], schema: bool, nodes: &[u32], a: usize, b: usize, end: us
         if same_key(s, schema, nodes, a, i) {
             return false;
         }
-        let n = node_number(nodes, i, 3);
+        let n = node_number(nodes, i, NODE_NEXT);
         if n <= i {
             return true;
         }
@@ -62,7 +67,7 @@ fn are_pairs_apart(s: &[u8], schema: bool, nodes: &[u32], b: usize, end: usize) 
 {
     let mut i = b;
     while i < end {
-        let n = node_number(nodes, i, 3);
+        let n = node_number(nodes, i, NODE_NEXT);
         if n <= i {
             return true;
         }
@@ -78,9 +83,9 @@ fn are_pairs_apart(s: &[u8], schema: bool, nodes: &[u32], b: usize, end: usize) 
 fn key_mark(s: &[u8], schema: bool, nodes: &[u32], a: usize) -> u32
     ensures { λ r. ⌜ KeyMark (dialect schema) (now (s .entry)) (now (nodes .entry)) a r ⌝ }
 {
-    let start = node_number(nodes, a, 1);
-    let end = node_number(nodes, a, 2);
-    let plain = node_word(nodes, a, 0) == 10;
+    let start = node_number(nodes, a, NODE_START);
+    let end = node_number(nodes, a, NODE_END);
+    let plain = node_word(nodes, a, NODE_KIND) == node::PLAIN_KEY;
     mark_of(s, schema, start, end, plain)
 }
 
@@ -127,7 +132,7 @@ fn are_listed_apart(
 {
     let mut i = b;
     while i < end {
-        let n = node_number(nodes, i, 3);
+        let n = node_number(nodes, i, NODE_NEXT);
         if n <= i {
             return true;
         }
@@ -174,8 +179,8 @@ fn objects_once(s: &[u8], schema: bool, nodes: &[u32], count: usize, links: &mut
 {
     let mut k = 0;
     while k < count {
-        if node_word(nodes, k, 0) == 9 {
-            let end = node_number(nodes, k, 3);
+        if node_word(nodes, k, NODE_KIND) == node::OBJECT {
+            let end = node_number(nodes, k, NODE_NEXT);
             if !are_apart(s, schema, nodes, k + 1, end, links) {
                 return false;
             }

@@ -3,14 +3,26 @@ ghost use mathlib.Core.Path.{_≡_};
 ghost use Prim.Native.Nat.{_^_, _<_};
 ghost use Rattle.text.specs.Nodes.{node, putNode};
 
+// The words of a node, counted from 0.
+pub const NODE_KIND: usize = 0;
+
+pub const NODE_START: usize = 1;
+
+pub const NODE_END: usize = 2;
+
+// The first node after it and what is inside it.
+pub const NODE_NEXT: usize = 3;
+
+pub const NODE_WORDS: usize = 4;
+
 // Word i of node k; 0 past the end.
 pub fn node_word(nodes: &[u32], k: usize, i: usize) -> u32
     ensures { λ r. ⌜ r ≡ node (now (nodes .entry)) k i ⌝ }
 {
-    if nodes.len() / 4 < k {
+    if nodes.len() / NODE_WORDS < k {
         return 0;
     }
-    let at = 4 * k;
+    let at = NODE_WORDS * k;
     if nodes.len() - at <= i {
         return 0;
     }
@@ -29,12 +41,12 @@ pub fn put_node(nodes: &mut [u32], k: usize, kind: u32, start: usize, end: usize
     requires { ⌜ (k < 2 ^ 32) × (start < 2 ^ 32) × (end < 2 ^ 32) × (next < 2 ^ 32) ⌝ }
     ensures { λ _. ⌜ now (nodes .exit) ≡ putNode (now (nodes .entry)) k kind start end next ⌝ }
 {
-    let at = 4 * k;
-    if nodes.len() < at + 4 {
+    let at = NODE_WORDS * k;
+    if nodes.len() < at + NODE_WORDS {
         return;
     }
     nodes[at] = kind;
-    nodes[at + 1] = start as u32;
-    nodes[at + 2] = end as u32;
-    nodes[at + 3] = next as u32;
+    nodes[at + NODE_START] = start as u32;
+    nodes[at + NODE_END] = end as u32;
+    nodes[at + NODE_NEXT] = next as u32;
 }

@@ -5,6 +5,7 @@ use tokens::members::Following;
 use tokens::members::KeyRead;
 use tokens::members::read_following;
 use tokens::members::read_key;
+use tokens::node;
 use tokens::scalars::ScalarRead;
 use tokens::scalars::read_scalar;
 ghost use mathlib.Core.Path.{_≡_};
@@ -99,7 +100,7 @@ fn read_items(
     let mut n = k + 1;
     if stands(s, first, b']') {
         let e = first + 1;
-        put_node(nodes, k, 8, at, e, n);
+        put_node(nodes, k, node::ARRAY, at, e, n);
         return Read::Past(e, n);
     }
     let mut i = first;
@@ -114,7 +115,7 @@ fn read_items(
                 n = m;
             }
             Following::Close(p) => {
-                put_node(nodes, k, 8, at, p, m);
+                put_node(nodes, k, node::ARRAY, at, p, m);
                 return Read::Past(p, m);
             }
             Following::Neither(p) => {
@@ -141,7 +142,7 @@ pub fn read_members(
     let mut n = k + 1;
     if stands(s, first, b'}') {
         let e = first + 1;
-        put_node(nodes, k, 9, at, e, n);
+        put_node(nodes, k, node::OBJECT, at, e, n);
         return Read::Past(e, n);
     }
     let mut i = first;
@@ -156,7 +157,7 @@ pub fn read_members(
                 n = m;
             }
             Following::Close(p) => {
-                put_node(nodes, k, 9, at, p, m);
+                put_node(nodes, k, node::OBJECT, at, p, m);
                 return Read::Past(p, m);
             }
             Following::Neither(p) => {

@@ -1,3 +1,4 @@
+pub mod NodeKinds
 pub mod Tokens
 pub mod TokenParts
 pub mod Numbers

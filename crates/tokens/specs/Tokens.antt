@@ -12,6 +12,7 @@ use Rattle.grammar.specs.Machine.{Dialect, Stack, Control, scan}
 use Rattle.grammar.specs.Machine.Stack.{in-object}
 use Rattle.grammar.specs.Machine.Control.{AtObject, AtValue, AtElement, After, AtFirstKey, AtKey, AtColon}
 use Rattle.strings.specs.Strings.{plainString, StopsAt, Means}
+use Rattle.tokens.specs.NodeKinds.{null-node, false-node, true-node, integer-node, other-number-node, plain-string-node, other-string-node, plain-key-node, other-key-node}
 use Rattle.tokens.specs.declared.scalars.ScalarRead.{ScalarRead}
 use Rattle.tokens.specs.declared.scalars.ScalarRead.the-variants as Scalars
 use Rattle.tokens.specs.declared.members.KeyRead.{KeyRead}
@@ -19,15 +20,15 @@ use Rattle.tokens.specs.declared.members.KeyRead.the-variants as Keys
 use Rattle.tokens.specs.declared.members.Following.{Following}
 use Rattle.tokens.specs.declared.members.Following.the-variants as Follow
 
--- the kinds of nodes: 1 null, 2 false, 3 true, 4 integer, 5 other number, 6 plain string, 7 other string, 8 array, 9 object, 10 plain key, 11 other key
+-- the kind of the node of a value without brackets, and of a key
 abbrev pub scalarNode : List ℕ → ℕ → ℕ → Scalar → ℕ
-scalarNode s a e null = 1
-scalarNode s a e (bool b) = cond b 3 2
-scalarNode s a e (num i token) = cond i 4 5
-scalarNode s a e (str cs) = cond (plainString s a e) 6 7
+scalarNode s a e null = null-node
+scalarNode s a e (bool b) = cond b true-node false-node
+scalarNode s a e (num i token) = cond i integer-node other-number-node
+scalarNode s a e (str cs) = cond (plainString s a e) plain-string-node other-string-node
 
 abbrev pub keyNode : List ℕ → ℕ → ℕ → ℕ
-keyNode s a e = cond (plainString s a e) 10 11
+keyNode s a e = cond (plainString s a e) plain-key-node other-key-node
 
 module _ (D : Dialect) (s : List ℕ) where
   -- the bytes from place a to e are what v was read from: a number is its token, a string means its code points

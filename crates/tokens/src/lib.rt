@@ -2,5 +2,6 @@
 pub mod blanks;
 pub mod integers;
 pub mod members;
+pub mod node;
 pub mod numbers;
 pub mod scalars;

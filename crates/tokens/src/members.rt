@@ -1,5 +1,6 @@
 // What stands between the values of an object or an array: keys with their colon, commas and closing brackets.
 use crate::blanks::skip_blanks;
+use crate::node;
 use strings::strings::StringRead;
 use strings::strings::read_string;
 ghost use mathlib.Core.Path.{_≡_};
@@ -78,8 +79,8 @@ pub fn read_key(s: &[u8], classes: &[u8; 256], schema: bool, i: usize) -> KeyRea
         return KeyRead::Fault(a);
     }
     match read_string(s, classes, schema, a) {
-        StringRead::Plain(e) => colon(s, classes, schema, a, e, 10),
-        StringRead::Coded(e) => colon(s, classes, schema, a, e, 11),
+        StringRead::Plain(e) => colon(s, classes, schema, a, e, node::PLAIN_KEY),
+        StringRead::Coded(e) => colon(s, classes, schema, a, e, node::OTHER_KEY),
         StringRead::Fault(e) => KeyRead::Fault(e),
     }
 }

@@ -1,4 +1,5 @@
 // Values without brackets: strings, numbers, words.
+use crate::node;
 use crate::numbers::NumberRead;
 use crate::numbers::TokenRead;
 use crate::numbers::read_number;
@@ -25,8 +26,8 @@ fn string_node(r: StringRead) -> ScalarRead
     ensures { λ n. ⌜ n ≡ stringNode r ⌝ }
 {
     match r {
-        StringRead::Plain(e) => ScalarRead::Found(6, e),
-        StringRead::Coded(e) => ScalarRead::Found(7, e),
+        StringRead::Plain(e) => ScalarRead::Found(node::PLAIN_STRING, e),
+        StringRead::Coded(e) => ScalarRead::Found(node::OTHER_STRING, e),
         StringRead::Fault(e) => ScalarRead::Fault(e),
     }
 }
@@ -35,8 +36,8 @@ fn number_node(r: NumberRead) -> ScalarRead
     ensures { λ n. ⌜ n ≡ numberNode r ⌝ }
 {
     match r {
-        NumberRead::Integer(e) => ScalarRead::Found(4, e),
-        NumberRead::Other(e) => ScalarRead::Found(5, e),
+        NumberRead::Integer(e) => ScalarRead::Found(node::INTEGER, e),
+        NumberRead::Other(e) => ScalarRead::Found(node::OTHER_NUMBER, e),
         NumberRead::Fault(e) => ScalarRead::Fault(e),
     }
 }
@@ -58,9 +59,9 @@ fn message_scalar(s: &[u8], classes: &[u8; 256], i: usize) -> ScalarRead
     match b {
         b'"' => string_node(read_string(s, classes, false, i)),
         b'-' | b'0'..=b'9' => number_node(read_number(s, classes, i)),
-        b't' => word_node(read_word(s, i + 1, b"rue"), 3),
-        b'f' => word_node(read_word(s, i + 1, b"alse"), 2),
-        b'n' => word_node(read_word(s, i + 1, b"ull"), 1),
+        b't' => word_node(read_word(s, i + 1, b"rue"), node::TRUE),
+        b'f' => word_node(read_word(s, i + 1, b"alse"), node::FALSE),
+        b'n' => word_node(read_word(s, i + 1, b"ull"), node::NULL),
         _ => ScalarRead::Fault(i),
     }
 }
@@ -72,8 +73,8 @@ fn schema_scalar(s: &[u8], classes: &[u8; 256], i: usize) -> ScalarRead
     let b = s[i];
     match b {
         b'\'' => string_node(read_string(s, classes, true, i)),
-        b't' => word_node(read_word(s, i + 1, b"rue"), 3),
-        b'f' => word_node(read_word(s, i + 1, b"alse"), 2),
+        b't' => word_node(read_word(s, i + 1, b"rue"), node::TRUE),
+        b'f' => word_node(read_word(s, i + 1, b"alse"), node::FALSE),
         _ => ScalarRead::Fault(i),
     }
 }

@@ -6,6 +6,7 @@ use Rattle.children.proofs.MarkLaws.{token-bytes}
 use borrow.Author.Needs.{needs}
 use Rattle.children.proofs.children.inner_bytes.Statement.{statement}
 use Rattle.children.proofs.children.inner_bytes.Tie as tie
+use Rattle.text.specs.Nodes.{node-words}
 
 node-number-requires : tie.Need-node-number-requires
 node-number-requires c κs = search needs
@@ -14,7 +15,7 @@ node-number-requires-2 : tie.Need-node-number-requires-2
 node-number-requires-2 c κs = search needs
 
 add-part-of : tie.Need-add-part-of
-add-part-of c = omega (arith, c .before .node-number .ensures, c .before .before .shared-slice-known2 .given (4 * c .before .before .before .before .args .k + 1))
+add-part-of c = omega (arith, c .before .node-number .ensures, c .before .before .shared-slice-known2 .given (node-words * c .before .before .before .before .args .k + 1))
 
 inner-size-requires : tie.Need-inner-size-requires
 inner-size-requires c κs = search needs

@@ -1,5 +1,7 @@
 -- `check::with_long_text` meets its contract: the words fit.
+use Prim.Native.Nat.{_/_}
 use native.Mathlib.Omega.{arith}
+use Rattle.grammar.specs.Limits.{message-bytes}
 use Rattle.message.proofs.CallLaws.{nodes-fit}
 use borrow.Author.Needs.{needs}
 use Rattle.message.proofs.check.with_long_text.Statement.{statement}
@@ -9,7 +11,7 @@ slice-aggregate-with-words : tie.Need-slice-aggregate-with-words
 slice-aggregate-with-words c = search needs
 
 with-words-requires : tie.Need-with-words-requires
-with-words-requires c κs = (c .before .before .before .before .before .before .pre .0, nodes-fit 8192 (search needs) (omega (arith, c .before .before .before .before .before .before .pre .1)) (omega arith))
+with-words-requires c κs = (c .before .before .before .before .before .before .pre .0, nodes-fit (message-bytes / 2) (search needs) (omega (arith, c .before .before .before .before .before .before .pre .1)) (omega arith))
 
 same-length : tie.Need-same-length
 same-length c = search needs

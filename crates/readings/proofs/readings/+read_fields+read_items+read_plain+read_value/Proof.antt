@@ -29,6 +29,7 @@ use Rattle.rows.proofs.rows.word.Reads as word-reads
 use Rattle.text.proofs.nodes.node_number.Reads as node-number-reads
 use Rattle.readings.proofs.readings.+read_fields+read_items+read_plain+read_value.{statement}
 use Rattle.readings.proofs.readings.+read_fields+read_items+read_plain+read_value.Tie.{close}
+use Rattle.text.specs.Nodes.{node-words}
 
 abbrev μ-read-fields : Measures 6 read-fields-kinds.ps ℕ
 μ-read-fields κs a = 3 * (a .1 .1 .1 .1 .1 .1 .1 .1 .0) + 2
@@ -130,7 +131,7 @@ read-fields-word-requires-2 t c κs = search needs
 read-fields-read-value-requires : (t : ℕ) → read-fields-lts.Need-read-value-requires (read-fields-calls t) (read-fields-at t) read-fields.Post read-fields-Inv-loop read-fields-μ-loop
 read-fields-read-value-requires t c κs =
     let d = c .before .before .before .before .before .before .before .before .before in
-    let b = d .before .shared-slice-known4 .given (4 * (d .before .before .before .before .before .args .k) + 3) in
+    let b = d .before .shared-slice-known4 .given (node-words * (d .before .before .before .before .before .args .k) + 3) in
     search needs
 
 read-fields-enum-known-v : (t : ℕ) → read-fields-lts.Need-enum-known-v (read-fields-calls t) (read-fields-at t) read-fields.Post read-fields-Inv-loop read-fields-μ-loop
@@ -204,7 +205,7 @@ read-items-loop-holds t c = items-start _ _ _ _ _ _ (c .before .before .before .
 read-items-read-value-requires : (t : ℕ) → read-items-lts.Need-read-value-requires (read-items-calls t) (read-items-at t) read-items.Post read-items-Inv-loop read-items-μ-loop
 read-items-read-value-requires t c κs =
     let d = c .before .before .before .before .before in
-    let b = d .before .shared-slice-known4 .given (4 * (d .before .before .before .before .before .args .k) + 3) in
+    let b = d .before .shared-slice-known4 .given (node-words * (d .before .before .before .before .before .args .k) + 3) in
     search needs
 
 read-items-enum-known-v : (t : ℕ) → read-items-lts.Need-enum-known-v (read-items-calls t) (read-items-at t) read-items.Post read-items-Inv-loop read-items-μ-loop

@@ -35,8 +35,8 @@ member-link-returns t c = let a = c .before .before .before .before .args in wal
 member-link-returns-2 : (t : ℕ) → member-link-lts.Need-returns-2 (member-link-calls t) (member-link-at t) member-link.Post
 member-link-returns-2 t c = let a = c .before .before .before .before .before .args in walk-out (a .s .now) (a .rows .now) (a .left) (a .link) (a .name .now) (c .if2 .taken)
 
-member-link-sub-row : (t : ℕ) → member-link-lts.Need-sub-row (member-link-calls t) (member-link-at t) member-link.Post
-member-link-sub-row t c = search needs
+member-link-sub-struct-row : (t : ℕ) → member-link-lts.Need-sub-struct-row (member-link-calls t) (member-link-at t) member-link.Post
+member-link-sub-struct-row t c = search needs
 
 member-link-word-requires : (t : ℕ) → member-link-lts.Need-word-requires (member-link-calls t) (member-link-at t) member-link.Post
 member-link-word-requires t c κs = search needs
@@ -72,7 +72,7 @@ pub +member-link-spec : {M : Type 1} → statement M
     member-link.Post
     (member-link-returns t)
     (member-link-returns-2 t)
-    (member-link-sub-row t)
+    (member-link-sub-struct-row t)
     (member-link-word-requires t)
     (member-link-wide-requires t)
     (member-link-sub-member-link t)

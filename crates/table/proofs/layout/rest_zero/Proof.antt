@@ -22,11 +22,11 @@ abbrev μ-loop : tie.MeasureT-loop
 word-requires : tie.Need-word-requires Inv-loop μ-loop
 word-requires c κs = search needs
 
-last-used-requires : tie.Need-last-used-requires Inv-loop μ-loop
-last-used-requires c κs = search needs
+words-used-requires : tie.Need-words-used-requires Inv-loop μ-loop
+words-used-requires c κs = search needs
 
 loop-holds : tie.Need-loop-holds Inv-loop μ-loop
-loop-holds c = let a = c .before .before .before .args in rest-upTo (a .rows .now) (a .r) _ _ (c .before .word .ensures) (c .last-used .ensures)
+loop-holds c = let a = c .before .before .before .args in rest-upTo (a .rows .now) (a .r) _ _ (c .before .word .ensures) (c .words-used .ensures)
 
 word-requires-2 : tie.Need-word-requires-2 Inv-loop μ-loop
 word-requires-2 c κs = search needs
@@ -53,7 +53,7 @@ rest-zero-spec =
     Inv-loop
     μ-loop
     word-requires
-    last-used-requires
+    words-used-requires
     loop-holds
     word-requires-2
     returns

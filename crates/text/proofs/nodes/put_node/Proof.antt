@@ -1,11 +1,11 @@
 -- `nodes::put_node` meets its contract: four stores where all four fit, or none.
--- The stores, at 4 * k and one, two and three past it, are `sets` by computation, once `+ 1` is written `suc`.
+-- The stores, at node-words * k and one, two and three past it, are `sets` by computation, once `+ 1` is written `suc`.
 use borrow.Author.Needs.{needs}
 use borrow.Author.Tests.{le-leb, lt-leb}
 use native.Mathlib.Omega.{arith}
 use native.Mathlib.Numerals.{towards-suc}
 use lib.ListN.{length-set}
-use Rattle.text.specs.Nodes.{putNode}
+use Rattle.text.specs.Nodes.{node-words, putNode}
 use Rattle.text.proofs.nodes.put_node.Statement.{statement}
 use Rattle.text.proofs.nodes.put_node.Tie as tie
 

@@ -1,9 +1,9 @@
--- `table::layout::last_used` gives the last word that a kind uses.
+-- `table::layout::words_used` gives the last word that a kind uses.
 -- Kind by kind; of any other number the list has nothing.
 use borrow.Author.Needs.{needs}
 use Rattle.table.proofs.LayoutFacts.{none-used}
-use Rattle.table.proofs.layout.last_used.Statement.{statement}
-use Rattle.table.proofs.layout.last_used.Tie as tie
+use Rattle.table.proofs.layout.words_used.Statement.{statement}
+use Rattle.table.proofs.layout.words_used.Tie as tie
 
 returns : tie.Need-returns
 returns c = search needs
@@ -35,8 +35,8 @@ returns-9 c = search needs
 returns-10 : tie.Need-returns-10
 returns-10 c = none-used (c .before .args .k) (c .match .rest)
 
-pub last-used-spec : {M : Type 1} → statement M
-last-used-spec =
+pub words-used-spec : {M : Type 1} → statement M
+words-used-spec =
     tie.close
     (tie.spec
     returns
