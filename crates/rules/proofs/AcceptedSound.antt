@@ -32,7 +32,7 @@ use Rattle.rules.specs.SchemaTable.{structLink, typeNamed, discriminator
 use Rattle.rules.specs.RawTable.{Every, EveryName, Spans}
 use Rattle.rules.specs.Sound.{sound, laidOut, restZero, referencesFit, toStruct}
 use Rattle.rules.specs.SchemaAnswers.{Says, Breaks, SchemaApplies}
-use Rattle.rules.specs.MessageAnswers.{MessageApplies, MessageOutcome}
+use Rattle.rules.specs.MessageAnswers.{messageOrder, MessageApplies, MessageOutcome}
 use Rattle.rules.specs.MessageAnswers.MessageOutcome.{accepted, refused}
 use Rattle.rules.specs.Answers.{schemaResult, messageResult}
 use Rattle.rules.specs.Cells.{Entry, blank, entries, wordsFrom, entryName, owns, EntryNames}
@@ -47,8 +47,8 @@ use Rattle.rules.proofs.EntryLinks.{row-is, EntryLinked, TagLinked, res
 use Rattle.rules.proofs.DefinitionForms.{Formed, definitions-formed}
 use Rattle.rules.proofs.NameSpans.{names-within}
 use Rattle.rules.proofs.SchemaLinks.{entries-linked}
-use Rattle.rules.proofs.MessageOutcome.{message-outcome}
-use Rattle.rules.proofs.Acceptance.{true-of}
+use Rattle.rules.proofs.Refusals.{first-has}
+use Rattle.rules.proofs.MessageOutcome.{true-of, message-outcome}
 use Rattle.rules.proofs.Room.{whole-rows, accepted-table}
 
 -- the name of an entry stands within the schema; an inline struct's takes no byte
@@ -224,4 +224,4 @@ never-unsound S room n e m lent q = go (message-outcome S W m lent)
 
     go : MessageOutcome S W m lent (messageResult S W m lent .answer) (messageResult S W m lent .words) → ⊥
     go (accepted h g k p w) = let z : _≡_ {A = ℕ} 0 1 = cc in omega arith
-    go (refused {x} s h p w) = let z : x ≡ M.UnsoundTable = cc in clash (accepted-rows S room n e) (subst (λ (y : MessageRefusal). MessageApplies y S W m lent) z s)
+    go (refused {x} h p w) = let z : x ≡ M.UnsoundTable = cc in clash (accepted-rows S room n e) (subst (λ (y : MessageRefusal). MessageApplies y S W m lent) z (first-has (λ y. MessageApplies y S W m lent) messageOrder h))

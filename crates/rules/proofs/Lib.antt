@@ -1,6 +1,7 @@
 -- In the order of the argument: general laws; rows as they are written; what a sound table gives; readings; answers; accepted schemas; the P table.
 pub mod Lists
 pub mod First
+pub mod Refusals
 pub mod Chains
 pub mod TableRows
 pub mod Cells

@@ -1,348 +1,248 @@
--- The message answer as a function is the one outcome that the paper's table allows: in a sound table each test says when its number applies, and the first that passes is the lowest.
--- The idea: the bytes decide the text, the envelope, the row and the reading, so a statement on any of these is one on what is computed. Where the table is unsound, 21 is the lowest of all.
-use Prim.Native.Nat.{ℕ, _/_, _<_}
+-- The message answer as a function is the one outcome that the order of refusals allows.
+-- The idea: each stage refuses where nothing before it applies, or shows that its refusal doesn't apply. The bytes decide the text and what it asks, so two outcomes agree.
+use Prim.Native.Nat.{ℕ, _/_, _≤_, _<_}
 use native.Mathlib.Omega.{arith}
-use mathlib.Core.Path.{_≡_, refl, sym, ap, _∙_}
-use mathlib.Core.Logic.{_↔_, ⊎-elim}
-use mathlib.Core.Bool.{Bool, true, false, not, _&&_}
-use mathlib.Core.List.{List, List·Memᴰ}
+use mathlib.Core.Path.{_≡_, refl, sym, ap, _∙_, subst}
+use mathlib.Core.Logic.{inl, inr}
+use mathlib.Core.Bool.{Bool, true, false, cond}
+use mathlib.Core.List.{List, [], _∷_}
 use mathlib.Core.Option.{Option, none, some}
 use lib.Dec.{ltb}
 use lib.ListN.{length}
-use borrow.Author.Tests.{ltb-true, lt-ltb, not-true}
+use borrow.Author.Tests.{ltb-true, ltb-false}
 use Rattle.grammar.specs.Limits.{message-bytes, record-words}
 use Rattle.grammar.specs.Tree.{Json}
 use Rattle.grammar.specs.Tree.Items.{no-items, item}
 use Rattle.grammar.specs.Keys.{keysOnce}
 use Rattle.grammar.specs.MessageText.{MessageText}
-use Rattle.grammar.specs.Starts.{TooDeep}
 use Rattle.grammar.specs.Machine.{Out}
 use Rattle.grammar.specs.Machine.Out.{whole, fault, deep}
 use Rattle.grammar.specs.Machine.Message.{readMessage}
-use Rattle.grammar.proofs.Texts.{message-text, message-item, message-deeper}
+use Rattle.grammar.proofs.Texts.{message-text, message-item, message-deeper, message-unique, message-valid-or-deep}
 use Rattle.rules.specs.declared.MessageRefusal.{MessageRefusal}
 use Rattle.rules.specs.declared.MessageRefusal.the-variants as M
 use Rattle.rules.specs.declared.MessageAnswer.{MessageAnswer}
-use Rattle.rules.specs.declared.MessageAnswer.the-variants as MA
-use Rattle.rules.specs.Values.{_>>=_}
-use Rattle.rules.specs.Rows.{rowCount, arguments}
-use Rattle.rules.specs.Rules.{is}
+use Rattle.rules.specs.declared.MessageAnswer.the-variants.{Accepted, Refused}
+use Rattle.rules.specs.Rows.{rowCount}
 use Rattle.rules.specs.Sound.{sound}
-use Rattle.rules.specs.Envelope.{Envelope, envelope, Names, mayUse}
-use Rattle.rules.specs.Readings.{Typed, ReadsArguments}
-use Rattle.rules.specs.ReadingOf.{argumentsReading}
-use Rattle.rules.specs.MessageAnswers.{refusalNumber, Encloses, Calls, OneTooMany, MessageApplies, MessageOutcome}
+use Rattle.rules.specs.Envelope.{Envelope, envelope, Names, mayUse, Asked, argumentsOf, Asks, Asks.command}
+use Rattle.rules.specs.Readings.{Typed, strict, recordsOf}
+use Rattle.rules.specs.Refusals.{FirstOf}
+use Rattle.rules.specs.MessageAnswers.{messageOrder, Encloses, AsksIn, ReadsAsked, MessageApplies, MessageOutcome, Readable, Held}
 use Rattle.rules.specs.MessageAnswers.MessageOutcome.{accepted, refused}
-use Rattle.rules.specs.Answers.{MessageResult, isNone, first, messageRefusals, valueIn, isDeep, commandFrom, commandOf, messageTest, messageAnswered, readingIn, messageResult}
-use Rattle.rules.proofs.First.{decided, Ascending, ascending, first-passes, first-none, first-lowest, none-first, lowest-first, head-lowest}
-use Rattle.rules.proofs.SchemaOutcome.{is-of, none-of, some-of, bind-some, nth}
-use Rattle.rules.proofs.Lists.{clash, is-true, and-left, and-right, and-of}
+use Rattle.rules.specs.Answers.{MessageResult, commandOf, Asking.asks, Asking.refuses, commandAsking, envelopeAsking, asking, askedReading, refusedBy, acceptedWith, readingResult, askedResult, valueResult, textResult, soundResult, messageResult}
+use Rattle.rules.proofs.Lists.{clash, none-not-some}
+use Rattle.rules.proofs.Refusals.{first-has, first-only}
 use Rattle.rules.proofs.SoundFacts.{sound-facts}
-use Rattle.rules.proofs.ReadingExact.{arguments-exact}
+use Rattle.rules.proofs.ReadingExact.{complete, unique, correct}
 use Rattle.rules.proofs.Commands.{command-found, command-missed}
 
-listed : (x : MessageRefusal) → List·Memᴰ x messageRefusals
-listed M.UnsoundTable = nth messageRefusals 0 M.UnsoundTable refl
-listed M.TooLong = nth messageRefusals 1 M.TooLong refl
-listed M.NotText = nth messageRefusals 2 M.NotText refl
-listed M.TooDeep = nth messageRefusals 3 M.TooDeep refl
-listed M.RepeatedKey = nth messageRefusals 4 M.RepeatedKey refl
-listed M.NotEnvelope = nth messageRefusals 5 M.NotEnvelope refl
-listed M.UnknownCommand = nth messageRefusals 6 M.UnknownCommand refl
-listed M.NotOutOfBand = nth messageRefusals 7 M.NotOutOfBand refl
-listed M.NoReading = nth messageRefusals 8 M.NoReading refl
-listed M.NoRoom = nth messageRefusals 9 M.NoRoom refl
+-- a test that is not false is true
+pub true-of : (b : Bool) → (b ≡ false → ⊥) → b ≡ true
+true-of true h = refl
+true-of false h = absurd (h refl)
 
-rising : Ascending refusalNumber messageRefusals
-rising = ascending refusalNumber messageRefusals refl
+-- the refusals that are left once a stage is passed
+abbrev after-band : List MessageRefusal
+after-band = M.NoReading ∷ M.NoRoom ∷ []
 
-no-clash : {A B : Type 0} {o : Option B} {b : B} → o ≡ none → o ≡ some b → A
-no-clash e f = let z : _≡_ {A = ℕ} 0 1 = cc in absurd (omega arith)
+abbrev after-command : List MessageRefusal
+after-command = M.NotOutOfBand ∷ after-band
 
--- in a sound table the reading is the one computed, and a name finds one command
-exact : (S T : List ℕ) → sound S T ≡ true → (c : ℕ) (j : Json) (ts : List Typed) → ReadsArguments S T c j ts ↔ (argumentsReading S T (arguments T c) j ≡ some ts)
-exact S T ok = arguments-exact S T (sound-facts S T ok)
+abbrev after-envelope : List MessageRefusal
+after-envelope = M.UnknownCommand ∷ after-command
 
-same-row : (S T : List ℕ) → sound S T ≡ true → (x : List ℕ) (c d : ℕ) → Names S T x c → Names S T x d → c ≡ d
-same-row S T ok = sound-facts S T ok .one-command
+abbrev after-keys : List MessageRefusal
+after-keys = M.NotEnvelope ∷ after-envelope
 
-module _ (m : List ℕ) where
-  value : Option Json
-  value = valueIn (readMessage m)
+abbrev after-text : List MessageRefusal
+after-text = M.RepeatedKey ∷ after-keys
 
-  value-text : (j : Json) → value ≡ some j → MessageText m j
-  unfolding value
-  value-text j e = go (readMessage m) refl e
-    where
-      go : (o : Out) → readMessage m ≡ o → valueIn o ≡ some j → MessageText m j
-      go (whole no-items) p q = no-clash refl q
-      go (whole (item k ks)) p q =
-          let z = message-item p .1 in
-          let y : item k ks ≡ item j no-items = cc in
-          message-text m j .0 (p ∙ ap whole y)
-      go (fault n) p q = no-clash refl q
-      go (deep n) p q = no-clash refl q
+abbrev after-size : List MessageRefusal
+after-size = M.NotText ∷ M.TooDeep ∷ after-text
 
-  text-value : (j : Json) → MessageText m j → value ≡ some j
-  unfolding value
-  text-value j t = ap valueIn (message-text m j .1 t)
+-- in a sound table a message asks for one thing
+module _ (S T : List ℕ) (ok : sound S T ≡ true) where
+  one-command : {x y : List ℕ} {c d : ℕ} → x ≡ y → Names S T x c → Names S T y d → c ≡ d
+  one-command {x} {y} {c} {d} e n o = sound-facts S T ok .one-command y c d (subst (λ (z : List ℕ). Names S T z c) e n) o
 
-  deep-test : isDeep (readMessage m) ≡ true → OneTooMany m
-  deep-test e = go (readMessage m) refl e
-    where
-      go : (o : Out) → readMessage m ≡ o → isDeep o ≡ true → OneTooMany m
-      go (whole js) p q = clash q refl
-      go (fault n) p q = clash q refl
-      go (deep n) p q = (n, message-deeper m n .0 p)
-
-  test-deep : OneTooMany m → isDeep (readMessage m) ≡ true
-  test-deep (n, t) = ap isDeep (message-deeper m n .1 t)
-
-  opened : Option Envelope
-  opened = value >>= envelope
-
-  encloses : (v : Envelope) → Encloses m v → opened ≡ some v
-  unfolding opened
-  encloses v h = rw (text-value (h .value) (h .is-text)) (h .proper)
-
-  enclosed : (v : Envelope) → opened ≡ some v → Encloses m v
-  unfolding opened
-  enclosed v e = let z = bind-some value envelope v e in record { value = z .0; is-text = value-text (z .0) (z .1); proper = z .2 }
-
-  not-text : ((j : Json) → MessageText m j → ⊥) → (OneTooMany m → ⊥) → (isNone value && not (isDeep (readMessage m))) ≡ true
-  not-text h g = and-of (isNone value) (not (isDeep (readMessage m))) (go value refl) (rw (decided (isDeep (readMessage m)) (λ e. g (deep-test e))))
-    where
-      go : (o : Option Json) → value ≡ o → isNone o ≡ true
-      go none e = refl
-      go (some j) e = absurd (h j (value-text j e))
-
-  not-opened : (j : Json) → MessageText m j → envelope j ≡ none → opened ≡ none
-  unfolding opened
-  not-opened j t e = rw (text-value j t) e
-
-  no-envelope : (j : Json) → value ≡ some j → opened ≡ none → envelope j ≡ none
-  unfolding opened
-  no-envelope j p e = rw p at e
+  pub same-asked : {i j : Json} {a b : Asked} → i ≡ j → Asks S T i a → Asks S T j b → a ≡ b
+  same-asked {i} {j} {a} {b} p (command {v} {c} e n u z) (command {v = w} {c = d} f o t y) =
+      let g : envelope j ≡ some v = ap envelope (sym p) ∙ e in
+      let q : v ≡ w = cc in
+      let r : c ≡ d = one-command (ap (λ (x : Envelope). x .name) q) n o in
+      z ∙ ap (λ (x : Envelope). argumentsOf T x c) q ∙ ap (argumentsOf T w) r ∙ sym y
 
 module _ (S T m : List ℕ) (room : ℕ) where
-  row : Option ℕ
-  row = opened m >>= commandOf S T
+  abbrev Applies : MessageRefusal → Type 0
+  Applies x = MessageApplies x S T m room
 
-  reading : Option (List Typed)
-  reading = readingIn S T m room (opened m) row
+  abbrev Outcome : MessageResult → Type 0
+  Outcome r = MessageOutcome S T m room (r .answer) (r .words)
 
-  test : MessageRefusal → Bool
-  test x = messageTest S T m room (readMessage m) (opened m) row reading x
+  -- nothing before the list applies, so the first of it that does is the first of all
+  abbrev From : List MessageRefusal → Type 0
+  From xs = (x : MessageRefusal) → FirstOf Applies xs x → FirstOf Applies messageOrder x
 
-  module _ (ok : sound S T ≡ true) where
-    calls : (v : Envelope) (c : ℕ) → Calls S T m v c → row ≡ some c
-    unfolding row
-    calls v c h = rw (encloses m v (h .encloses)) (go (commandOf S T v) refl)
-      where
-        go : (o : Option ℕ) → commandFrom S T (v .name) 0 (rowCount T) ≡ o → o ≡ some c
-        go none e = absurd (command-missed S T (v .name) (rowCount T) 0 (omega arith) e c (omega arith) (h .names))
-        go (some d) e = ap some (same-row S T ok (v .name) d c (command-found S T (v .name) (rowCount T) 0 d (omega arith) e) (h .names))
+  here : (y : MessageRefusal) (xs : List MessageRefusal) → From (y ∷ xs) → Applies y → Outcome (refusedBy room y)
+  here y xs k p = refused (k y (inl (refl, p))) refl refl
 
-    called : (v : Envelope) (c : ℕ) → opened m ≡ some v → row ≡ some c → Calls S T m v c
-    unfolding row
-    called v c p e = record { encloses = enclosed m v p; names = command-found S T (v .name) (rowCount T) 0 c (omega arith) (rw p at e) }
+  past : (y : MessageRefusal) (xs : List MessageRefusal) → From (y ∷ xs) → (Applies y → ⊥) → From xs
+  past y xs k n x h = k x (inr (n, h))
 
-    uncalled : (v : Envelope) → Encloses m v → ((c : ℕ) → Names S T (v .name) c → ⊥) → row ≡ none
-    unfolding row
-    uncalled v p h = rw (encloses m v p) (go (commandOf S T v) refl)
-      where
-        go : (o : Option ℕ) → commandFrom S T (v .name) 0 (rowCount T) ≡ o → o ≡ none
-        go none e = refl
-        go (some c) e = absurd (h c (command-found S T (v .name) (rowCount T) 0 c (omega arith) e))
-
-    no-command : (v : Envelope) → opened m ≡ some v → row ≡ none → (c : ℕ) → Names S T (v .name) c → ⊥
-    unfolding row
-    no-command v p e c h = command-missed S T (v .name) (rowCount T) 0 (omega arith) (rw p at e) c (omega arith) h
-
-    reading-is : (v : Envelope) (c : ℕ) → opened m ≡ some v → row ≡ some c → reading ≡ argumentsReading S T (arguments T c) (v .arguments)
-    unfolding reading
-    reading-is v c p q = rw (p, q)
-
-    opened-of : (c : ℕ) → row ≡ some c → (v : Envelope) × (opened m ≡ some v)
-    unfolding row
-    opened-of c e = let z = bind-some (opened m) (commandOf S T) c e in (z .0, z .1)
-
-    row-of : (ts : List Typed) → reading ≡ some ts → (c : ℕ) × (row ≡ some c)
-    unfolding reading
-    row-of ts e = go (opened m) row refl e
-      where
-        go : (v : Option Envelope) (c : Option ℕ) → row ≡ c → readingIn S T m room v c ≡ some ts → (d : ℕ) × (row ≡ some d)
-        go none c p q = no-clash refl q
-        go (some v) none p q = no-clash refl q
-        go (some v) (some c) p q = (c, p)
-
-    -- each test says when its number applies
-    applies-test : (x : MessageRefusal) → MessageApplies x S T m room → test x ≡ true
-    unfolding test value
-    applies-test M.UnsoundTable e = clash ok e
-    applies-test M.TooLong h = lt-ltb message-bytes (length m) h
-    applies-test M.NotText (h, g) = not-text m h g
-    applies-test M.TooDeep t = test-deep m t
-    applies-test M.RepeatedKey (j, t, e) = is-of (value m) (λ j. not (keysOnce j)) j (text-value m j t) (rw e)
-    applies-test M.NotEnvelope (j, t, e) = is-of (value m) (λ j. isNone (opened m)) j (text-value m j t) (rw (not-opened m j t e))
-    applies-test M.UnknownCommand (v, p, h) = is-of (opened m) (λ x. isNone row) v (encloses m v p) (rw (uncalled v p h))
-    applies-test M.NotOutOfBand (v, c, h, e) =
-        is-of (opened m) (λ x. is row (λ r. not (mayUse T r (x .outOfBand)))) v (encloses m v (h .encloses))
-        (is-of row (λ r. not (mayUse T r (v .outOfBand))) c (calls v c h) (rw e))
-    applies-test M.NoReading (v, c, h, g) = is-of row (λ r. isNone reading) c (calls v c h) (unread (encloses m v (h .encloses)) (calls v c h))
-      where
-        go : (o : Option (List Typed)) → argumentsReading S T (arguments T c) (v .arguments) ≡ o → isNone o ≡ true
-        go none e = refl
-        go (some ts) e = absurd (g ts (exact S T ok c (v .arguments) ts .1 e))
-
-        unread : opened m ≡ some v → row ≡ some c → isNone reading ≡ true
-        unread p q = rw (reading-is v c p q) (go (argumentsReading S T (arguments T c) (v .arguments)) refl)
-    applies-test M.NoRoom (v, c, h, ts, g, l) =
-        is-of reading (λ x. ltb (room / record-words) (length x)) ts
-        (reading-is v c (encloses m v (h .encloses)) (calls v c h) ∙ exact S T ok c (v .arguments) ts .0 g) (lt-ltb (room / record-words) (length ts) l)
-
-    test-applies : (x : MessageRefusal) → test x ≡ true → MessageApplies x S T m room
-    unfolding test value
-    test-applies M.UnsoundTable e = not-true (sound S T) e
-    test-applies M.TooLong e = ltb-true message-bytes (length m) e
-    test-applies M.NotText e =
-        let p = none-of (value m) (and-left (isNone (value m)) (not (isDeep (readMessage m))) e) in
-        let q = not-true (isDeep (readMessage m)) (and-right (isNone (value m)) (not (isDeep (readMessage m))) e) in
-        (λ j t. no-clash p (text-value m j t), λ t. clash (test-deep m t) q)
-    test-applies M.TooDeep e = deep-test m e
-    test-applies M.RepeatedKey e =
-        let z = is-true (value m) (λ j. not (keysOnce j)) e in (z .0, value-text m (z .0) (z .1), not-true (keysOnce (z .0)) (z .2))
-    test-applies M.NotEnvelope e =
-        let z = is-true (value m) (λ j. isNone (opened m)) e in
-        (z .0, value-text m (z .0) (z .1), no-envelope m (z .0) (z .1) (none-of (opened m) (z .2)))
-    test-applies M.UnknownCommand e =
-        let z = is-true (opened m) (λ x. isNone row) e in (z .0, enclosed m (z .0) (z .1), no-command (z .0) (z .1) (none-of row (z .2)))
-    test-applies M.NotOutOfBand e =
-        let z = is-true (opened m) (λ x. is row (λ r. not (mayUse T r (x .outOfBand)))) e in
-        let y = is-true row (λ r. not (mayUse T r (z .0 .outOfBand))) (z .2) in
-        (z .0, y .0, called (z .0) (y .0) (z .1) (y .1), not-true (mayUse T (y .0) (z .0 .outOfBand)) (y .2))
-    test-applies M.NoReading e =
-        let y = is-true row (λ r. isNone reading) e in
-        let z = opened-of (y .0) (y .1) in
-        let n = none-of reading (y .2) in (
-          z .0,
-          y .0,
-          called (z .0) (y .0) (z .1) (y .1),
-          λ ts g. no-clash n (reading-is (z .0) (y .0) (z .1) (y .1) ∙ exact S T ok (y .0) (z .0 .arguments) ts .0 g),
-        )
-    test-applies M.NoRoom e =
-        let x = is-true reading (λ x. ltb (room / record-words) (length x)) e in
-        let y = row-of (x .0) (x .1) in
-        let z = opened-of (y .0) (y .1) in (
-          z .0,
-          y .0,
-          called (z .0) (y .0) (z .1) (y .1),
-          x .0,
-          exact S T ok (y .0) (z .0 .arguments) (x .0) .1 (sym (reading-is (z .0) (y .0) (z .1) (y .1)) ∙ x .1),
-          ltb-true (room / record-words) (length (x .0)) (x .2),
-        )
-
-  -- where no number applies there are an envelope, a row and a reading
-  record Read : Type 0 where
-    of-envelope : Envelope
-    of-row : ℕ
-    of-reading : List Typed
-    opens : opened m ≡ some of-envelope
-    finds : row ≡ some of-row
-    reads : reading ≡ some of-reading
-
-  there : ((x : MessageRefusal) → test x ≡ false) → Read
-  unfolding test value
-  there h =
-      let not-deep : isDeep (readMessage m) ≡ false = h M.TooDeep in
-      let j = some-of (value m) (and-first (isNone (value m)) (rw not-deep at (h M.NotText))) in
-      let v = some-of (opened m) (rw (j .1) at (h M.NotEnvelope)) in
-      let c = some-of row (rw (v .1) at (h M.UnknownCommand)) in
-      let ts = some-of reading (rw (c .1) at (h M.NoReading)) in
-      record { of-envelope = v .0; of-row = c .0; of-reading = ts .0; opens = v .1; finds = c .1; reads = ts .1 }
+  -- no refusal applies to what is readable and held
+  pub unrefused : {a : Asked} {ts : List Typed} → Readable S T m a ts → Held room ts → (x : MessageRefusal) → Applies x → ⊥
+  unrefused r f M.UnsoundTable e = clash (r .sound-table) e
+  unrefused r f M.TooLong l = omega (arith, r .short)
+  unrefused r f M.NotText (h, g) = h (r .value) (r .is-text)
+  unrefused r f M.TooDeep (e, t) = message-valid-or-deep (r .is-text) t
+  unrefused r f M.RepeatedKey (j, t, e) = clash (subst (λ (x : Json). keysOnce x ≡ true) (message-unique (r .is-text) t) (r .keys-once)) e
+  unrefused r f M.NotEnvelope (j, t, e) = go (r .asks)
     where
-      and-first : (b : Bool) → (b && true) ≡ false → b ≡ false
-      and-first true e = e
-      and-first false e = refl
-
-  outcome : MessageResult
-  outcome = messageAnswered S T m room row reading (first test messageRefusals)
-
-  result-is : messageResult S T m room ≡ outcome
-  unfolding outcome test reading row opened value messageResult
-  result-is = refl
-
-  Allowed : Option MessageRefusal → Type 0
-  Allowed o = MessageOutcome S T m room (messageAnswered S T m room row reading o .answer) (messageAnswered S T m room row reading o .words)
-
-  -- in a sound table the outcome is one that the table of answers allows
-  allowed-sound : sound S T ≡ true → (o : Option MessageRefusal) → first test messageRefusals ≡ o → Allowed o
-  unfolding Allowed
-  allowed-sound ok none e =
-      let no-test : (x : MessageRefusal) → test x ≡ false = λ x. first-none refusalNumber test messageRefusals e x (listed x) in
-      let z = there no-test in
-      rw (z .finds, z .reads)
-      (accepted (called ok (z .of-envelope) (z .of-row) (z .opens) (z .finds))
-      (exact S T ok (z .of-row) (z .of-envelope .arguments) (z .of-reading) .1 (sym (reading-is ok (z .of-envelope) (z .of-row) (z .opens) (z .finds)) ∙ z .reads))
-      (λ x a. clash (applies-test ok x a) (no-test x)) refl refl)
-  allowed-sound ok (some x) e =
-      refused (test-applies ok x (first-passes refusalNumber test messageRefusals x e))
-      (λ y h a. clash (applies-test ok y a) (first-lowest refusalNumber test messageRefusals rising x e y (listed y) h)) refl refl
-
-  -- in an unsound one the first test passes, and nothing is lower
-  first-unsound : sound S T ≡ false → first test messageRefusals ≡ some M.UnsoundTable
-  unfolding test
-  first-unsound e = rw e
-
-  lowest : (y : MessageRefusal) → refusalNumber y < 21 → ⊥
-  lowest y h = ⊎-elim (λ (q : y ≡ M.UnsoundTable). let w : refusalNumber y ≡ 21 = ap refusalNumber q in omega arith) (λ l. omega arith) (head-lowest refusalNumber rising y (listed y))
-
-  allowed-unsound : sound S T ≡ false → Allowed (some M.UnsoundTable)
-  unfolding Allowed
-  allowed-unsound e =
-      refused e (λ y h a. absurd (lowest y h)) refl refl
-
-  allowed : MessageOutcome S T m room (outcome .answer) (outcome .words)
-  unfolding outcome Allowed
-  allowed = go (sound S T) refl
+      go : {a : Asked} → Asks S T (r .value) a → ⊥
+      go (command {v} p n u z) = none-not-some (sym e ∙ ap envelope (sym (message-unique (r .is-text) t)) ∙ p)
+  unrefused r f M.UnknownCommand (v, w, h) = go (r .asks)
     where
-      go : (b : Bool) → sound S T ≡ b → Allowed (first test messageRefusals)
-      go true e = allowed-sound e (first test messageRefusals) refl
-      go false e = rw (first-unsound e) (allowed-unsound e)
-
-  Is : MessageAnswer → List ℕ → Option MessageRefusal → Type 0
-  Is a w o = (a ≡ messageAnswered S T m room row reading o .answer) × (w ≡ messageAnswered S T m room row reading o .words)
-
-  only-sound : sound S T ≡ true → (a : MessageAnswer) (w : List ℕ) → MessageOutcome S T m room a w → Is a w (first test messageRefusals)
-  unfolding Is
-  only-sound ok a w (accepted {v} {c} {ts} h g k p q) =
-      let d = calls ok v c h in
-      let r : reading ≡ some ts = reading-is ok v c (encloses m v (h .encloses)) d ∙ exact S T ok c (v .arguments) ts .0 g in
-      let e : first test messageRefusals ≡ none = none-first refusalNumber test messageRefusals (λ x n. decided (test x) (λ t. k x (test-applies ok x t))) in
-      rw (e, d, r) (p, q)
-  only-sound ok a w (refused {x} s h p q) =
-      let e : first test messageRefusals ≡ some x =
-      lowest-first refusalNumber test messageRefusals rising x (listed x) (applies-test ok x s) (λ y g. decided (test y) (λ t. h y g (test-applies ok y t))) in
-      rw e (p, q)
-
-  only-unsound : sound S T ≡ false → (a : MessageAnswer) (w : List ℕ) → MessageOutcome S T m room a w → Is a w (some M.UnsoundTable)
-  unfolding Is
-  only-unsound e a w (accepted h g k p q) = absurd (k M.UnsoundTable e)
-  only-unsound e a w (refused {x} s h p q) =
-      ⊎-elim (λ (z : x ≡ M.UnsoundTable). (p ∙ ap (λ y. MA.Refused y) z, q)) (λ l. absurd (h M.UnsoundTable l e)) (head-lowest refusalNumber rising x (listed x))
-
-  only : (a : MessageAnswer) (w : List ℕ) → MessageOutcome S T m room a w → (a ≡ outcome .answer) × (w ≡ outcome .words)
-  unfolding outcome Is
-  only a w h = go (sound S T) refl
+      go : {a : Asked} → Asks S T (r .value) a → ⊥
+      go (command {v = u} {c} p n b z) =
+          let q : envelope (w .value) ≡ some u = ap envelope (sym (message-unique (r .is-text) (w .is-text))) ∙ p in
+          let g = w .proper in
+          let e : u ≡ v = cc in
+          h c (subst (λ (x : Envelope). Names S T (x .name) c) e n)
+  unrefused r f M.NotOutOfBand (v, w, d, o, h) = go (r .asks)
     where
-      go : (b : Bool) → sound S T ≡ b → Is a w (first test messageRefusals)
-      go true e = only-sound e a w h
-      go false e = rw (first-unsound e) (only-unsound e a w h)
+      go : {a : Asked} → Asks S T (r .value) a → ⊥
+      go (command {v = u} {c} p n b z) =
+          let q : envelope (w .value) ≡ some u = ap envelope (sym (message-unique (r .is-text) (w .is-text))) ∙ p in
+          let g = w .proper in
+          let e : u ≡ v = cc in
+          let i : c ≡ d = one-command S T (r .sound-table) (ap (λ (x : Envelope). x .name) e) n o in
+          let y : mayUse T c (u .outOfBand) ≡ mayUse T d (v .outOfBand) = cc in
+          clash b (y ∙ h)
+  unrefused {ts = ts} r f M.NoReading (b, w, h) =
+      h ts (subst (λ (x : Asked). ReadsAsked S T x ts) (same-asked S T (r .sound-table) (message-unique (r .is-text) (w .is-text)) (r .asks) (w .asks)) (r .reads))
+  unrefused {a} {ts} r f M.NoRoom (b, w, us, g, l) =
+      let e : a ≡ b = same-asked S T (r .sound-table) (message-unique (r .is-text) (w .is-text)) (r .asks) (w .asks) in
+      let z : ts ≡ us = unique strict S T (sound-facts S T (r .sound-table)) (subst (λ (x : Asked). ReadsAsked S T x ts) e (r .reads)) g in
+      let n : length ts ≡ length us = ap length z in
+      omega arith
 
-  -- The paper's table of message answers: for every schema, table, message and room there is one outcome, the one that messageResult gives.
-  pub message-outcome : MessageOutcome S T m room (messageResult S T m room .answer) (messageResult S T m room .words)
-  message-outcome = rw result-is allowed
+  module _ (ok : sound S T ≡ true) (short : length m ≤ message-bytes) (j : Json) (t : MessageText m j) (once : keysOnce j ≡ true) where
+    -- 29 and 30
+    read : (a : Asked) → Asks S T j a → From after-band → Outcome (readingResult room (a .second) (askedReading S T a))
+    read a q k = go (askedReading S T a) refl
+      where
+        asks-in : AsksIn S T m a
+        asks-in = record { value = j; is-text = t; asks = q }
 
-  pub message-outcome-only : (a : MessageAnswer) (w : List ℕ) → MessageOutcome S T m room a w
-      → (a ≡ messageResult S T m room .answer) × (w ≡ messageResult S T m room .words)
-  message-outcome-only a w h = rw result-is (only a w h)
+        fits : (ts : List Typed) → ReadsAsked S T a ts → (b : Bool) → ltb (room / record-words) (length ts) ≡ b
+            → Outcome (cond b (refusedBy room M.NoRoom) (acceptedWith room (a .second) ts))
+        fits ts r true e =
+            here M.NoRoom [] (past M.NoReading (M.NoRoom ∷ []) k (λ (b, w, h). h ts
+            (subst (λ (x : Asked). ReadsAsked S T x ts) (same-asked S T ok (message-unique t (w .is-text)) q (w .asks)) r)))
+            (a, asks-in, ts, r, ltb-true (room / record-words) (length ts) e)
+        fits ts r false e =
+            accepted asks-in r
+            (unrefused (record { sound-table = ok; short = short; value = j; is-text = t; keys-once = once; asks = q; reads = r }) (ltb-false (room / record-words) (length ts) e)) refl refl
+
+        go : (o : Option (List Typed)) → askedReading S T a ≡ o → Outcome (readingResult room (a .second) o)
+        go none e = here M.NoReading (M.NoRoom ∷ []) k (a, asks-in, λ ts r. none-not-some (sym e ∙ complete strict S T (sound-facts S T ok) r))
+        go (some ts) e = fits ts (correct strict S T (sound-facts S T ok) (a .value) (a .ref) (a .array) ts e) (ltb (room / record-words) (length ts)) refl
+
+    -- 26 to 28
+    module _ (v : Envelope) (e : envelope j ≡ some v) where
+      same-envelope : (u : Envelope) → Encloses m u → u ≡ v
+      same-envelope u w = let g = w .proper in let h : envelope (w .value) ≡ some v = ap envelope (sym (message-unique t (w .is-text))) ∙ e in cc
+
+      encloses : Encloses m v
+      encloses = record { value = j; is-text = t; proper = e }
+
+      by-band : (c : ℕ) → Names S T (v .name) c → From after-command
+          → (b : Bool) → mayUse T c (v .outOfBand) ≡ b → Outcome (askedResult S T room (cond b (asks (argumentsOf T v c)) (refuses M.NotOutOfBand)))
+      by-band c n k false b = here M.NotOutOfBand after-band k (v, encloses, c, n, b)
+      by-band c n k true b =
+          read (argumentsOf T v c) (command e n b refl) (past M.NotOutOfBand after-band k (λ (u, w, d, o, h).
+          let p = same-envelope u w in
+          let i : d ≡ c = one-command S T ok (ap (λ (x : Envelope). x .name) p) o n in
+          let y : mayUse T c (v .outOfBand) ≡ mayUse T d (u .outOfBand) = cc in
+          clash b (y ∙ h)))
+
+      by-command : From after-envelope
+          → (o : Option ℕ) → commandOf S T v ≡ o → Outcome (askedResult S T room (commandAsking S T v o))
+      by-command k none f =
+          here M.UnknownCommand after-command k
+          (v, encloses, λ c n. command-missed S T (v .name) (rowCount T) 0 (omega arith) f c (omega arith) n)
+      by-command k (some c) f =
+          let n = command-found S T (v .name) (rowCount T) 0 c (omega arith) f in
+          by-band c n (past M.UnknownCommand after-command k (λ (u, w, h).
+          h c (subst (λ (x : Envelope). Names S T (x .name) c) (sym (same-envelope u w)) n))) (mayUse T c (v .outOfBand)) refl
+
+    asked : From after-keys → Outcome (askedResult S T room (asking S T j))
+    asked k = go (envelope j) refl
+      where
+        go : (o : Option Envelope) → envelope j ≡ o → Outcome (askedResult S T room (envelopeAsking S T o))
+        go none e = here M.NotEnvelope after-envelope k (j, t, e)
+        go (some v) e =
+            by-command v e (past M.NotEnvelope after-envelope k (λ (i, u, f).
+            none-not-some (sym f ∙ ap envelope (sym (message-unique t u)) ∙ e))) (commandOf S T v) refl
+
+  module _ (ok : sound S T ≡ true) (short : length m ≤ message-bytes) where
+    -- 25
+    keys : (j : Json) → MessageText m j
+        → From after-text → Outcome (valueResult S T room j)
+    keys j t k = go (keysOnce j) refl
+      where
+        go : (b : Bool) → keysOnce j ≡ b → Outcome (cond b (askedResult S T room (asking S T j)) (refusedBy room M.RepeatedKey))
+        go true e = asked ok short j t e (past M.RepeatedKey after-keys k
+            (λ (i, u, f). clash (subst (λ (x : Json). keysOnce x ≡ true) (message-unique t u) e) f))
+        go false e = here M.RepeatedKey after-keys k (j, t, e)
+
+    -- 23 and 24
+    text : From after-size → Outcome (textResult S T room (readMessage m))
+    text k = go (readMessage m) refl
+      where
+        go : (o : Out) → readMessage m ≡ o → Outcome (textResult S T room o)
+        go (whole no-items) e = let z = message-item e .1 in let y : _≡_ {A = ℕ} 0 1 = cc in absurd (omega arith)
+        go (whole (item j js)) e =
+            let i = message-item e in
+            let z = i .1 in
+            let q : i .0 ≡ j = cc in
+            let t : MessageText m j = subst (MessageText m) q (i .2) in
+            keys j t (past M.TooDeep after-text (past M.NotText (M.TooDeep ∷ after-text) k (λ (h, g). h j t)) (λ (n, d). message-valid-or-deep t d))
+        go (fault n) e =
+            here M.NotText (M.TooDeep ∷ after-text) k
+            ((λ j t. let z = message-text m j .1 t in let y : _≡_ {A = ℕ} 0 1 = cc in omega arith), λ (i, d). let z = message-deeper m i .1 d in let y : _≡_ {A = ℕ} 0 1 = cc in omega arith)
+        go (deep n) e = let d = message-deeper m n .0 e in here M.TooDeep after-text (past M.NotText (M.TooDeep ∷ after-text) k (λ (h, g). g (n, d))) (n, d)
+
+  -- 22
+  size : sound S T ≡ true → From (M.TooLong ∷ after-size) → Outcome (soundResult S T m room)
+  unfolding soundResult
+  size ok k = go (ltb message-bytes (length m)) refl
+    where
+      go : (b : Bool) → ltb message-bytes (length m) ≡ b → Outcome (cond b (refusedBy room M.TooLong) (textResult S T room (readMessage m)))
+      go true e = here M.TooLong after-size k (ltb-true message-bytes (length m) e)
+      go false e = let l = ltb-false message-bytes (length m) e in text ok l (past M.TooLong after-size k (λ (h : message-bytes < length m). omega arith))
+
+  -- The order of refusals decides every message: there is one outcome, the one that messageResult gives.
+  pub message-outcome : Outcome (messageResult S T m room)
+  unfolding messageResult
+  message-outcome = go (sound S T) refl
+    where
+      go : (b : Bool) → sound S T ≡ b → Outcome (cond b (soundResult S T m room) (refusedBy room M.UnsoundTable))
+      go true e = size e (past M.UnsoundTable (M.TooLong ∷ after-size) (λ x h. h) (λ f. clash e f))
+      go false e = here M.UnsoundTable (M.TooLong ∷ after-size) (λ x h. h) e
+
+  same-outcome : {a b : MessageAnswer} {w u : List ℕ} → MessageOutcome S T m room a w → MessageOutcome S T m room b u → (a ≡ b) × (w ≡ u)
+  same-outcome (accepted {a} {ts} p r n e f) (accepted {a = b} {ts = us} q g o i k) =
+      let ok = true-of (sound S T) (n M.UnsoundTable) in
+      let z : a ≡ b = same-asked S T ok (message-unique (p .is-text) (q .is-text)) (p .asks) (q .asks) in
+      let y : ts ≡ us = unique strict S T (sound-facts S T ok) (subst (λ (x : Asked). ReadsAsked S T x ts) z r) g in (
+        e ∙ ap (λ (x : Asked). Accepted (x .second) (length ts)) z ∙ ap (λ (x : List Typed). Accepted (b .second) (length x)) y ∙ sym i,
+        f ∙ ap (λ (x : List Typed). acceptedWith room 0 x .words) y ∙ sym k,
+      )
+  same-outcome (accepted p r n e f) (refused {x} h i k) = absurd (n x (first-has Applies messageOrder h))
+  same-outcome (refused {x} h i k) (accepted p r n e f) = absurd (n x (first-has Applies messageOrder h))
+  same-outcome (refused h e f) (refused g i k) = (e ∙ ap Refused (first-only Applies messageOrder h g) ∙ sym i, f ∙ sym k)
+
+  pub message-outcome-only : (a : MessageAnswer) (w : List ℕ) → MessageOutcome S T m room a w → (a ≡ messageResult S T m room .answer) × (w ≡ messageResult S T m room .words)
+  message-outcome-only a w h = same-outcome h message-outcome

@@ -13,16 +13,14 @@ use Rattle.grammar.specs.Notation.{within}
 use Rattle.grammar.specs.Tree.{Json, Items, Fields, Kind, kindOf}
 use Rattle.grammar.specs.Tree.Scalar.{num, str}
 use Rattle.grammar.specs.Tree.Json.{leaf, arr, obj}
-use Rattle.grammar.specs.Tree.Fields.{no-fields}
 use Rattle.grammar.specs.Tree.Kind.{object, array, string, number, boolean, null-kind}
 use Rattle.rules.specs.Kinds.{enum-kind}
 use Rattle.rules.specs.Types.{any-type, takes}
 use Rattle.rules.specs.Rows.{kind}
-use Rattle.rules.specs.Readings.{Typed, typed, Reads, ReadsArguments}
-use Rattle.rules.specs.Readings.Reads.{built-in, any-value, enum, struct, union, alternate, array as array-of}
+use Rattle.rules.specs.Readings.{Typed, typed, Reads}
+use Rattle.rules.specs.Readings.Reads.{built-in, any-value, enum, struct, no-type, union, alternate, array as array-of}
 use Rattle.rules.specs.Readings.ReadsItems.{no-item, one-item}
 use Rattle.rules.specs.Readings.ReadsFields.{no-field, one-field}
-use Rattle.rules.specs.Readings.ReadsArguments.{no-data, with-data}
 use Rattle.rules.proofs.Lists.{and-of, of-not}
 use Rattle.rules.proofs.Grid.{other-kind, grid-entry, takes-below, grid-takes}
 
@@ -101,12 +99,13 @@ module _ (T : List ℕ) where
   both-of ts us vs f g p x m = ⊎-elim (f x) (g x) (List·Memᴰ·append-cases ts (subst (List·Memᴰ x) p m))
 
 module _ (S T : List ℕ) where
-  pub reads-unquoted : {j : Json} {t f : ℕ} {ts : List Typed} → Reads S T j t f ts → (x : Typed) → List·Memᴰ x ts → Unquoted T x
+  pub reads-unquoted : {passes : Bool} {j : Json} {t f : ℕ} {ts : List Typed} → Reads passes S T j t f ts → (x : Typed) → List·Memᴰ x ts → Unquoted T x
   reads-unquoted h = elim h as (λ j t f ts d. AllUnquoted T ts) (λ js t ts d. AllUnquoted T ts) (λ ms fs ts d. AllUnquoted T ts) [
     | built-in {a} {e} {t} {v} h ↦ first-and T _ _ (at-built-in T (leaf a e v) t 0 (grid-takes t v h)) (none-of T)
     | any-value {j} ↦ first-and T _ _ (at-any T j) (none-of T)
     | enum {a} {e} {t} {cs = cs} r z k v n ↦ first-and T _ _ (at-row T (leaf a e (str cs)) t 0 r z (λ p _. other-kind string number refl p)) (none-of T)
     | struct {a} {e} {t} {fs} r z k g n (h → ih) ↦ first-and T _ _ (at-object T a e fs t) ih
+    | no-type {a} {e} {fs} (h → ih) ↦ first-and T _ _ (at-object T a e fs 0) ih
     | union {a} {e} {t} {fs} r z k g b q n (h → ih) ↦ first-and T _ _ (at-object T a e fs t) ih
     | alternate {j} {t} r z k c (h → ih) ↦ first-and T _ _ (at-row T j t 0 r z (λ _ (q : kind T r ≡ enum-kind). omega arith)) ih
     | array-of {a} {e} {t} {js} (h → ih) ↦ first-and T _ _ (at-array T a e js t) ih
@@ -115,7 +114,3 @@ module _ (S T : List ℕ) where
     | no-field ↦ none-of T
     | one-field i n (h → ih) (g → ih′) p ↦ both-of T _ _ _ ih ih′ p
   ]
-
-  pub arguments-unquoted : {c : ℕ} {j : Json} {ts : List Typed} → ReadsArguments S T c j ts → (x : Typed) → List·Memᴰ x ts → Unquoted T x
-  arguments-unquoted (no-data {a} {e} p) = first-and T _ _ (at-object T a e no-fields 0) (none-of T)
-  arguments-unquoted (with-data p h) = reads-unquoted h

@@ -23,28 +23,27 @@ use Rattle.rules.specs.Values.{valueAt, anyOf}
 use Rattle.rules.specs.Rows.{kind, typeRef, arrayMark, unionBase, discriminator, arguments, children, members, nameOf, typeKind}
 use Rattle.rules.specs.Rules.{is, namesOf}
 use Rattle.rules.specs.SchemaTable.{memberIn}
-use Rattle.rules.specs.Readings.{Typed, typed, Mandatory, Branch, Reads, ReadsItems, ReadsFields, ReadsArguments}
+use Rattle.rules.specs.Readings.{Typed, typed, Mandatory, Branch, Reads, ReadsItems, ReadsFields}
 use Rattle.rules.specs.Readings.Branch.{branch, no-branch}
-use Rattle.rules.specs.Readings.Reads.{built-in, any-value, enum, struct, union, alternate, array}
+use Rattle.rules.specs.Readings.Reads.{built-in, any-value, enum, struct, no-type, union, alternate, array}
 use Rattle.rules.specs.Readings.ReadsItems.{no-item, one-item}
 use Rattle.rules.specs.Readings.ReadsFields.{no-field, one-field}
-use Rattle.rules.specs.Readings.ReadsArguments.{no-data, with-data}
-use Rattle.rules.specs.ReadingOf.{Via, under, then, target, ended, anyOr, rowsIn, scalarFits, chosen, membersAt, mandatoryThere, via, plainReading, itemsReading, fieldsReading, readingOf, argumentsReading}
+use Rattle.rules.specs.ReadingOf.{Via, under, then, target, ended, anyOr, rowsIn, scalarFits, chosen, membersAt, mandatoryThere, via, plainReading, itemsReading, fieldsReading, readingOf}
 use Rattle.rules.specs.ReadingOf.Via.{direct, missing, alternative}
 use Rattle.rules.proofs.Lists.{none-not-some, and-left, and-right, is-true, anyOf-of, in-map, apart-injective}
 use Rattle.rules.proofs.SoundFacts.{SoundFacts}
 use Rattle.rules.proofs.Grid.{takes-below, grid-takes}
 use Rattle.rules.proofs.Lookups.{member-found, member-finds, branch-found, branch-finds, branch-missing, mandatory-true, mandatory-of, kind-found, kind-finds}
-use Rattle.rules.proofs.ReadingParts.{cond-some, under-some, then-some, append-some, found-some, via-below, via-row, via-alternate, via-of-kind, via-alternative, scalar-built-in, scalar-enum, scalar-row, ObjectType, members-struct, members-union, members-say, reads-kind}
-use Rattle.rules.proofs.ReadingParts.ObjectType.{a-struct, a-union}
+use Rattle.rules.proofs.ReadingParts.{cond-some, under-some, then-some, append-some, found-some, via-below, via-row, via-alternate, via-of-kind, via-alternative, scalar-built-in, scalar-enum, scalar-row, ObjectType, members-none, members-struct, members-union, members-say, reads-kind}
+use Rattle.rules.proofs.ReadingParts.ObjectType.{a-struct, no-struct, a-union}
 
 -- a reading by one rule, as the function gives it
-module _ (S T : List ℕ) where
+module _ (passes : Bool) (S T : List ℕ) where
   -- at a type that is no alternate
-  read-direct : (j : Json) (t f : ℕ) → via S T (kindOf j) t f ≡ direct → readingOf S T j t f ≡ plainReading S T j t f
+  read-direct : (j : Json) (t f : ℕ) → via S T (kindOf j) t f ≡ direct → readingOf passes S T j t f ≡ plainReading passes S T j t f
   read-direct j t f e = rw e
 
-  read-built-in : (a e t : ℕ) (v : Scalar) → builtInTakes t v ≡ true → readingOf S T (leaf a e v) t 0 ≡ some (typed (leaf a e v) t 0 ∷ [])
+  read-built-in : (a e t : ℕ) (v : Scalar) → builtInTakes t v ≡ true → readingOf passes S T (leaf a e v) t 0 ≡ some (typed (leaf a e v) t 0 ∷ [])
   read-built-in a e t v h =
       let l : t < first-row = takes-below t (scalarKind v) (grid-takes t v h) in
       rw (via-below S T (scalarKind v) t 0 l, scalar-built-in S T t v l, h)
@@ -56,31 +55,34 @@ module _ (S T : List ℕ) where
   any-takes (num i token) = refl
   any-takes (str cs) = refl
 
-  read-any : (j : Json) → readingOf S T j any-type 0 ≡ some (typed j any-type 0 ∷ [])
+  read-any : (j : Json) → readingOf passes S T j any-type 0 ≡ some (typed j any-type 0 ∷ [])
   read-any (leaf a e v) = read-built-in a e any-type v (any-takes v)
   read-any (arr a e js) = read-direct (arr a e js) any-type 0 (via-below S T array-kind any-type 0 (omega arith))
   read-any (obj a e fs) = read-direct (obj a e fs) any-type 0 (via-below S T object any-type 0 (omega arith))
 
   read-enum : (a e t r v : ℕ) (cs : List ℕ) → t ≡ first-row + r → kind T r ≡ enum-kind → List·Memᴰ v (children T r) → nameOf S T v ≡ cs
-      → readingOf S T (leaf a e (str cs)) t 0 ≡ some (typed (leaf a e (str cs)) t 0 ∷ [])
+      → readingOf passes S T (leaf a e (str cs)) t 0 ≡ some (typed (leaf a e (str cs)) t 0 ∷ [])
   read-enum a e t r v cs z q m n =
       let names : List (List ℕ) = namesOf S T (children T r) in
       let i : anyOf names cs ≡ true = anyOf-of names cs (subst (λ x. List·Memᴰ x names) n (in-map (nameOf S T) (children T r) v m)) in
       rw (via-row S T string t 0 r z (omega arith), scalar-enum S T t r cs z q, i)
 
   read-object : (a e t r : ℕ) (fs : Fields) (ms : List ℕ) (ts : List Typed) → t ≡ first-row + r → (kind T r ≡ alternate-kind → ⊥) → membersAt S T t fs ≡ some ms
-      → Mandatory S T ms fs → fieldsReading S T fs ms ≡ some ts → readingOf S T (obj a e fs) t 0 ≡ some (typed (obj a e fs) t 0 ∷ ts)
+      → Mandatory S T ms fs → fieldsReading passes S T fs ms ≡ some ts → readingOf passes S T (obj a e fs) t 0 ≡ some (typed (obj a e fs) t 0 ∷ ts)
   read-object a e t r fs ms ts z n g m h = rw (via-row S T object t 0 r z n, ne-eqb t any-type (omega arith), g, mandatory-of S T ms fs m, h)
 
+  read-none : (a e : ℕ) (fs : Fields) (ts : List Typed) → fieldsReading passes S T fs [] ≡ some ts → readingOf passes S T (obj a e fs) 0 0 ≡ some (typed (obj a e fs) 0 0 ∷ ts)
+  read-none a e fs ts h = rw (via-below S T object 0 0 (omega arith), members-none S T fs, h)
+
   read-field : (a e m : ℕ) (key ms : List ℕ) (j : Json) (fs : Fields) (ts us : List Typed) → apart same (namesOf S T ms) ≡ true
-      → List·Memᴰ m ms → nameOf S T m ≡ key → readingOf S T j (typeRef T m) (arrayMark T m) ≡ some ts → fieldsReading S T fs ms ≡ some us
-      → fieldsReading S T (field a e key j fs) ms ≡ some (ts ++ us)
+      → List·Memᴰ m ms → nameOf S T m ≡ key → readingOf passes S T j (typeRef T m) (arrayMark T m) ≡ some ts → fieldsReading passes S T fs ms ≡ some us
+      → fieldsReading passes S T (field a e key j fs) ms ≡ some (ts ++ us)
   read-field a e m key ms j fs ts us d i n h g =
       let z : memberIn S T key ms ≡ suc m = member-finds S T key ms m (λ y p w. apart-injective (nameOf S T) ms d y m p i (w ∙ sym n)) i n in
       let y : suc m - 1 ≡ m = omega arith in
       rw (z, y, h, g)
 
-module _ (S T : List ℕ) (F : SoundFacts S T) where
+module _ (passes : Bool) (S T : List ℕ) (F : SoundFacts S T) where
   -- the members of a union: those that the function finds, and no two of one name
   read-branch : (t r : ℕ) (fs : Fields) (ms bs : List ℕ) → t ≡ first-row + r → kind T r ≡ union-kind → members T chain-structs (unionBase T r) ≡ some ms
       → Branch S T r fs bs → membersAt S T t fs ≡ some (ms ++ bs)
@@ -99,45 +101,46 @@ module _ (S T : List ℕ) (F : SoundFacts S T) where
   branch-apart r fs ms bs q g (no-branch p v n) = rw (append-nil ms) (F .union-apart r ms q g)
 
   -- an alternate's alternative is the one of the value's kind
-  read-alternate : (j : Json) (t r c : ℕ) (ts : List Typed) → t ≡ first-row + r → kind T r ≡ alternate-kind → List·Memᴰ c (children T r) → Reads S T j (typeRef T c) 0 ts
-      → readingOf S T j (typeRef T c) 0 ≡ some ts → readingOf S T j t 0 ≡ some (typed j t 0 ∷ ts)
+  read-alternate : (j : Json) (t r c : ℕ) (ts : List Typed) → t ≡ first-row + r → kind T r ≡ alternate-kind → List·Memᴰ c (children T r) → Reads passes S T j (typeRef T c) 0 ts
+      → readingOf passes S T j (typeRef T c) 0 ≡ some ts → readingOf passes S T j t 0 ≡ some (typed j t 0 ∷ ts)
   read-alternate j t r c ts z q m h e =
       let k = F .has-kind r c q m in
       let y : typeKind T (typeRef T c) ≡ some (kindOf j) = k .1 ∙ ap some (reads-kind S T (k .0) h (k .1)) in
       let o = kind-finds T (kindOf j) (children T r) c (λ x i w. F .one-of-kind r x c (kindOf j) q i m w y) m y in
-      let p = sym (read-direct S T j (typeRef T c) 0 (via-of-kind S T (kindOf j) (kindOf j) (typeRef T c) 0 y)) ∙ e in
+      let p = sym (read-direct passes S T j (typeRef T c) 0 (via-of-kind S T (kindOf j) (kindOf j) (typeRef T c) 0 y)) ∙ e in
       rw (via-alternate S T (kindOf j) t r z q, o, p)
 
-  pub complete : {j : Json} {t f : ℕ} {ts : List Typed} → Reads S T j t f ts → readingOf S T j t f ≡ some ts
+  pub complete : {j : Json} {t f : ℕ} {ts : List Typed} → Reads passes S T j t f ts → readingOf passes S T j t f ≡ some ts
   unfolding via
   complete h =
-      elim h as (λ j t f ts d. readingOf S T j t f ≡ some ts) (λ js t ts d. itemsReading S T js t ≡ some ts)
-      (λ ms fs ts d. apart same (namesOf S T ms) ≡ true → fieldsReading S T fs ms ≡ some ts) [
-        | built-in {a} {e} {t} {v} h ↦ read-built-in S T a e t v h
-        | any-value {j} ↦ read-any S T j
-        | enum {a} {e} {t} {v} {cs} r z k m n ↦ read-enum S T a e t r v cs z k m n
+      elim h as (λ j t f ts d. readingOf passes S T j t f ≡ some ts) (λ js t ts d. itemsReading passes S T js t ≡ some ts)
+      (λ ms fs ts d. apart same (namesOf S T ms) ≡ true → fieldsReading passes S T fs ms ≡ some ts) [
+        | built-in {a} {e} {t} {v} h ↦ read-built-in passes S T a e t v h
+        | any-value {j} ↦ read-any passes S T j
+        | enum {a} {e} {t} {v} {cs} r z k m n ↦ read-enum passes S T a e t r v cs z k m n
         | struct {a} {e} {t} {fs} {ms} {ts} r z k g n (h → ih) ↦
-            read-object S T a e t r fs ms ts z (omega arith) (members-struct S T t r fs z k ∙ g) n (ih (F .struct-apart r ms k g))
+            read-object passes S T a e t r fs ms ts z (omega arith) (members-struct S T t r fs z k ∙ g) n (ih (F .struct-apart r ms k g))
+        | no-type {a} {e} {fs} {ts} (h → ih) ↦ read-none passes S T a e fs ts (ih refl)
         | union {a} {e} {t} {fs} {ms} {bs} {ns} {ts} r z k g b p n (h → ih) ↦
-            read-object S T a e t r fs ns ts z (omega arith) (read-branch t r fs ms bs z k g b ∙ ap some (sym p)) n (ih (rw p (branch-apart r fs ms bs k g b)))
+            read-object passes S T a e t r fs ns ts z (omega arith) (read-branch t r fs ms bs z k g b ∙ ap some (sym p)) n (ih (rw p (branch-apart r fs ms bs k g b)))
         | alternate {j} {t} {c} {ts} r z k m (h → ih) ↦ read-alternate j t r c ts z k m h ih
         | array (h → ih) ↦ rw ih
         | no-item ↦ refl
         | one-item (h → ih) (g → ih′) p ↦ rw (ih, ih′, p)
         | no-field ↦ λ d. refl
         | one-field {a} {e} {m} {key} {ms} {j} {fs} {ts} {us} i n (h → ih) (g → ih′) p ↦
-            λ d. read-field S T a e m key ms j fs ts us d i n ih (ih′ d) ∙ ap some (sym p)
+            λ d. read-field passes S T a e m key ms j fs ts us d i n ih (ih′ d) ∙ ap some (sym p)
       ]
 
-  pub unique : {j : Json} {t f : ℕ} {ts us : List Typed} → Reads S T j t f ts → Reads S T j t f us → ts ≡ us
+  pub unique : {j : Json} {t f : ℕ} {ts us : List Typed} → Reads passes S T j t f ts → Reads passes S T j t f us → ts ≡ us
   unique h g = let x = complete h in let y = complete g in cc
 
 -- a rule, from what the function gives
-module _ (S T : List ℕ) where
-  correct-scalar : (a e t : ℕ) (v : Scalar) → scalarFits S T t v ≡ true → Reads S T (leaf a e v) t 0 (typed (leaf a e v) t 0 ∷ [])
+module _ (passes : Bool) (S T : List ℕ) where
+  correct-scalar : (a e t : ℕ) (v : Scalar) → scalarFits S T t v ≡ true → Reads passes S T (leaf a e v) t 0 (typed (leaf a e v) t 0 ∷ [])
   correct-scalar a e t v h = go (ltb t first-row) refl
     where
-      go : (b : Bool) → ltb t first-row ≡ b → Reads S T (leaf a e v) t 0 (typed (leaf a e v) t 0 ∷ [])
+      go : (b : Bool) → ltb t first-row ≡ b → Reads passes S T (leaf a e v) t 0 (typed (leaf a e v) t 0 ∷ [])
       go true p = built-in (sym (scalar-built-in S T t v (ltb-true t first-row p)) ∙ h)
       go false p =
           let i = scalar-row S T t v (ltb-false t first-row p) h in
@@ -161,8 +164,11 @@ module _ (S T : List ℕ) where
       go (some (obj a e gs)) q h = absurd (none-not-some h)
 
   correct-object : (a e t : ℕ) (fs : Fields) (ms : List ℕ) (ts : List Typed) → SoundFacts S T → ObjectType S T t fs ms
-      → Mandatory S T ms fs → ReadsFields S T ms fs ts → Reads S T (obj a e fs) t 0 (typed (obj a e fs) t 0 ∷ ts)
+      → Mandatory S T ms fs → ReadsFields passes S T ms fs ts → Reads passes S T (obj a e fs) t 0 (typed (obj a e fs) t 0 ∷ ts)
   correct-object a e t fs ms ts F (a-struct r z k h) n g = struct r z k h n g
+  correct-object a e t fs ms ts F (no-struct z y) n g =
+      let h : ReadsFields passes S T [] fs ts = subst (λ (l : List ℕ). ReadsFields passes S T l fs ts) y g in
+      subst (λ (u : ℕ). Reads passes S T (obj a e fs) u 0 (typed (obj a e fs) u 0 ∷ ts)) (sym z) (no-type h)
   correct-object a e t fs ms ts F (a-union r z k h) n g =
       let d = F .discriminator-link r k in
       let y : discriminator T r - 1 ≡ d .0 = omega (arith, d .1) in
@@ -170,123 +176,102 @@ module _ (S T : List ℕ) where
       union r z k (o .2) (correct-branch r (d .0) fs (o .1) (d .1) (o .3)) (o .4) n g
 
   -- the flag is the one that the rule has
-  as-flag : (n : ℕ) {j : Json} {t f : ℕ} {us ts : List Typed} → f ≡ n → Reads S T j t n (typed j t n ∷ us) → ts ≡ typed j t f ∷ us → Reads S T j t f ts
+  as-flag : (n : ℕ) {j : Json} {t f : ℕ} {us ts : List Typed} → f ≡ n → Reads passes S T j t n (typed j t n ∷ us) → ts ≡ typed j t f ∷ us → Reads passes S T j t f ts
   as-flag n {j} {t} {f} {us} {ts} z h e =
-      subst₂ (λ (g : ℕ) (vs : List Typed). Reads S T j t g vs) (sym z) (ap (λ (g : ℕ). typed j t g ∷ us) (sym z) ∙ sym e) h
+      subst₂ (λ (g : ℕ) (vs : List Typed). Reads passes S T j t g vs) (sym z) (ap (λ (g : ℕ). typed j t g ∷ us) (sym z) ∙ sym e) h
 
   correct-any : (j : Json) (t f : ℕ) (ts : List Typed) (other : Option (List Typed))
-      → anyOr j t f other ≡ some ts → (other ≡ some ts → Reads S T j t f ts) → Reads S T j t f ts
+      → anyOr j t f other ≡ some ts → (other ≡ some ts → Reads passes S T j t f ts) → Reads passes S T j t f ts
   correct-any j t f ts other h more = go (eqb f 0 && eqb t any-type) refl h
     where
-      any-read : t ≡ any-type → Reads S T j t 0 (typed j t 0 ∷ [])
-      any-read y = subst (λ u. Reads S T j u 0 (typed j u 0 ∷ [])) (sym y) any-value
+      any-read : t ≡ any-type → Reads passes S T j t 0 (typed j t 0 ∷ [])
+      any-read y = subst (λ u. Reads passes S T j u 0 (typed j u 0 ∷ [])) (sym y) any-value
 
-      go : (b : Bool) → eqb f 0 && eqb t any-type ≡ b → cond b (some (typed j t f ∷ [])) other ≡ some ts → Reads S T j t f ts
+      go : (b : Bool) → eqb f 0 && eqb t any-type ≡ b → cond b (some (typed j t f ∷ [])) other ≡ some ts → Reads passes S T j t f ts
       go true p h =
           let o : ts ≡ typed j t f ∷ [] = cc in
           as-flag 0 (eqb-true f 0 (and-left (eqb f 0) (eqb t any-type) p)) (any-read (eqb-true t any-type (and-right (eqb f 0) (eqb t any-type) p))) o
       go false p h = more h
 
-  correct-leaf : (a e : ℕ) (v : Scalar) (t f : ℕ) (ts : List Typed) → plainReading S T (leaf a e v) t f ≡ some ts → Reads S T (leaf a e v) t f ts
+  correct-leaf : (a e : ℕ) (v : Scalar) (t f : ℕ) (ts : List Typed) → plainReading passes S T (leaf a e v) t f ≡ some ts → Reads passes S T (leaf a e v) t f ts
   correct-leaf a e v t f ts h =
       let c = cond-some (eqb f 0 && scalarFits S T t v) (some (typed (leaf a e v) t f ∷ [])) ts h in
       let o : ts ≡ typed (leaf a e v) t f ∷ [] = cc (c .1) in
       as-flag 0 (eqb-true f 0 (and-left (eqb f 0) (scalarFits S T t v) (c .0)))
       (correct-scalar a e t v (and-right (eqb f 0) (scalarFits S T t v) (c .0))) o
 
-  correct-array : (a e : ℕ) (js : Items) (t f : ℕ) (ts : List Typed) → ((us : List Typed) → itemsReading S T js t ≡ some us → ReadsItems S T js t us)
-      → plainReading S T (arr a e js) t f ≡ some ts → Reads S T (arr a e js) t f ts
+  correct-array : (a e : ℕ) (js : Items) (t f : ℕ) (ts : List Typed) → ((us : List Typed) → itemsReading passes S T js t ≡ some us → ReadsItems passes S T js t us)
+      → plainReading passes S T (arr a e js) t f ≡ some ts → Reads passes S T (arr a e js) t f ts
   correct-array a e js t f ts items h =
       let x : Typed = typed (arr a e js) t f in
-      correct-any (arr a e js) t f ts (cond (eqb f 1) (under x (itemsReading S T js t)) none) h (λ g.
-      let c = cond-some (eqb f 1) (under x (itemsReading S T js t)) ts g in
-      let o = under-some x (itemsReading S T js t) ts (c .1) in
+      correct-any (arr a e js) t f ts (cond (eqb f 1) (under x (itemsReading passes S T js t)) none) h (λ g.
+      let c = cond-some (eqb f 1) (under x (itemsReading passes S T js t)) ts g in
+      let o = under-some x (itemsReading passes S T js t) ts (c .1) in
       as-flag 1 (eqb-true f 1 (c .0)) (array (items (o .0) (o .1))) (o .2))
 
   correct-fields-in : (a e : ℕ) (fs : Fields) (t f : ℕ) (ts : List Typed) → SoundFacts S T
-      → ((ms : List ℕ) (us : List Typed) → fieldsReading S T fs ms ≡ some us → ReadsFields S T ms fs us)
-      → plainReading S T (obj a e fs) t f ≡ some ts → Reads S T (obj a e fs) t f ts
+      → ((ms : List ℕ) (us : List Typed) → fieldsReading passes S T fs ms ≡ some us → ReadsFields passes S T ms fs us)
+      → plainReading passes S T (obj a e fs) t f ≡ some ts → Reads passes S T (obj a e fs) t f ts
   correct-fields-in a e fs t f ts F fields h =
       let x : Typed = typed (obj a e fs) t f in
       let there : Bool = is (membersAt S T t fs) (λ ms. mandatoryThere S T ms fs) in
-      let inside : Option (List Typed) = fieldsReading S T fs (rowsIn (membersAt S T t fs)) in
+      let inside : Option (List Typed) = fieldsReading passes S T fs (rowsIn (membersAt S T t fs)) in
       correct-any (obj a e fs) t f ts (cond (eqb f 0 && there) (under x inside) none) h (λ g.
       let c = cond-some (eqb f 0 && there) (under x inside) ts g in
       let m = is-true (membersAt S T t fs) (λ ms. mandatoryThere S T ms fs) (and-right (eqb f 0) there (c .0)) in
       let o = under-some x inside ts (c .1) in
-      let r : ReadsFields S T (m .0) fs (o .0) = fields (m .0) (o .0) (ap (λ ms. fieldsReading S T fs (rowsIn ms)) (sym (m .1)) ∙ o .1) in
+      let r : ReadsFields passes S T (m .0) fs (o .0) = fields (m .0) (o .0) (ap (λ ms. fieldsReading passes S T fs (rowsIn ms)) (sym (m .1)) ∙ o .1) in
       as-flag 0 (eqb-true f 0 (and-left (eqb f 0) there (c .0)))
       (correct-object a e t fs (m .0) (o .0) F (members-say S T t fs (m .0) (m .1)) (mandatory-true S T (m .0) fs (m .2)) r) (o .2))
 
   correct-field : (a e : ℕ) (key : List ℕ) (j : Json) (fs : Fields) (ms : List ℕ) (ts : List Typed)
-      → ((t f : ℕ) (us : List Typed) → readingOf S T j t f ≡ some us → Reads S T j t f us)
-      → ((us : List Typed) → fieldsReading S T fs ms ≡ some us → ReadsFields S T ms fs us)
-      → fieldsReading S T (field a e key j fs) ms ≡ some ts → ReadsFields S T ms (field a e key j fs) ts
+      → ((t f : ℕ) (us : List Typed) → readingOf passes S T j t f ≡ some us → Reads passes S T j t f us)
+      → ((us : List Typed) → fieldsReading passes S T fs ms ≡ some us → ReadsFields passes S T ms fs us)
+      → fieldsReading passes S T (field a e key j fs) ms ≡ some ts → ReadsFields passes S T ms (field a e key j fs) ts
   correct-field a e key j fs ms ts value fields h =
       let n : ℕ = memberIn S T key ms - 1 in
-      let at : ℕ → Option (List Typed) = λ m. readingOf S T j (typeRef T m) (arrayMark T m) in
-      let l = found-some (memberIn S T key ms) (then (at n) (fieldsReading S T fs ms)) ts h in
+      let at : ℕ → Option (List Typed) = λ m. readingOf passes S T j (typeRef T m) (arrayMark T m) in
+      let l = found-some (memberIn S T key ms) (then (at n) (fieldsReading passes S T fs ms)) ts h in
       let i = member-found S T key ms (l .0) (l .1) in
       let y : n ≡ l .0 = omega (arith, l .1) in
-      let o = then-some (at n) (fieldsReading S T fs ms) ts (l .2) in
+      let o = then-some (at n) (fieldsReading passes S T fs ms) ts (l .2) in
       one-field (i .0) (i .1) (value (typeRef T (l .0)) (arrayMark T (l .0)) (o .0) (ap at (sym y) ∙ o .2)) (fields (o .1) (o .3)) (o .4)
 
   -- by the type that the value is read by
-  correct-via : (j : Json) (t f : ℕ) (ts : List Typed) → ((u g : ℕ) (vs : List Typed) → plainReading S T j u g ≡ some vs → Reads S T j u g vs)
-      → readingOf S T j t f ≡ some ts → Reads S T j t f ts
+  correct-via : (j : Json) (t f : ℕ) (ts : List Typed) → ((u g : ℕ) (vs : List Typed) → plainReading passes S T j u g ≡ some vs → Reads passes S T j u g vs)
+      → readingOf passes S T j t f ≡ some ts → Reads passes S T j t f ts
   correct-via j t f ts plain h = go (via S T (kindOf j) t f) refl h
     where
-      go : (v : Via) → via S T (kindOf j) t f ≡ v → ended v (typed j t f) (plainReading S T j (target v t) f) ≡ some ts → Reads S T j t f ts
+      go : (v : Via) → via S T (kindOf j) t f ≡ v → ended v (typed j t f) (plainReading passes S T j (target v t) f) ≡ some ts → Reads passes S T j t f ts
       go direct e h = plain t f ts h
       go missing e h = absurd (none-not-some h)
       go (alternative u) e h =
           let a = via-alternative S T (kindOf j) t f u e in
           let c = kind-found T (kindOf j) (children T (t - first-row)) u (a .first-of) in
-          let o = under-some (typed j t f) (plainReading S T j u f) ts h in
-          let r = subst₂ (λ (w g : ℕ). Reads S T j w g (o .0)) (sym (c .2)) (a .no-array) (plain u f (o .0) (o .1)) in
+          let o = under-some (typed j t f) (plainReading passes S T j u f) ts h in
+          let r = subst₂ (λ (w g : ℕ). Reads passes S T j w g (o .0)) (sym (c .2)) (a .no-array) (plain u f (o .0) (o .1)) in
           as-flag 0 (a .no-array) (alternate (t - first-row) (a .to-row) (a .to-alternate) (c .1) r) (o .2)
 
-module _ (S T : List ℕ) (F : SoundFacts S T) where
+module _ (passes : Bool) (S T : List ℕ) (F : SoundFacts S T) where
   mutual
-    correct-plain : (j : Json) (t f : ℕ) (ts : List Typed) → plainReading S T j t f ≡ some ts → Reads S T j t f ts
-    correct-plain (leaf a e v) t f ts h = correct-leaf S T a e v t f ts h
-    correct-plain (arr a e js) t f ts h = correct-array S T a e js t f ts (λ us g. correct-items js t us g) h
-    correct-plain (obj a e fs) t f ts h = correct-fields-in S T a e fs t f ts F (λ ms us g. correct-fields fs ms us g) h
+    correct-plain : (j : Json) (t f : ℕ) (ts : List Typed) → plainReading passes S T j t f ≡ some ts → Reads passes S T j t f ts
+    correct-plain (leaf a e v) t f ts h = correct-leaf passes S T a e v t f ts h
+    correct-plain (arr a e js) t f ts h = correct-array passes S T a e js t f ts (λ us g. correct-items js t us g) h
+    correct-plain (obj a e fs) t f ts h = correct-fields-in passes S T a e fs t f ts F (λ ms us g. correct-fields fs ms us g) h
 
-    correct-items : (js : Items) (t : ℕ) (ts : List Typed) → itemsReading S T js t ≡ some ts → ReadsItems S T js t ts
-    correct-items no-items t ts h = subst (ReadsItems S T no-items t) (let z : [] ≡ ts = cc in z) no-item
+    correct-items : (js : Items) (t : ℕ) (ts : List Typed) → itemsReading passes S T js t ≡ some ts → ReadsItems passes S T js t ts
+    correct-items no-items t ts h = subst (ReadsItems passes S T no-items t) (let z : [] ≡ ts = cc in z) no-item
     correct-items (item j js) t ts h =
-        let o = then-some (readingOf S T j t 0) (itemsReading S T js t) ts h in
-        one-item (correct-via S T j t 0 (o .0) (λ u g vs i. correct-plain j u g vs i) (o .2)) (correct-items js t (o .1) (o .3)) (o .4)
+        let o = then-some (readingOf passes S T j t 0) (itemsReading passes S T js t) ts h in
+        one-item (correct-via passes S T j t 0 (o .0) (λ u g vs i. correct-plain j u g vs i) (o .2)) (correct-items js t (o .1) (o .3)) (o .4)
 
-    correct-fields : (fs : Fields) (ms : List ℕ) (ts : List Typed) → fieldsReading S T fs ms ≡ some ts → ReadsFields S T ms fs ts
-    correct-fields no-fields ms ts h = subst (ReadsFields S T ms no-fields) (let z : [] ≡ ts = cc in z) no-field
+    correct-fields : (fs : Fields) (ms : List ℕ) (ts : List Typed) → fieldsReading passes S T fs ms ≡ some ts → ReadsFields passes S T ms fs ts
+    correct-fields no-fields ms ts h = subst (ReadsFields passes S T ms no-fields) (let z : [] ≡ ts = cc in z) no-field
     correct-fields (field a e key j fs) ms ts h =
-        correct-field S T a e key j fs ms ts (λ t f us g. correct-via S T j t f us (λ u w vs i. correct-plain j u w vs i) g) (λ us g. correct-fields fs ms us g) h
+        correct-field passes S T a e key j fs ms ts (λ t f us g. correct-via passes S T j t f us (λ u w vs i. correct-plain j u w vs i) g) (λ us g. correct-fields fs ms us g) h
 
-  pub correct : (j : Json) (t f : ℕ) (ts : List Typed) → readingOf S T j t f ≡ some ts → Reads S T j t f ts
-  correct j t f ts h = correct-via S T j t f ts (correct-plain j) h
+  pub correct : (j : Json) (t f : ℕ) (ts : List Typed) → readingOf passes S T j t f ≡ some ts → Reads passes S T j t f ts
+  correct j t f ts h = correct-via passes S T j t f ts (correct-plain j) h
 
-  -- a command's arguments
-  arguments-complete : {c : ℕ} {j : Json} {ts : List Typed} → ReadsArguments S T c j ts → argumentsReading S T (arguments T c) j ≡ some ts
-  arguments-complete (no-data p) = rw p
-  arguments-complete (with-data p h) = rw p (complete S T F h)
-
-  arguments-correct : (c : ℕ) (j : Json) (ts : List Typed) → argumentsReading S T (arguments T c) j ≡ some ts → ReadsArguments S T c j ts
-  arguments-correct c j ts h = go (arguments T c) refl h
-    where
-      empty : arguments T c ≡ 0 → (i : Json) → argumentsReading S T 0 i ≡ some ts → ReadsArguments S T c i ts
-      empty p (leaf a e v) h = absurd (none-not-some h)
-      empty p (arr a e js) h = absurd (none-not-some h)
-      empty p (obj a e no-fields) h = let z : ts ≡ typed (obj a e no-fields) 0 0 ∷ [] = cc in rw z (no-data p)
-      empty p (obj a e (field b d key i fs)) h = absurd (none-not-some h)
-
-      go : (l : ℕ) → arguments T c ≡ l → argumentsReading S T l j ≡ some ts → ReadsArguments S T c j ts
-      go zero p h = empty p j h
-      go (suc r) p h = with-data p (correct j (first-row + r) 0 ts h)
-
-  pub arguments-exact : (c : ℕ) (j : Json) (ts : List Typed) → ReadsArguments S T c j ts ↔ (argumentsReading S T (arguments T c) j ≡ some ts)
-  arguments-exact c j ts = (arguments-complete, arguments-correct c j ts)
-
-  pub arguments-unique : {c : ℕ} {j : Json} {ts us : List Typed} → ReadsArguments S T c j ts → ReadsArguments S T c j us → ts ≡ us
-  arguments-unique h g = let x = arguments-complete h in let y = arguments-complete g in cc
+  pub exact : (j : Json) (t f : ℕ) (ts : List Typed) → Reads passes S T j t f ts ↔ (readingOf passes S T j t f ≡ some ts)
+  exact j t f ts = (complete passes S T F, correct j t f ts)

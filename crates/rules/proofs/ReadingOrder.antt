@@ -15,11 +15,10 @@ use Rattle.grammar.proofs.Booleans.{none-not-some, some-is}
 use Rattle.grammar.proofs.Order.{Inside, InsideItems, InsideFields, message-inside}
 use Rattle.grammar.specs.Keys.{keysOf}
 use Rattle.rules.specs.Values.{_>>=_, valueAt, asString, anyOf}
-use Rattle.rules.specs.Envelope.{Envelope, asArguments, asName, envelope}
-use Rattle.rules.specs.Readings.{Typed, typed, Reads, ReadsItems, ReadsFields, ReadsArguments}
-use Rattle.rules.specs.Readings.Reads.{built-in, any-value, enum, struct, union, alternate, array as array-of}
+use Rattle.rules.specs.Envelope.{Envelope, asArguments, asName, envelope, Asked, Asks, Asks.command}
+use Rattle.rules.specs.Readings.{Typed, typed, Reads, ReadsItems, ReadsFields}
+use Rattle.rules.specs.Readings.Reads.{built-in, any-value, enum, struct, no-type, union, alternate, array as array-of}
 use Rattle.rules.specs.Readings.{ReadsItems.no-item, ReadsItems.one-item, ReadsFields.no-field, ReadsFields.one-field}
-use Rattle.rules.specs.Readings.{ReadsArguments.no-data, ReadsArguments.with-data}
 use Rattle.rules.specs.Types.{any-type}
 use Rattle.rules.specs.MessageAnswers.{Readable}
 use Rattle.rules.specs.Order.{startsAt, endsAt, Before, Nested}
@@ -118,12 +117,13 @@ one-more j p q i g k e =
     joined p (endOf j) q (omega (arith, s .0, s .1)) (s .2) (g p (endOf j) (up-to p q j i)) (k (s .2)) e
 
 module _ (S T : List ℕ) where
-  value-ordered : {j : Json} {t f : ℕ} {ts : List Typed} → Reads S T j t f ts → OfValue j ts
+  value-ordered : {passes : Bool} {j : Json} {t f : ℕ} {ts : List Typed} → Reads passes S T j t f ts → OfValue j ts
   value-ordered h = elim h as (λ j t f ts d. OfValue j ts) (λ js t ts d. OfItems js ts) (λ ms fs ts d. OfFields fs ts) [
     | built-in {a} {e} {t} {v} h ↦ alone (leaf a e v) t 0
     | any-value {j} ↦ alone j any-type 0
     | enum {a} {e} {t} {cs = cs} r z k v n ↦ alone (leaf a e (str cs)) t 0
     | struct {a} {e} {t} {fs} r z k g n (h → ih) ↦ of-object a e t fs ih
+    | no-type {a} {e} {fs} (h → ih) ↦ of-object a e 0 fs ih
     | union {a} {e} {t} {fs} r z k g b q n (h → ih) ↦ of-object a e t fs ih
     | alternate {j} {t} r z k c (h → ih) ↦ by-alternative j t ih
     | array-of {a} {e} {t} {js} (h → ih) ↦ of-array a e t js ih
@@ -132,10 +132,6 @@ module _ (S T : List ℕ) where
     | no-field ↦ λ p q h i. empty p q
     | one-field {j = j} m n (h → ih) (g → ih′) e ↦ λ p q h i. one-more j p q (i .0) ih (λ s. ih′ (endOf j) q s (i .1)) e
   ]
-
-  arguments-ordered : {c : ℕ} {j : Json} {ts : List Typed} (p q : ℕ) → Inside p q j → ReadsArguments S T c j ts → Nested ts
-  arguments-ordered p q i (no-data {a} {e} x) = alone (obj a e no-fields) 0 0 p q i .nested
-  arguments-ordered p q i (with-data x h) = value-ordered h p q i .nested
 
 -- the arguments of an envelope are a value of the message, or the empty object at 0, 0
 abbrev Placed : Json → Type 0
@@ -178,7 +174,10 @@ arguments-placed p q (obj a e fs) x i h =
     keys-placed (all (anyOf (text "execute" ∷ text "exec-oob" ∷ text "arguments" ∷ text "id" ∷ [])) (keysOf fs)) (valueAt (text "execute") fs) (valueAt (text "exec-oob") fs) (valueAt (text "arguments") fs) x
     (λ j g. at-key (text "arguments") a e fs (i .3) j g) h
 
-pub reading-nested : {S T m : List ℕ} {c : ℕ} {ts : List Typed} → Readable S T m c ts → Nested ts
+asked-placed : {S T : List ℕ} (p q : ℕ) (v : Json) {a : Asked} → Inside p q v → Asks S T v a → Placed (a .value)
+asked-placed p q v i (command {v = x} e n u z) = subst (λ (y : Asked). Placed (y .value)) (sym z) (arguments-placed p q v x i e)
+
+pub reading-nested : {S T m : List ℕ} {a : Asked} {ts : List Typed} → Readable S T m a ts → Nested ts
 reading-nested {S} {T} r =
-    let a = arguments-placed 0 (endOf (r .value)) (r .value) (r .said) (message-inside (r .is-text)) (r .proper) in
-    arguments-ordered S T (a .0) (a .1) (a .2) (r .reads)
+    let a = asked-placed 0 (endOf (r .value)) (r .value) (message-inside (r .is-text)) (r .asks) in
+    value-ordered S T (r .reads) (a .0) (a .1) (a .2) .nested

@@ -3,11 +3,11 @@
 use Prim.Native.Nat.{ℕ, zero, suc, _+_, _-_, _≤_, _<_}
 use mathlib.Core.Path.{_≡_, refl, sym, _∙_, subst}
 use mathlib.Core.Bool.{Bool, true, false, cond, _&&_}
-use mathlib.Core.List.{List, _∷_, _++_, List·Memᴰ}
+use mathlib.Core.List.{List, [], _∷_, _++_, List·Memᴰ}
 use mathlib.Core.Option.{Option, none, some}
 use native.Mathlib.Omega.{arith}
 use lib.Dec.{eqb, ltb, leb}
-use borrow.Author.Tests.{eqb-true, lt-ltb, le-ltb, le-leb, ltb-false, leb-true}
+use borrow.Author.Tests.{ne-eqb, eqb-true, lt-ltb, le-ltb, le-leb, ltb-false, leb-true}
 use Rattle.grammar.specs.Limits.{first-row, chain-structs}
 use Rattle.grammar.specs.Tree.{Scalar, Json, Fields, Kind, kindOf, scalarKind}
 use Rattle.grammar.specs.Tree.Scalar.{null, bool, num, str}
@@ -18,7 +18,7 @@ use Rattle.rules.specs.Values.{valueAt, anyOf}
 use Rattle.rules.specs.Rows.{kind, isEnum, isStruct, isUnion, isAlternate, unionBase, discriminator, children, members, nameOf, typeKind}
 use Rattle.rules.specs.Rules.{namesOf}
 use Rattle.rules.specs.Readings.{Typed, Reads}
-use Rattle.rules.specs.Readings.Reads.{built-in, any-value, enum, struct, union, alternate}
+use Rattle.rules.specs.Readings.Reads.{built-in, any-value, enum, struct, no-type, union, alternate}
 use Rattle.rules.specs.ReadingOf.{under, then, append, ofKind, fromAlternatives, found, scalarFits, chosen, membersAt, via}
 use Rattle.rules.specs.ReadingOf.Via.{direct, alternative}
 use Rattle.rules.proofs.Lists.{clash, none-not-some, and-left, and-right, anyOf-true, of-map}
@@ -145,26 +145,31 @@ module _ (S T : List ℕ) where
   abbrev pub unionMembers : ℕ → Fields → Option (List ℕ)
   unionMembers r fs = append (members T chain-structs (unionBase T r)) (chosen S T r (valueAt (nameOf S T (discriminator T r - 1)) fs))
 
+  pub members-none : (fs : Fields) → membersAt S T 0 fs ≡ some []
+  unfolding membersAt
+  members-none fs = refl
+
   pub members-struct : (t r : ℕ) (fs : Fields) → t ≡ first-row + r → kind T r ≡ struct-kind → membersAt S T t fs ≡ members T chain-structs (suc r)
   unfolding membersAt
   members-struct t r fs e k =
       let z : t - first-row ≡ r = omega arith in
-      rw (le-ltb t first-row (omega arith), z, k)
+      rw (ne-eqb t 0 (omega arith), le-ltb t first-row (omega arith), z, k)
 
   pub members-union : (t r : ℕ) (fs : Fields) → t ≡ first-row + r → kind T r ≡ union-kind → membersAt S T t fs ≡ unionMembers r fs
   unfolding membersAt
   members-union t r fs e k =
       let z : t - first-row ≡ r = omega arith in
-      rw (le-ltb t first-row (omega arith), z, k)
+      rw (ne-eqb t 0 (omega arith), le-ltb t first-row (omega arith), z, k)
 
   -- no other types have members
   pub data ObjectType (t : ℕ) (fs : Fields) (ms : List ℕ) : Type 0 where
     a-struct : (r : ℕ) → t ≡ first-row + r → kind T r ≡ struct-kind → members T chain-structs (suc r) ≡ some ms → ObjectType t fs ms
+    no-struct : t ≡ 0 → ms ≡ [] → ObjectType t fs ms
     a-union : (r : ℕ) → t ≡ first-row + r → kind T r ≡ union-kind → unionMembers r fs ≡ some ms → ObjectType t fs ms
 
   pub members-say : (t : ℕ) (fs : Fields) (ms : List ℕ) → membersAt S T t fs ≡ some ms → ObjectType t fs ms
   unfolding membersAt
-  members-say t fs ms h = go (t - first-row) (ltb t first-row) (isStruct T (t - first-row)) (isUnion T (t - first-row)) refl refl refl refl h
+  members-say t fs ms h = none-or (eqb t 0) refl h
     where
       go : (r : ℕ) (b c d : Bool) → t - first-row ≡ r → ltb t first-row ≡ b → isStruct T r ≡ c → isUnion T r ≡ d
           → cond b none (cond c (members T chain-structs (suc r)) (cond d (unionMembers r fs) none)) ≡ some ms → ObjectType t fs ms
@@ -173,11 +178,18 @@ module _ (S T : List ℕ) where
       go r false false true z p q s h = a-union r (omega (arith, ltb-false t first-row p)) (eqb-true (kind T r) union-kind s) h
       go r false false false z p q s h = absurd (none-not-some h)
 
+      none-or : (b : Bool) → eqb t 0 ≡ b
+          → cond b (some []) (cond (ltb t first-row) none (cond (isStruct T (t - first-row)) (members T chain-structs (suc (t - first-row))) (cond (isUnion T (t - first-row)) (unionMembers (t - first-row) fs) none))) ≡ some ms
+          → ObjectType t fs ms
+      none-or true e h = no-struct (eqb-true t 0 e) (let z : ms ≡ [] = cc in z)
+      none-or false e h = go (t - first-row) (ltb t first-row) (isStruct T (t - first-row)) (isUnion T (t - first-row)) refl refl refl refl h
+
   -- a value that is read at a type of one JSON kind has that kind
-  pub reads-kind : {j : Json} {t : ℕ} {ts : List Typed} (k : Kind) → Reads S T j t 0 ts → typeKind T t ≡ some k → k ≡ kindOf j
+  pub reads-kind : {passes : Bool} {j : Json} {t : ℕ} {ts : List Typed} (k : Kind) → Reads passes S T j t 0 ts → typeKind T t ≡ some k → k ≡ kindOf j
   reads-kind k (built-in {t = t} {v} h) p = takes-same T t k (scalarKind v) p (grid-takes t v h)
   reads-kind k any-value p = absurd (none-not-some (sym (built-in-kind T any-type (omega arith)) ∙ p))
   reads-kind k (enum {t = t} r e q v n) p = let z : some string ≡ some k = sym (row-kind T t r e ∙ rw q) ∙ p in cc
   reads-kind k (struct {t = t} r e q g n h) p = let z : some object ≡ some k = sym (row-kind T t r e ∙ rw q) ∙ p in cc
+  reads-kind k (no-type h) p = absurd (none-not-some (sym (built-in-kind T 0 (omega arith)) ∙ p))
   reads-kind k (union {t = t} r e q g b s n h) p = let z : some object ≡ some k = sym (row-kind T t r e ∙ rw q) ∙ p in cc
   reads-kind k (alternate {t = t} r e q c h) p = absurd (none-not-some (sym (no-kind t r e q) ∙ p))

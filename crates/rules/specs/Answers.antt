@@ -25,13 +25,13 @@ use Rattle.rules.specs.Types.{takes, inRange, builtInTakes}
 use Rattle.rules.specs.Values.{_>>=_}
 use Rattle.rules.specs.Definitions.{Definition, definitions}
 use Rattle.rules.specs.Names.{sameName}
-use Rattle.rules.specs.Rows.{rowCount, isCommand, arguments, nameOf, next, walk, past, unnamed, owns, firstChild, childCount, children, pastChildren, members, typeKind}
+use Rattle.rules.specs.Rows.{rowCount, isCommand, nameOf, next, walk, past, unnamed, owns, firstChild, childCount, children, pastChildren, members, typeKind}
 use Rattle.rules.specs.Rules.{is, goodNames, distinctNames, goodChains, goodUnions, goodAlternates, goodReturns}
 use Rattle.rules.specs.SchemaTable.{table, allRefer}
 use Rattle.rules.specs.Sound.{laidOut, sound}
-use Rattle.rules.specs.Envelope.{Envelope, envelope, mayUse}
-use Rattle.rules.specs.Readings.{Typed, recordsOf}
-use Rattle.rules.specs.ReadingOf.{scalarFits, membersAt, via, argumentsReading}
+use Rattle.rules.specs.Envelope.{Envelope, envelope, mayUse, Asked, argumentsOf}
+use Rattle.rules.specs.Readings.{Typed, strict, recordsOf}
+use Rattle.rules.specs.ReadingOf.{scalarFits, membersAt, via, readingOf}
 
 -- the first element that has the property
 abbrev pub first : {A : Type 0} → (A → Bool) → List A → Option A
@@ -47,11 +47,6 @@ abbrev pub schemaRefusals : List SchemaRefusal
 schemaRefusals =
     R.TooLong ∷ R.NotText ∷ R.RepeatedKey ∷ R.NotDefinitions ∷ R.BadName ∷ R.RepeatedName ∷ R.UnknownName ∷ R.BadChain ∷ R.BadUnion
     ∷ R.BadAlternate ∷ R.BadReturn ∷ R.TooManyRows ∷ R.NoRoom ∷ []
-
-abbrev pub messageRefusals : List MessageRefusal
-messageRefusals =
-    M.UnsoundTable ∷ M.TooLong ∷ M.NotText ∷ M.TooDeep ∷ M.RepeatedKey ∷ M.NotEnvelope ∷ M.UnknownCommand ∷ M.NotOutOfBand ∷ M.NoReading
-    ∷ M.NoRoom ∷ []
 
 -- an outcome: the answer and the lent words
 pub record SchemaResult : Type 0 where
@@ -109,50 +104,58 @@ module _ (S T : List ℕ) where
   abbrev pub commandOf : Envelope → Option ℕ
   commandOf v = commandFrom (v .name) 0 (rowCount T)
 
-abbrev pub valueIn : Out → Option Json
-valueIn (whole no-items) = none
-valueIn (whole (item j js)) = some j
-valueIn (fault e) = none
-valueIn (deep e) = none
+-- what a message asks, or why it is refused before that is known
+pub data Asking : Type 0 where
+  asks : Asked → Asking
+  refuses : MessageRefusal → Asking
 
-abbrev pub isDeep : Out → Bool
-isDeep (whole js) = false
-isDeep (fault e) = false
-isDeep (deep e) = true
+module _ (S T : List ℕ) where
+  abbrev pub commandAsking : Envelope → Option ℕ → Asking
+  commandAsking v none = refuses M.UnknownCommand
+  commandAsking v (some c) = cond (mayUse T c (v .outOfBand)) (asks (argumentsOf T v c)) (refuses M.NotOutOfBand)
 
-module _ (S T m : List ℕ) (room : ℕ) where
-  -- whether a number applies, given what the text is, its envelope, the command's row and the reading
-  abbrev pub messageTest : Out → Option Envelope → Option ℕ → Option (List Typed) → MessageRefusal → Bool
-  messageTest o v c ts M.UnsoundTable = not (sound S T)
-  messageTest o v c ts M.TooLong = ltb message-bytes (length m)
-  messageTest o v c ts M.NotText = isNone (valueIn o) && not (isDeep o)
-  messageTest o v c ts M.TooDeep = isDeep o
-  messageTest o v c ts M.RepeatedKey = is (valueIn o) (λ j. not (keysOnce j))
-  messageTest o v c ts M.NotEnvelope = is (valueIn o) (λ j. isNone v)
-  messageTest o v c ts M.UnknownCommand = is v (λ x. isNone c)
-  messageTest o v c ts M.NotOutOfBand = is v (λ x. is c (λ r. not (mayUse T r (x .outOfBand))))
-  messageTest o v c ts M.NoReading = is c (λ r. isNone ts)
-  messageTest o v c ts M.NoRoom = is ts (λ x. ltb (room / record-words) (length x))
+  abbrev pub envelopeAsking : Option Envelope → Asking
+  envelopeAsking none = refuses M.NotEnvelope
+  envelopeAsking (some v) = commandAsking v (commandOf S T v)
 
-  -- refused by the first number that applies, or accepted with the reading
-  abbrev pub messageAnswered : Option ℕ → Option (List Typed) → Option MessageRefusal → MessageResult
-  messageAnswered c ts (some x) = record { answer = MA.Refused x; words = replicate room 0 }
-  messageAnswered none ts none = record { answer = MA.Refused M.UnknownCommand; words = replicate room 0 }
-  messageAnswered (some c) none none = record { answer = MA.Refused M.NoReading; words = replicate room 0 }
-  messageAnswered (some c) (some ts) none = record { answer = MA.Accepted c (length ts); words = recordsOf ts ++ replicate (room - length (recordsOf ts)) 0 }
+  abbrev pub asking : Json → Asking
+  asking j = envelopeAsking (envelope j)
 
-  abbrev pub readingIn : Option Envelope → Option ℕ → Option (List Typed)
-  readingIn none c = none
-  readingIn (some v) none = none
-  readingIn (some v) (some c) = argumentsReading S T (arguments T c) (v .arguments)
+  abbrev pub askedReading : Asked → Option (List Typed)
+  askedReading a = readingOf strict S T (a .value) (a .ref) (a .array)
 
-  abbrev pub ofText : Out → MessageResult
-  ofText o =
-      let v = valueIn o >>= envelope in
-      let c = v >>= commandOf S T in
-      let ts = readingIn v c in
-      messageAnswered c ts (first (messageTest o v c ts) messageRefusals)
+module _ (room : ℕ) where
+  abbrev pub refusedBy : MessageRefusal → MessageResult
+  refusedBy x = record { answer = MA.Refused x; words = replicate room 0 }
 
-  unfoldable pub messageResult : MessageResult
-  unfolding readMessage sound laidOut goodNames distinctNames goodChains goodUnions goodAlternates goodReturns next walk past unnamed owns firstChild childCount children pastChildren members typeKind nameOf envelope scalarFits membersAt via takes inRange builtInTakes
-  messageResult = ofText (readMessage m)
+  abbrev pub acceptedWith : ℕ → List Typed → MessageResult
+  acceptedWith c ts = record { answer = MA.Accepted c (length ts); words = recordsOf ts ++ replicate (room - length (recordsOf ts)) 0 }
+
+  -- 29 and 30, by the reading
+  abbrev pub readingResult : ℕ → Option (List Typed) → MessageResult
+  readingResult c none = refusedBy M.NoReading
+  readingResult c (some ts) = cond (ltb (room / record-words) (length ts)) (refusedBy M.NoRoom) (acceptedWith c ts)
+
+module _ (S T : List ℕ) (room : ℕ) where
+  -- from 26 on, by what is asked; from 25 on, by the value; from 23 on, by the text
+  abbrev pub askedResult : Asking → MessageResult
+  askedResult (asks a) = readingResult room (a .second) (askedReading S T a)
+  askedResult (refuses x) = refusedBy room x
+
+  abbrev pub valueResult : Json → MessageResult
+  valueResult j = cond (keysOnce j) (askedResult (asking S T j)) (refusedBy room M.RepeatedKey)
+
+  abbrev pub textResult : Out → MessageResult
+  textResult (whole no-items) = refusedBy room M.NotText
+  textResult (whole (item j js)) = valueResult j
+  textResult (fault e) = refusedBy room M.NotText
+  textResult (deep e) = refusedBy room M.TooDeep
+
+-- from 22 on, of a sound table
+unfoldable pub soundResult : (S T m : List ℕ) → ℕ → MessageResult
+unfolding readMessage laidOut next walk past unnamed owns firstChild childCount children pastChildren members typeKind nameOf envelope scalarFits membersAt via takes inRange builtInTakes
+soundResult S T m room = cond (ltb message-bytes (length m)) (refusedBy room M.TooLong) (textResult S T room (readMessage m))
+
+unfoldable pub messageResult : (S T m : List ℕ) → ℕ → MessageResult
+unfolding soundResult sound goodNames distinctNames goodChains goodUnions goodAlternates goodReturns
+messageResult S T m room = cond (sound S T) (soundResult S T m room) (refusedBy room M.UnsoundTable)

@@ -1,4 +1,4 @@
--- 01, Message text and Message answers 26 to 28: the envelope, the command that it names, and whether it may use it.
+-- 01, Message text and Message answers 26 to 28: the envelope, the command that it names, whether it may use it, and what it then asks to have read.
 use Prim.Native.Nat.{ℕ, _<_}
 use mathlib.Core.Bool.{Bool, true, false, cond}
 use mathlib.Core.List.{List, [], _∷_}
@@ -12,7 +12,7 @@ use Rattle.grammar.specs.Tree.Fields.{no-fields}
 use Rattle.grammar.specs.Keys.{keysOf}
 use Rattle.rules.specs.Kinds.{command-kind}
 use Rattle.rules.specs.Values.{_>>=_, asFields, asString, valueAt, anyOf}
-use Rattle.rules.specs.Rows.{rowCount, kind, allowOob, nameOf}
+use Rattle.rules.specs.Rows.{rowCount, kind, arguments, allowOob, nameOf, linkRef}
 
 -- what an envelope says: the string under execute or exec-oob, which of the two, and the arguments
 pub record Envelope : Type 0 where
@@ -58,3 +58,18 @@ pub record Names (S T : List ℕ) (name : List ℕ) (c : ℕ) : Type 0 where
 abbrev pub mayUse : List ℕ → ℕ → Bool → Bool
 mayUse T c true = eqb (allowOob T c) 1
 mayUse T c false = true
+
+-- What a message asks to have read: a value, the type reference and array mark that it is read at, and the second number of an acceptance.
+pub record Asked : Type 0 where
+  pub value : Json
+  pub ref : ℕ
+  pub array : ℕ
+  pub second : ℕ
+
+-- the arguments of the command at row c, at its data; reference 0 if it has none
+abbrev pub argumentsOf : List ℕ → Envelope → ℕ → Asked
+argumentsOf T v c = record { value = v .arguments; ref = linkRef (arguments T c); array = 0; second = c }
+
+-- the message that is the value j has a proper envelope, names the command at row c and may use it
+pub data Asks (S T : List ℕ) (j : Json) (a : Asked) : Type 0 where
+  command : {v : Envelope} {c : ℕ} → envelope j ≡ some v → Names S T (v .name) c → mayUse T c (v .outOfBand) ≡ true → a ≡ argumentsOf T v c → Asks S T j a

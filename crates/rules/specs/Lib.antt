@@ -8,6 +8,7 @@ pub mod Rows
 pub mod SchemaTable
 pub mod Rules
 pub mod Sound
+pub mod Refusals
 pub mod SchemaAnswers
 pub mod Envelope
 pub mod Readings

@@ -2,7 +2,7 @@
 use Prim.Native.Nat.{ℕ, _-_, _/_, _≤_, _<_}
 use mathlib.Core.Path.{_≡_}
 use mathlib.Core.Bool.{true, false}
-use mathlib.Core.List.{List, _++_}
+use mathlib.Core.List.{List, [], _∷_, _++_}
 use mathlib.Core.Option.{none, some}
 use lib.ListN.{length, replicate}
 use Rattle.grammar.specs.Limits.{message-bytes, message-levels, record-words}
@@ -15,8 +15,9 @@ use Rattle.rules.specs.declared.MessageRefusal.the-variants as M
 use Rattle.rules.specs.declared.MessageAnswer.{MessageAnswer}
 use Rattle.rules.specs.declared.MessageAnswer.the-variants.{Accepted, Refused}
 use Rattle.rules.specs.Sound.{sound}
-use Rattle.rules.specs.Envelope.{Envelope, envelope, Names, mayUse}
-use Rattle.rules.specs.Readings.{Typed, ReadsArguments, recordsOf}
+use Rattle.rules.specs.Envelope.{Envelope, envelope, Names, mayUse, Asked, Asks}
+use Rattle.rules.specs.Readings.{Typed, strict, Reads, recordsOf}
+use Rattle.rules.specs.Refusals.{FirstOf}
 
 -- the paper's numbers
 abbrev pub refusalNumber : MessageRefusal → ℕ
@@ -30,6 +31,12 @@ refusalNumber M.UnknownCommand = 27
 refusalNumber M.NotOutOfBand = 28
 refusalNumber M.NoReading = 29
 refusalNumber M.NoRoom = 30
+
+-- The order in which refusals are judged: of those that apply the first is given.
+abbrev pub messageOrder : List MessageRefusal
+messageOrder =
+    M.UnsoundTable ∷ M.TooLong ∷ M.NotText ∷ M.TooDeep ∷ M.RepeatedKey ∷ M.NotEnvelope ∷ M.UnknownCommand ∷ M.NotOutOfBand ∷ M.NoReading
+    ∷ M.NoRoom ∷ []
 
 -- the three numbers of an answer: accepted 0, the command's row and the count of records; refused the number, 0 and 0
 abbrev pub answerNumber : MessageAnswer → ℕ
@@ -50,10 +57,15 @@ pub record Encloses (m : List ℕ) (v : Envelope) : Type 0 where
   pub is-text : MessageText m value
   pub proper : envelope value ≡ some v
 
--- and it names the command at row c
-pub record Calls (S T m : List ℕ) (v : Envelope) (c : ℕ) : Type 0 where
-  pub encloses : Encloses m v
-  pub names : Names S T (v .name) c
+-- the bytes are message text that asks for a
+pub record AsksIn (S T m : List ℕ) (a : Asked) : Type 0 where
+  pub value : Json
+  pub is-text : MessageText m value
+  pub asks : Asks S T value a
+
+-- ts is a reading of what is asked
+abbrev pub ReadsAsked : List ℕ → List ℕ → Asked → List Typed → Type 0
+ReadsAsked S T a ts = Reads strict S T (a .value) (a .ref) (a .array) ts
 
 -- after the longest start of a valid text stands a byte that opens a level too many
 abbrev pub OneTooMany : List ℕ → Type 0
@@ -68,32 +80,27 @@ MessageApplies M.TooDeep S T m room = OneTooMany m
 MessageApplies M.RepeatedKey S T m room = (j : Json) × MessageText m j × (keysOnce j ≡ false)
 MessageApplies M.NotEnvelope S T m room = (j : Json) × MessageText m j × (envelope j ≡ none)
 MessageApplies M.UnknownCommand S T m room = (v : Envelope) × Encloses m v × ((c : ℕ) → Names S T (v .name) c → ⊥)
-MessageApplies M.NotOutOfBand S T m room = (v : Envelope) × (c : ℕ) × Calls S T m v c × (mayUse T c (v .outOfBand) ≡ false)
-MessageApplies M.NoReading S T m room = (v : Envelope) × (c : ℕ) × Calls S T m v c × ((ts : List Typed) → ReadsArguments S T c (v .arguments) ts → ⊥)
-MessageApplies M.NoRoom S T m room =
-    (v : Envelope) × (c : ℕ) × Calls S T m v c × (ts : List Typed) × ReadsArguments S T c (v .arguments) ts × (room / record-words < length ts)
+MessageApplies M.NotOutOfBand S T m room = (v : Envelope) × Encloses m v × (c : ℕ) × Names S T (v .name) c × (mayUse T c (v .outOfBand) ≡ false)
+MessageApplies M.NoReading S T m room = (a : Asked) × AsksIn S T m a × ((ts : List Typed) → ReadsAsked S T a ts → ⊥)
+MessageApplies M.NoRoom S T m room = (a : Asked) × AsksIn S T m a × (ts : List Typed) × ReadsAsked S T a ts × (room / record-words < length ts)
 
--- The outcome: the answer, and the lent words after the call. The lowest number that applies, and all words 0; or no number, the reading's records, and 0 after them.
+-- The outcome: the answer, and the lent words after the call. The first refusal that applies, and all words 0; or none, the reading's records, and 0 after them.
 pub data MessageOutcome (S T m : List ℕ) (room : ℕ) (answer : MessageAnswer) (words : List ℕ) : Type 0 where
-  accepted : {v : Envelope} {c : ℕ} {ts : List Typed} → Calls S T m v c → ReadsArguments S T c (v .arguments) ts
-      → ((x : MessageRefusal) → MessageApplies x S T m room → ⊥) → answer ≡ Accepted c (length ts)
+  accepted : {a : Asked} {ts : List Typed} → AsksIn S T m a → ReadsAsked S T a ts
+      → ((x : MessageRefusal) → MessageApplies x S T m room → ⊥) → answer ≡ Accepted (a .second) (length ts)
       → words ≡ recordsOf ts ++ replicate (room - length (recordsOf ts)) 0 → MessageOutcome S T m room answer words
-  refused : {x : MessageRefusal} → MessageApplies x S T m room → ((y : MessageRefusal) → refusalNumber y < refusalNumber x → MessageApplies y S T m room → ⊥)
-      → answer ≡ Refused x → words ≡ replicate room 0 → MessageOutcome S T m room answer words
+  refused : {x : MessageRefusal} → FirstOf (λ y. MessageApplies y S T m room) messageOrder x → answer ≡ Refused x → words ≡ replicate room 0 → MessageOutcome S T m room answer words
 
--- Demand 3, all but the room: the table is sound, the message within the limits and proper text with no key repeated, its envelope is proper, it names the
--- command at row c, which it may use, and ts is a reading of its arguments.
-pub record Readable (S T m : List ℕ) (c : ℕ) (ts : List Typed) : Type 0 where
+-- Demand 3, all but the room: the table is sound, the message within the limits and proper text with no key repeated, its envelope is proper, it names a
+-- command that it may use and so asks for a, and ts is a reading of that.
+pub record Readable (S T m : List ℕ) (a : Asked) (ts : List Typed) : Type 0 where
   pub sound-table : sound S T ≡ true
   pub short : length m ≤ message-bytes
   pub value : Json
   pub is-text : MessageText m value
   pub keys-once : keysOnce value ≡ true
-  pub said : Envelope
-  pub proper : envelope value ≡ some said
-  pub names : Names S T (said .name) c
-  pub may-use : mayUse T c (said .outOfBand) ≡ true
-  pub reads : ReadsArguments S T c (said .arguments) ts
+  pub asks : Asks S T value a
+  pub reads : ReadsAsked S T a ts
 
 -- the room can hold it
 abbrev pub Held : ℕ → List Typed → Type 0

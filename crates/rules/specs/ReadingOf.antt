@@ -68,15 +68,6 @@ abbrev pub found : ℕ → Option (List Typed) → Option (List Typed)
 found zero ts = none
 found (suc m) ts = ts
 
-abbrev pub isEmptyF : Fields → Bool
-isEmptyF no-fields = true
-isEmptyF (field a e key j fs) = false
-
-abbrev pub isEmpty : Json → Bool
-isEmpty (leaf a e v) = false
-isEmpty (arr a e js) = false
-isEmpty (obj a e fs) = isEmptyF fs
-
 module _ (S T : List ℕ) where
   -- a value without brackets
   unfoldable pub scalarFits : ℕ → Scalar → Bool
@@ -98,13 +89,14 @@ module _ (S T : List ℕ) where
   chosen r none = none
   chosen r (some j) = elim (asString j) [ none ↦ none | some cs ↦ members T chain-structs (branchLink cs (children T r)) ]
 
-  -- the members that an object has at a type: those of a struct, or of a union's base and branch
+  -- the members that an object has at a type: those of a struct, or of a union's base and branch; reference 0 has none
   unfoldable pub membersAt : ℕ → Fields → Option (List ℕ)
   membersAt t fs =
-      cond (ltb t first-row) none
+      cond (eqb t 0) (some [])
+      (cond (ltb t first-row) none
       (cond (isStruct T (t - first-row)) (members T chain-structs (suc (t - first-row)))
       (cond (isUnion T (t - first-row))
-      (append (members T chain-structs (unionBase T (t - first-row))) (chosen (t - first-row) (valueAt (nameOf S T (discriminator T (t - first-row) - 1)) fs))) none))
+      (append (members T chain-structs (unionBase T (t - first-row))) (chosen (t - first-row) (valueAt (nameOf S T (discriminator T (t - first-row) - 1)) fs))) none)))
 
   abbrev pub mandatoryThere : List ℕ → Fields → Bool
   mandatoryThere ms fs = all (λ m. not (eqb (optional T m) 0) || anyOf (keysOf fs) (nameOf S T m)) ms
@@ -113,31 +105,27 @@ module _ (S T : List ℕ) where
   unfoldable pub via : Kind → ℕ → ℕ → Via
   via k t f = cond (eqb f 0 && leb first-row t && isAlternate T (t - first-row)) (fromAlternatives (ofKind T k (children T (t - first-row)))) direct
 
+module _ (passes : Bool) (S T : List ℕ) where
   abbrev mutual
     -- at a type that is no alternate
     pub plainReading : Json → ℕ → ℕ → Option (List Typed)
-    plainReading (leaf a e v) t f = cond (eqb f 0 && scalarFits t v) (some (typed (leaf a e v) t f ∷ [])) none
+    plainReading (leaf a e v) t f = cond (eqb f 0 && scalarFits S T t v) (some (typed (leaf a e v) t f ∷ [])) none
     plainReading (arr a e js) t f = anyOr (arr a e js) t f (cond (eqb f 1) (under (typed (arr a e js) t f) (itemsReading js t)) none)
     plainReading (obj a e fs) t f =
         anyOr (obj a e fs) t f
-        (cond (eqb f 0 && is (membersAt t fs) (λ ms. mandatoryThere ms fs)) (under (typed (obj a e fs) t f) (fieldsReading fs (rowsIn (membersAt t fs)))) none)
+        (cond (eqb f 0 && is (membersAt S T t fs) (λ ms. mandatoryThere S T ms fs)) (under (typed (obj a e fs) t f) (fieldsReading fs (rowsIn (membersAt S T t fs)))) none)
 
     pub itemsReading : Items → ℕ → Option (List Typed)
     itemsReading no-items t = some []
-    itemsReading (item j js) t = then (ended (via (kindOf j) t 0) (typed j t 0) (plainReading j (target (via (kindOf j) t 0) t) 0)) (itemsReading js t)
+    itemsReading (item j js) t = then (ended (via S T (kindOf j) t 0) (typed j t 0) (plainReading j (target (via S T (kindOf j) t 0) t) 0)) (itemsReading js t)
 
     pub fieldsReading : Fields → List ℕ → Option (List Typed)
     fieldsReading no-fields ms = some []
     fieldsReading (field a e key j fs) ms =
         let m = memberIn S T key ms - 1 in
-        let v = via (kindOf j) (typeRef T m) (arrayMark T m) in
+        let v = via S T (kindOf j) (typeRef T m) (arrayMark T m) in
         found (memberIn S T key ms) (then (ended v (typed j (typeRef T m) (arrayMark T m)) (plainReading j (target v (typeRef T m)) (arrayMark T m))) (fieldsReading fs ms))
 
   -- the reading of a value at the type reference t, as an array of it where f is 1
   abbrev pub readingOf : Json → ℕ → ℕ → Option (List Typed)
-  readingOf j t f = ended (via (kindOf j) t f) (typed j t f) (plainReading j (target (via (kindOf j) t f) t) f)
-
-  -- the reading of a command's arguments, by the argument struct link
-  abbrev pub argumentsReading : ℕ → Json → Option (List Typed)
-  argumentsReading zero j = cond (isEmpty j) (some (typed j 0 0 ∷ [])) none
-  argumentsReading (suc r) j = readingOf j (first-row + r) 0
+  readingOf j t f = ended (via S T (kindOf j) t f) (typed j t f) (plainReading j (target (via S T (kindOf j) t f) t) f)

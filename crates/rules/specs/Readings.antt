@@ -1,7 +1,7 @@
 -- 01, Readings and records: the rules by which values have types. One rule of the paper, one constructor.
 use Prim.Native.Nat.{ℕ, suc, _+_}
 use mathlib.Core.Path.{_≡_}
-use mathlib.Core.Bool.{true}
+use mathlib.Core.Bool.{Bool, true, false}
 use mathlib.Core.List.{List, [], _∷_, _++_, List·Memᴰ}
 use mathlib.Core.Option.{some}
 use Rattle.grammar.specs.Limits.{first-row, chain-structs}
@@ -14,7 +14,7 @@ use Rattle.grammar.specs.Tree.{Scalar}
 use Rattle.rules.specs.Kinds.{enum-kind, struct-kind, union-kind, alternate-kind}
 use Rattle.rules.specs.Types.{any-type, builtInTakes}
 use Rattle.rules.specs.Values.{valueAt}
-use Rattle.rules.specs.Rows.{kind, typeRef, arrayMark, optional, unionBase, discriminator, branchStruct, arguments, children, members, nameOf}
+use Rattle.rules.specs.Rows.{kind, typeRef, arrayMark, optional, unionBase, discriminator, branchStruct, children, members, nameOf}
 
 -- a value and the type that a reading gives it: a type reference, and 1 if it is an array of that
 pub record Typed : Type 0 where
@@ -45,6 +45,11 @@ module _ (S T : List ℕ) where
     no-branch : {d a e : ℕ} {cs : List ℕ} → discriminator T r ≡ suc d → valueAt (nameOf S T d) fs ≡ some (leaf a e (str cs))
         → ((b : ℕ) → List·Memᴰ b (children T r) → nameOf S T b ≡ cs → ⊥) → Branch r fs []
 
+-- Whether a key that no member has is passed over, or leaves no reading. A command's arguments are read strictly, and no rule passes a key yet.
+abbrev pub strict : Bool
+strict = false
+
+module _ (passes : Bool) (S T : List ℕ) where
   mutual
     -- Reads j t f ts: at the type reference t, as an array of it where f is 1, the value j has the reading ts
     pub data Reads : Json → ℕ → ℕ → List Typed → Type 0 where
@@ -57,10 +62,12 @@ module _ (S T : List ℕ) where
           → Reads (leaf a e (str cs)) t 0 (typed (leaf a e (str cs)) t 0 ∷ [])
       -- Struct: every key a member, every mandatory member there, each value read at its type
       struct : {a e t : ℕ} {fs : Fields} {ms : List ℕ} {ts : List Typed} (r : ℕ) → t ≡ first-row + r → kind T r ≡ struct-kind → members T chain-structs (suc r) ≡ some ms
-          → Mandatory ms fs → ReadsFields ms fs ts → Reads (obj a e fs) t 0 (typed (obj a e fs) t 0 ∷ ts)
+          → Mandatory S T ms fs → ReadsFields ms fs ts → Reads (obj a e fs) t 0 (typed (obj a e fs) t 0 ∷ ts)
+      -- Reference 0, of a command without data: as a struct with no members
+      no-type : {a e : ℕ} {fs : Fields} {ts : List Typed} → ReadsFields [] fs ts → Reads (obj a e fs) 0 0 (typed (obj a e fs) 0 0 ∷ ts)
       -- Union: as a struct over the base's members and those of the branch
       union : {a e t : ℕ} {fs : Fields} {ms bs ns : List ℕ} {ts : List Typed} (r : ℕ) → t ≡ first-row + r → kind T r ≡ union-kind → members T chain-structs (unionBase T r) ≡ some ms
-          → Branch r fs bs → ns ≡ ms ++ bs → Mandatory ns fs → ReadsFields ns fs ts → Reads (obj a e fs) t 0 (typed (obj a e fs) t 0 ∷ ts)
+          → Branch S T r fs bs → ns ≡ ms ++ bs → Mandatory S T ns fs → ReadsFields ns fs ts → Reads (obj a e fs) t 0 (typed (obj a e fs) t 0 ∷ ts)
       -- Alternate: its record, then an alternative's
       alternate : {j : Json} {t c : ℕ} {ts : List Typed} (r : ℕ) → t ≡ first-row + r → kind T r ≡ alternate-kind → List·Memᴰ c (children T r)
           → Reads j (typeRef T c) 0 ts → Reads j t 0 (typed j t 0 ∷ ts)
@@ -76,8 +83,3 @@ module _ (S T : List ℕ) where
       no-field : {ms : List ℕ} → ReadsFields ms no-fields []
       one-field : {a e m : ℕ} {key ms : List ℕ} {j : Json} {fs : Fields} {ts us vs : List Typed} → List·Memᴰ m ms → nameOf S T m ≡ key
           → Reads j (typeRef T m) (arrayMark T m) ts → ReadsFields ms fs us → vs ≡ ts ++ us → ReadsFields ms (field a e key j fs) vs
-
-  -- the arguments of the command at row c; one without data has reference 0, and only {} fits
-  pub data ReadsArguments (c : ℕ) : Json → List Typed → Type 0 where
-    no-data : {a e : ℕ} → arguments T c ≡ 0 → ReadsArguments c (obj a e no-fields) (typed (obj a e no-fields) 0 0 ∷ [])
-    with-data : {r : ℕ} {j : Json} {ts : List Typed} → arguments T c ≡ suc r → Reads j (first-row + r) 0 ts → ReadsArguments c j ts

@@ -21,6 +21,11 @@ abbrev pub after : Option (List ℕ) → List ℕ → Option (List ℕ)
 after none own = none
 after (some inherited) own = some (inherited ++ own)
 
+-- the type reference to a link's row, 0 for no link
+abbrev pub linkRef : ℕ → ℕ
+linkRef zero = 0
+linkRef (suc r) = first-row + r
+
 module _ (T : List ℕ) where
   abbrev pub rowCount : ℕ
   rowCount = length T / row-words

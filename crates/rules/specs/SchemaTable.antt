@@ -14,7 +14,7 @@ use Rattle.rules.specs.Definitions.{Name, TypeText, Member, Data, Pair, 
 use Rattle.rules.specs.Definitions.TypeText.{nothing, one, listOf}
 use Rattle.rules.specs.Definitions.Data.{absent, inline, named}
 use Rattle.rules.specs.Definitions.Body.{enum, struct, union, alternate, command}
-use Rattle.rules.specs.Rows.{members, unionBase, nameOf}
+use Rattle.rules.specs.Rows.{linkRef, members, unionBase, nameOf}
 
 -- how many rows a definition takes: its own, its inline struct's, its children's
 abbrev pub dataRows : Data → ℕ
@@ -55,8 +55,7 @@ placeIn (y ∷ ys) x = cond (sameName x y) 1 (later (placeIn ys x))
 -- a type reference: a built-in's number, or that of a link's row
 abbrev pub reference : ℕ → ℕ → ℕ
 reference (suc b) link = suc b
-reference zero zero = 0
-reference zero (suc r) = first-row + r
+reference zero link = linkRef link
 
 -- one row: kind, name, words 4 to 7; word 8 is 0 in every kind
 abbrev pub row : ℕ → Name → ℕ → ℕ → ℕ → ℕ → List ℕ
