@@ -1,25 +1,25 @@
--- The whole outcome, once the words after the records are cleared: the records stand at the front.
-use Prim.Native.Nat.{ℕ, zero, suc, _+_, _-_, _*_, _≤_}
+-- An answer before the words after it are cleared: refused, whatever the words; accepted, with the records at their front. Clearing gives the whole outcome.
+use Prim.Native.Nat.{ℕ, suc, _+_, _-_, _*_, _/_, _≤_, _<_}
 use native.Mathlib.Omega.{arith}
-use mathlib.Core.Path.{_≡_, refl, sym, ap, _∙_, subst}
+use mathlib.Core.Path.{_≡_, refl, sym, ap, ap₂, _∙_, subst}
+use mathlib.Core.Bool.{true, false}
 use mathlib.Core.List.{List, [], _∷_, _++_, append-nil, append-assoc}
-use mathlib.Core.Option.{none, some}
+use mathlib.Core.Option.{some}
 use lib.ListN.{length, take, drop, replicate, length-append}
-use lib.Seq.{take-at, length-take-le, sets, sets-eq, length-sets}
-use borrow.Author.Tests.{le-leb}
+use lib.Seq.{take-at, length-take-le, sets-eq, length-sets}
+use borrow.Author.Tests.{le-leb, lt-ltb, le-ltb}
 use Rattle.grammar.specs.Limits.{record-words}
 use Rattle.rules.specs.declared.MessageRefusal.{MessageRefusal}
+use Rattle.rules.specs.declared.MessageRefusal.the-variants as M
 use Rattle.rules.specs.declared.MessageAnswer.{MessageAnswer}
 use Rattle.rules.specs.declared.MessageAnswer.the-variants.{Accepted, Refused}
+use Rattle.rules.specs.MessageAnswers.{answerRecords}
 use Rattle.rules.specs.Readings.{Typed, recordOf, recordsOf}
-use Rattle.rules.specs.Answers.{MessageResult, messageRefusals, messageAnswered, messageResult}
+use Rattle.rules.specs.Answers.{MessageResult, refusedBy, acceptedWith, readingResult}
+use Rattle.rules.proofs.Room.{records-length}
 use Rattle.readings.specs.Records.{putRecord, putAll}
 use Rattle.readings.proofs.RecordLaws.{all-length}
-use Rattle.message.specs.Stages.{said, called, reading, refusalIn, Judged, Answered}
-
-records-length : (ts : List Typed) → length (recordsOf ts) ≡ record-words * length ts
-records-length [] = refl
-records-length (t ∷ ts) = let e = records-length ts in omega arith
+use Rattle.message.specs.Stages.{Uncleared}
 
 -- record n is written behind the first n
 put-front : (w : List ℕ) (n : ℕ) (t : Typed) → record-words * n + record-words ≤ length w
@@ -46,39 +46,51 @@ all-front w n k (t ∷ ts) p h =
     all-front (putRecord w n (recordOf t)) (suc n) k ts (omega arith) (omega (arith, put-length w n t f))
     ∙ ap (λ (l : List ℕ). l ++ recordsOf ts) (put-front w n t f) ∙ append-assoc (take (record-words * n) w) (recordOf t) (recordsOf ts)
 
-module _ (S T m : List ℕ) where
-  result-is : (room : ℕ) → messageResult S T m room ≡ messageAnswered S T m room (called S T m) (reading S T m room) (refusalIn S T m room messageRefusals)
-  unfolding messageResult said called reading refusalIn
-  result-is room = refl
+-- refused
+pub refused : {result : MessageResult} {old new : List ℕ} {x : MessageRefusal} → result ≡ refusedBy (length old) x → length new ≡ length old → Uncleared result old new (Refused x)
+refused {result} {old} {new} {x} e l = record {
+  answer = ap (λ (r : MessageResult). r .answer) e;
+  same-length = l;
+  counted = omega arith;
+  words = ap (λ (r : MessageResult). r .words) e ∙ ap (λ (n : ℕ). replicate n 0) (let z : length old ≡ length new - 0 = omega arith in z);
+}
 
-  pub refused : {old mid new : List ℕ} {x : MessageRefusal} → Judged S T m 0 old mid (Refused x) → new ≡ take 0 mid ++ replicate (length mid - 0) 0 → Answered S T m old new (Refused x)
-  refused {old} {mid} {new} {x} j e =
-      let q : length mid - 0 ≡ length old = omega (arith, j .told .1) in
-      record { told = result-is (length old) ∙ rw (j .told .0) (ap (λ (w : List ℕ). record { answer = Refused x; words = w }) (sym (e ∙ ap (λ (n : ℕ). replicate n 0) q))) }
+-- accepted, with the records of a reading that the room holds
+pub accepted : {result : MessageResult} {old new : List ℕ} {c n : ℕ} (ts : List Typed) → result ≡ acceptedWith (length old) c ts → new ≡ putAll old 0 ts → n ≡ length ts
+    → n ≤ length new / record-words → Uncleared result old new (Accepted c n)
+accepted {result} {old} {new} {c} {n} ts e w k h =
+    let l : length new ≡ length old = ap length w ∙ all-length old 0 ts in
+    let f : take (record-words * n) new ≡ recordsOf ts = ap (take (record-words * n)) w ∙ all-front old 0 (record-words * n) ts (omega arith) (omega arith) in
+    let z = records-length ts in
+    let d : length old - length (recordsOf ts) ≡ length new - record-words * n = omega arith in
+    record {
+      answer = ap (λ (r : MessageResult). r .answer) e ∙ ap (Accepted c) (sym k);
+      same-length = l;
+      counted = omega arith;
+      words = ap (λ (r : MessageResult). r .words) e ∙ ap (λ (u : List ℕ). u ++ replicate (length old - length (recordsOf ts)) 0) (sym f)
+          ∙ ap (λ (i : ℕ). take (record-words * n) new ++ replicate i 0) d;
+    }
 
-  pub accepted : {old mid new : List ℕ} {c n k : ℕ} → Judged S T m 0 old mid (Accepted c n) → k ≡ record-words * n → length mid ≡ length old
-      → new ≡ take k mid ++ replicate (length mid - k) 0 → Answered S T m old new (Accepted c n)
-  accepted {old} {mid} {new} {c} {n} {k} j p l e =
-      let v = j .told .1 in
-      let h : take k mid ≡ recordsOf (v .ts) =
-      ap (take k) (v .words) ∙ all-front old 0 k (v .ts) (omega (arith, v .count)) (omega (arith, v .fits)) in
-      let q : length mid - k ≡ length old - length (recordsOf (v .ts)) = let z = records-length (v .ts) in omega (arith, v .count) in
-      record {
-        told = result-is (length old) ∙ rw (j .told .0, v .row, v .reads) (rw (sym (v .count))
-            (ap (λ (w : List ℕ). record { answer = Accepted c n; words = w }) (sym (e ∙ ap (λ (w : List ℕ). w ++ replicate (length mid - k) 0) h ∙ ap (λ (i : ℕ). recordsOf (v .ts) ++ replicate i 0) q))));
-      }
+-- 29 and 30, by a reading
+module _ {result : MessageResult} (old : List ℕ) {new : List ℕ} (c : ℕ) {n : ℕ} (ts : List Typed) (e : result ≡ readingResult (length old) c (some ts)) (w : new ≡ putAll old 0 ts) (k : n ≡ length ts) where
+  same-length : length new ≡ length old
+  same-length = ap length w ∙ all-length old 0 ts
 
-  -- the same of an answer that the code has matched
-  pub refused-is : {old mid new : List ℕ} {a : MessageAnswer} {x : MessageRefusal} → Judged S T m 0 old mid a → a ≡ Refused x
-      → new ≡ take 0 mid ++ replicate (length mid - 0) 0 → Answered S T m old new (Refused x)
-  refused-is {old} {mid} j p e = refused (subst (λ (y : MessageAnswer). Judged S T m 0 old mid y) p j) e
+  pub no-room : length new / record-words < n → Uncleared result old new (Refused M.NoRoom)
+  no-room h = refused (e ∙ rw (lt-ltb (length old / record-words) (length ts) (omega (arith, same-length)))) same-length
 
-  pub accepted-is : {old mid new : List ℕ} {a : MessageAnswer} {c n k : ℕ} → Judged S T m 0 old mid a → a ≡ Accepted c n → k ≡ record-words * n
-      → new ≡ take k mid ++ replicate (length mid - k) 0 → Answered S T m old new (Accepted c n)
-  accepted-is {old} {mid} {n = n} j p q e =
-      let h = subst (λ (y : MessageAnswer). Judged S T m 0 old mid y) p j in
-      let v = h .told .1 in
-      accepted h q (ap length (v .words) ∙ all-length old 0 (v .ts)) e
+  pub held : n ≤ length new / record-words → Uncleared result old new (Accepted c n)
+  held h = accepted ts (e ∙ rw (le-ltb (length old / record-words) (length ts) (omega (arith, same-length)))) w k h
 
-  pub accepted-fits : {old mid : List ℕ} {a : MessageAnswer} {c n : ℕ} → Judged S T m 0 old mid a → a ≡ Accepted c n → record-words * n ≤ length old
-  accepted-fits {old} {mid} j p = subst (λ (y : MessageAnswer). Judged S T m 0 old mid y) p j .told .1 .fits
+module _ {result : MessageResult} {old mid : List ℕ} {a r : MessageAnswer} (u : Uncleared result old mid a) (p : a ≡ r) where
+  at : Uncleared result old mid r
+  at = subst (λ (x : MessageAnswer). Uncleared result old mid x) p u
+
+  pub fits : record-words * answerRecords r ≤ length mid
+  fits = at .counted
+
+  -- cleared
+  pub cleared : {new : List ℕ} {k : ℕ} → k ≡ record-words * answerRecords r → new ≡ take k mid ++ replicate (length mid - k) 0 → result ≡ record { answer = r; words = new }
+  cleared {new} {k} q e =
+      ap₂ (λ (x : MessageAnswer) (w : List ℕ). record { answer = x; words = w }) (at .answer)
+      (at .words ∙ ap (λ (i : ℕ). take i mid ++ replicate (length mid - i) 0) (sym q) ∙ sym e)

@@ -9,20 +9,21 @@ use Rattle.rules.specs.declared.MessageRefusal.{MessageRefusal}
 use Rattle.rules.specs.declared.MessageAnswer.{MessageAnswer}
 use Rattle.rules.specs.declared.MessageAnswer.the-variants.{Accepted, Refused}
 use Rattle.rules.specs.Readings.{Typed}
+use Rattle.rules.specs.Envelope.{Asked}
 use Rattle.rules.specs.MessageAnswers.{Readable, Held}
 use Rattle.rules.specs.Answers.{MessageResult, messageResult}
 use Rattle.rules.proofs.Acceptance.{Gives, accepted-gives, gives-accepted, one-reading, refused-zero}
-use Rattle.rules.proofs.NoQuotedDigits.{Unquoted, arguments-unquoted}
+use Rattle.rules.proofs.NoQuotedDigits.{Unquoted, reads-unquoted}
 use Rattle.message.specs.Stages.{Answered}
 
 pub record Demand3 (S T m old new : List ℕ) (r : MessageAnswer) : Type 0 where
   -- accepted, if the table is sound, the message is within the limits and proper text with no key repeated, its envelope is proper, it names a command it may use,
   -- and there is a reading that the room can hold
-  pub accepts : (c : ℕ) (ts : List Typed) → Readable S T m c ts → Held (length old) ts → r ≡ Accepted c (length ts)
+  pub accepts : (a : Asked) (ts : List Typed) → Readable S T m a ts → Held (length old) ts → r ≡ Accepted (a .second) (length ts)
   -- and only then; the acceptance gives the command's row, the number of records in the reading, and the reading itself as the records, with zeros after it
   pub gives : (c n : ℕ) → r ≡ Accepted c n → Gives S T m (length old) c n new
-  -- where all but the room is so, there is only one reading
-  pub only-one : (c d : ℕ) (ts us : List Typed) → Readable S T m c ts → Readable S T m d us → (c ≡ d) × (ts ≡ us)
+  -- where all but the room is so, it asks for one thing, and there is only one reading
+  pub only-one : (a b : Asked) (ts us : List Typed) → Readable S T m a ts → Readable S T m b us → (a ≡ b) × (ts ≡ us)
   -- no quoted digits are taken for a number, nor a number for quoted digits
   pub unquoted : (c n : ℕ) (e : r ≡ Accepted c n) (x : Typed) → List·Memᴰ x (gives c n e .reading) → Unquoted T x
   -- a refusal leaves every lent word zero
@@ -41,9 +42,9 @@ module _ {S T m old new : List ℕ} {r : MessageAnswer} (a : Answered S T m old 
   pub demand-3 : Demand3 S T m old new r
   demand-3 =
       record {
-        accepts = λ c ts h k. sym answer-is ∙ gives-accepted S T m (length old) h k;
+        accepts = λ a ts h k. sym answer-is ∙ gives-accepted S T m (length old) h k;
         gives = given;
-        only-one = λ c d ts us h k. one-reading S T m h k;
-        unquoted = λ c n e x i. arguments-unquoted S T (given c n e .readable-so .reads) x i;
+        only-one = λ a b ts us h k. one-reading S T m h k;
+        unquoted = λ c n e x i. reads-unquoted S T (given c n e .readable-so .reads) x i;
         zero = λ x e. sym words-are ∙ refused-zero S T m (length old) x (answer-is ∙ e);
       }

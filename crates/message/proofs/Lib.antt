@@ -1,8 +1,7 @@
 -- Laws of the message call.
 pub mod EnvelopeLaws
 pub mod CommandLaws
-pub mod StageLaws
+pub mod AskingLaws
 pub mod AnswerLaws
-pub mod CallLaws
-pub mod ArgumentLaws
+pub mod StageLaws
 pub mod Demand3

@@ -1,140 +1,248 @@
--- From one number to the next: a test that passes gives the refusal, one that fails leaves the outcome to the numbers after it.
-use Prim.Native.Nat.{ℕ, zero, suc, _+_, _-_, _*_, _/_, _≤_, _<_}
+-- From stage to stage: what each finds is what the next one asks for, and what the result of the whole text is.
+use Prim.Native.Nat.{ℕ, zero, suc, _+_, _-_, _*_, _^_, _/_, _≤_, _<_}
 use native.Mathlib.Omega.{arith}
 use mathlib.Core.Path.{_≡_, refl, sym, ap, _∙_, subst}
-use mathlib.Core.Bool.{Bool, true, false, not, _&&_}
-use mathlib.Core.List.{List, [], _∷_, _++_}
+use mathlib.Core.Logic.{⊎-elim, inl, inr}
+use mathlib.Core.Bool.{Bool, true, false, cond, _&&_}
+use mathlib.Core.List.{List, [], _∷_}
 use mathlib.Core.Option.{Option, none, some}
-use lib.Dec.{ltb, eqb}
-use lib.ListN.{length, drop, take, replicate}
+use lib.ListN.{length, getD}
 use borrow.Author.Tests.{lt-ltb, le-ltb}
-use Rattle.grammar.specs.Limits.{message-bytes, record-words}
-use Rattle.grammar.specs.Tree.{Json}
+use Rattle.grammar.specs.Limits.{message-bytes, message-levels, record-words}
+use Rattle.grammar.specs.Tree.{Scalar, Json}
+use Rattle.grammar.specs.Tree.Scalar.{null, bool, num, str}
+use Rattle.grammar.specs.Tree.Json.{leaf, arr, obj}
 use Rattle.grammar.specs.Tree.Items.{no-items, item}
+use Rattle.grammar.specs.Tree.Fields.{no-fields}
 use Rattle.grammar.specs.Keys.{keysOnce}
 use Rattle.grammar.specs.Machine.Out.{whole, fault, deep}
-use Rattle.grammar.specs.Machine.Message.{readMessage}
+use Rattle.grammar.specs.Machine.Message.{message, readMessage}
+use Rattle.grammar.proofs.Texts.{message-complete, message-broken, message-too-deep}
 use Rattle.rules.specs.declared.MessageRefusal.{MessageRefusal}
 use Rattle.rules.specs.declared.MessageRefusal.the-variants as M
 use Rattle.rules.specs.declared.MessageAnswer.{MessageAnswer}
 use Rattle.rules.specs.declared.MessageAnswer.the-variants.{Accepted, Refused}
-use Rattle.rules.specs.Values.{_>>=_}
-use Rattle.rules.specs.Rows.{arguments, allowOob}
 use Rattle.rules.specs.Sound.{sound}
-use Rattle.rules.specs.Envelope.{Envelope, envelope, mayUse}
-use Rattle.rules.specs.Readings.{Typed}
-use Rattle.rules.specs.ReadingOf.{argumentsReading}
-use Rattle.rules.specs.Answers.{messageRefusals, first, commandOf, messageTest}
-use Rattle.readings.specs.Records.{putAll}
-use Rattle.message.specs.Stages.{said, called, reading, refusalIn, Written, JudgedTold, Judged}
+use Rattle.rules.specs.Readings.{Typed, strict}
+use Rattle.rules.specs.Envelope as Spec
+use Rattle.rules.specs.Answers as Answers
+use Rattle.rules.specs.Answers.{MessageResult, asking, askedReading, refusedBy, readingResult, askedResult, textResult, soundResult, messageResult}
+use Rattle.rules.specs.ReadingOf.{readingOf}
+use Rattle.strings.specs.Strings.{plainString}
+use Rattle.tokens.specs.NodeKinds.{plain-string-node, other-string-node, object-node}
+use Rattle.tokens.specs.Tokens.{scalarNode}
+use Rattle.text.specs.Nodes.{node-words, next, Holds, nodeKind}
+use Rattle.text.specs.Keys.{KeysOnce}
+use Rattle.text.specs.Texts.{MessageTold, ReadsMessage}
+use Rattle.text.proofs.KeyLaws.{goes-on}
+use Rattle.text.specs.declared.texts.Text.{Text}
+use Rattle.text.specs.declared.texts.Text.the-variants as Texts
+use Rattle.children.specs.Index.{Given}
+use Rattle.readings.specs.Records.{putAll, ReadTold, ReadsWhole}
+use Rattle.readings.specs.declared.readings.Count.{Count}
+use Rattle.readings.specs.declared.readings.Count.the-variants.{Records, Nothing}
+use Rattle.message.specs.declared.asked.Asked.{Asked}
+use Rattle.message.specs.declared.asked.Asking.{Asking}
+use Rattle.message.specs.declared.asked.Asking.the-variants.{Asks, Refuses}
+use Rattle.message.specs.declared.check.TextFound.{TextFound}
+use Rattle.message.specs.declared.check.TextFound.the-variants as Found
+use Rattle.message.specs.Asking.{StandsAt, AskedAs, AskingTold, AsksFor}
+use Rattle.message.specs.Stages.{NodesFit, WholeText, ValueRead, TextTold, KeysRead, ReadsText, AskedIn, PresentIn, Uncleared}
+use Rattle.message.proofs.AskingLaws.{asked-once}
+use Rattle.message.proofs.AnswerLaws.{refused, no-room, held}
 
--- out of band wants the command's flag
-pub out-of-band-use : (T : List ℕ) (c : ℕ) {w : ℕ} {oob : Bool} → oob ≡ true → w ≡ allowOob T c → eqb w 1 ≡ mayUse T c oob
-out-of-band-use T c e p = rw (e, p) refl
+-- words for as many nodes as a message of so many bytes can have
+pub nodes-fit : (n : ℕ) {m w : List ℕ} → length w ≡ node-words * n → length m ≤ 2 * n → node-words * n < 2 ^ 32 → NodesFit m w
+nodes-fit n e h k = record { enough = omega arith; whole-nodes = omega arith; small = omega arith }
 
-module _ (S T m : List ℕ) where
-  abbrev test : ℕ → MessageRefusal → Bool
-  test room x = messageTest S T m room (readMessage m) (said m) (called S T m) (reading S T m room) x
+-- 25
+module _ {m w : List ℕ} {count : ℕ} (t : WholeText m w count) {b : Bool} (k : KeysOnce message m w count b) where
+  and-true : (b : Bool) → (b && true) ≡ b
+  and-true true = refl
+  and-true false = refl
 
-  -- the number x is the next one; its test passes
-  stop : {old new : List ℕ} (k : ℕ) (x : MessageRefusal) (xs : List MessageRefusal) → drop k messageRefusals ≡ x ∷ xs → test (length old) x ≡ true
-      → length new ≡ length old → Judged S T m k old new (Refused x)
-  unfolding refusalIn
-  stop k x xs p t e = record { told = (rw (p, t) refl, e) }
+  keys-are : b ≡ keysOnce (t .value)
+  keys-are =
+      k .told (item (t .value) no-items) message-levels (omega (arith, t .ends, goes-on message m w (t .value) message-levels 0 (t .holds)), t .holds, t .ends)
+      ∙ and-true (keysOnce (t .value))
 
-  skip : (room : ℕ) (x : MessageRefusal) (xs : List MessageRefusal) → test room x ≡ false → refusalIn S T m room (x ∷ xs) ≡ refusalIn S T m room xs
-  unfolding refusalIn
-  skip room x xs t = rw t refl
+  pub repeated : b ≡ false → KeysRead m w (Found.Refused M.RepeatedKey)
+  repeated e = record { told = λ S T room. rw (t .text, sym keys-are ∙ e) }
 
-  -- its test fails
-  on : {old new : List ℕ} {r : MessageAnswer} (k i : ℕ) (x : MessageRefusal) → drop k messageRefusals ≡ x ∷ drop i messageRefusals → test (length old) x ≡ false
-      → Judged S T m i old new r → Judged S T m k old new r
-  on {old} {new} {r} k i x p t j = record { told = go r (j .told) }
+  pub unrepeated : b ≡ true → KeysRead m w Found.Value
+  unrepeated e = record { told = record { value = t .value; text = t .text; holds = t .holds; once = sym keys-are ∙ e; small = t .small } }
+
+-- 23 and 24
+module _ {m v w : List ℕ} {x : Text} (r : ReadsMessage m v w x) where
+  pub faulty : {e : ℕ} → x ≡ Texts.Fault e → ReadsText m v w (Found.Refused M.NotText)
+  faulty p = let z = message-broken (subst (λ (y : Text). MessageTold m w y) p (r .told)) in record { told = λ S T room. rw z }
+
+  pub deeper : {e : ℕ} → x ≡ Texts.Deep e → ReadsText m v w (Found.Refused M.TooDeep)
+  deeper p = let z = message-too-deep (subst (λ (y : Text). MessageTold m w y) p (r .told)) in record { told = λ S T room. rw z }
+
+  pub never : x ≡ Texts.TooLong → NodesFit m v → ⊥
+  never p h = let z : 2 ^ 31 ≤ length m = subst (λ (y : Text). MessageTold m w y) p (r .told) in omega (arith, h .enough, h .small)
+
+  pub whole-text : {n : ℕ} → x ≡ Texts.Whole n → NodesFit m v → WholeText m w n
+  whole-text {n} e h =
+      let t : MessageTold m w (Texts.Whole n) = subst (λ (y : Text). MessageTold m w y) e (r .told) in
+      let f : node-words * n ≤ length w = omega (arith, t .few, r .same-length, h .enough, h .whole-nodes) in
+      record { value = t .tree; text = message-complete (t .text); holds = t .holds f; ends = t .ends f; small = omega (arith, r .same-length, h .small) }
+
+module _ {m v w : List ℕ} {r : TextFound} (t : ReadsText m v w r) where
+  pub text-refused : {x : MessageRefusal} → r ≡ Found.Refused x → (S T : List ℕ) (room : ℕ) → textResult S T room (readMessage m) ≡ refusedBy room x
+  text-refused e = subst (λ (y : TextFound). TextTold m w y) e (t .told)
+
+  pub value-read : r ≡ Found.Value → ValueRead m w
+  value-read e = subst (λ (y : TextFound). TextTold m w y) e (t .told)
+
+-- what is asked
+module _ {S T m w ix : List ℕ} (g : Given S T ix) (v : ValueRead m w) {r : Asking} (q : AsksFor S T m w r) where
+  told : AskingTold m w (message-levels - 1) (asking S T (v .value)) r
+  told = q .told (g .sound-table) (v .value) message-levels (v .holds)
+
+  pub refuses : {x : MessageRefusal} → r ≡ Refuses x → (room : ℕ) → textResult S T room (readMessage m) ≡ refusedBy room x
+  refuses {x} e room = rw (v .text, v .once) (go (asking S T (v .value)) (subst (λ (y : Asking). AskingTold m w (message-levels - 1) (asking S T (v .value)) y) e told))
     where
-      same-so : refusalIn S T m (length old) (drop k messageRefusals) ≡ refusalIn S T m (length old) (drop i messageRefusals)
-      same-so = ap (refusalIn S T m (length old)) p ∙ skip (length old) x (drop i messageRefusals) t
+      go : (a : Answers.Asking) → AskingTold m w (message-levels - 1) a (Refuses x) → askedResult S T room a ≡ refusedBy room x
+      go (Answers.Asking.asks a) t = absurd t
+      go (Answers.Asking.refuses z) t = ap (refusedBy room) t
 
-      go : (r : MessageAnswer) → JudgedTold S T m i old new r → JudgedTold S T m k old new r
-      go (Accepted c n) h = (same-so ∙ h .0, h .1)
-      go (Refused y) h = (same-so ∙ h .0, h .1)
+  pub asks-in : {x : Asked} → r ≡ Asks x → AskedIn S T m w ix x
+  asks-in {x} e = go (asking S T (v .value)) refl (subst (λ (y : Asking). AskingTold m w (message-levels - 1) (asking S T (v .value)) y) e told)
+    where
+      go : (a : Answers.Asking) → asking S T (v .value) ≡ a → AskingTold m w (message-levels - 1) a (Asks x) → AskedIn S T m w ix x
+      go (Answers.Asking.asks a) p t = record {
+        given = g;
+        value = v .value;
+        text = v .text;
+        once = v .once;
+        asked = a;
+        is = p;
+        levels = message-levels - 1;
+        few = omega arith;
+        like = t;
+        small = v .small;
+      }
+      go (Answers.Asking.refuses z) p t = absurd t
 
-  -- what is computed from the message, by its parts
-  pub said-is : {j : Json} → readMessage m ≡ whole (item j no-items) → said m ≡ envelope j
-  unfolding said
-  said-is p = rw p refl
+-- a node that holds a value is there
+scalar-some : (s : List ℕ) (a e : ℕ) (v : Scalar) → 0 < scalarNode s a e v
+scalar-some s a e null = omega arith
+scalar-some s a e (bool true) = omega arith
+scalar-some s a e (bool false) = omega arith
+scalar-some s a e (num true t) = omega arith
+scalar-some s a e (num false t) = omega arith
+scalar-some s a e (str cs) = go (plainString s a e)
+  where
+    go : (b : Bool) → 0 < cond b plain-string-node other-string-node
+    go true = omega arith
+    go false = omega arith
 
-  module _ {v : Envelope} (p : said m ≡ some v) where
-    called-is : called S T m ≡ commandOf S T v
-    unfolding called
-    called-is = rw p refl
+kind-some : (m w : List ℕ) (j : Json) (l k : ℕ) → Holds message m w j l k → 0 < nodeKind w k
+kind-some m w (leaf a e v) l k h = omega (arith, h .0 .has-kind, scalar-some m a e v)
+kind-some m w (arr a e js) l k h = omega (arith, h .0 .has-kind)
+kind-some m w (obj a e fs) l k h = omega (arith, h .0 .has-kind)
 
-    row-is : {c : ℕ} → commandOf S T v ≡ some c → called S T m ≡ some c
-    row-is q = called-is ∙ q
+there : (w : List ℕ) (i : ℕ) → 0 < getD w i 0 → i < length w
+there [] i h = absurd (omega arith)
+there (x ∷ w) zero h = omega arith
+there (x ∷ w) (suc i) h = omega (arith, there w i h)
 
-    reading-is : {c : ℕ} (room : ℕ) → commandOf S T v ≡ some c → reading S T m room ≡ argumentsReading S T (arguments T c) (v .arguments)
-    unfolding reading
-    reading-is room q = rw (p, row-is q) refl
+node-there : (m w : List ℕ) (j : Json) (l k : ℕ) → Holds message m w j l k → node-words * k < length w
+node-there m w j l k h = omega (arith, there w (node-words * k + 0) (kind-some m w j l k h))
 
-  none-left : (room : ℕ) → refusalIn S T m room (drop 10 messageRefusals) ≡ none
-  unfolding refusalIn
-  none-left room = refl
+-- an absent value is an empty object in words of its own
+abbrev pub empty-nodes : List ℕ
+empty-nodes = object-node ∷ 0 ∷ 0 ∷ 1 ∷ []
 
-  -- 21 and 22
-  pub unsound : {old : List ℕ} → sound S T ≡ false → Judged S T m 0 old old (Refused M.UnsoundTable)
-  unsound e = stop 0 M.UnsoundTable _ refl (rw e) refl
+empty-held : (m : List ℕ) → Holds message m empty-nodes (obj 0 0 no-fields) 1 0
+empty-held m = (record { has-kind = refl; has-start = refl; has-end = refl }, omega arith, omega arith, refl)
 
-  pub too-long : {old : List ℕ} → sound S T ≡ true → message-bytes < length m → Judged S T m 0 old old (Refused M.TooLong)
-  too-long e h = on 0 1 M.UnsoundTable refl (rw e) (stop 1 M.TooLong _ refl (lt-ltb message-bytes (length m) h) refl)
+module _ {S T m w ix : List ℕ} {x : Asked} (a : AskedIn S T m w ix x) where
+  pub absent : x .node ≡ 0 → PresentIn S T m empty-nodes ix x
+  absent e =
+      let v : a .asked .value ≡ obj 0 0 no-fields = ⊎-elim (λ h. h .1) (λ h. absurd (omega (arith, h .0))) (a .like .at) in
+      record {
+        nodes = w;
+        here = a;
+        levels = 1;
+        few = omega arith;
+        holds = subst (λ (k : ℕ). Holds message m empty-nodes (a .asked .value) 1 k) (sym e) (subst (λ (j : Json). Holds message m empty-nodes j 1 0) (sym v) (empty-held m));
+        low = omega arith;
+      }
 
-  pub judged-on : {old new : List ℕ} {r : MessageAnswer} → sound S T ≡ true → length m ≤ message-bytes → Judged S T m 2 old new r → Judged S T m 0 old new r
-  judged-on e h j = on 0 1 M.UnsoundTable refl (rw e) (on 1 2 M.TooLong refl (le-ltb message-bytes (length m) h) j)
+  pub present : (x .node ≡ 0 → ⊥) → PresentIn S T m w ix x
+  present n =
+      let h : Holds message m w (a .asked .value) (a .levels) (x .node) = ⊎-elim (λ h. absurd (n (h .0))) (λ h. h .1) (a .like .at) in
+      record { nodes = w; here = a; levels = a .levels; few = a .few; holds = h; low = omega (arith, node-there m w (a .asked .value) (a .levels) (x .node) h, a .small) }
 
-  -- 23 and 24
-  pub not-text : {old new : List ℕ} {e : ℕ} → readMessage m ≡ fault e → length new ≡ length old → Judged S T m 2 old new (Refused M.NotText)
-  not-text p q = stop 2 M.NotText _ refl (rw p) q
+-- 29 and 30
+module _ {S T m w ix : List ℕ} {x : Asked} (p : PresentIn S T m w ix x) (old : List ℕ) {new : List ℕ} {r : Count} {k t f : ℕ} {b : Bool}
+    (ek : k ≡ x .node) (et : t ≡ x .how .reference) (ef : f ≡ x .how .array) (eb : b ≡ x .how .passes) (g : ReadsWhole S T m w ix old new k t f b r) where
+  reads : ReadTold old new 0 (askedReading S T (p .here .asked)) r
+  reads =
+      let l = p .here .like in
+      let e : readingOf b S T (p .here .asked .value) t f ≡ askedReading S T (p .here .asked) =
+      ap (λ (y : Bool). readingOf y S T (p .here .asked .value) t f) (eb ∙ l .policy) ∙ ap (λ (y : ℕ). readingOf strict S T (p .here .asked .value) y f) (et ∙ l .ref)
+      ∙ ap (λ (y : ℕ). readingOf strict S T (p .here .asked .value) (p .here .asked .ref) y) (ef ∙ l .array) in
+      subst (λ (o : Option (List Typed)). ReadTold old new 0 o r) e
+      (g .told (p .here .asked .value) (p .levels) (p .here .given) (subst (λ (i : ℕ). Holds message m w (p .here .asked .value) (p .levels) i) (sym ek) (p .holds))
+      (asked-once S T (p .here .value) (p .here .asked) (p .here .once) (p .here .is)) (p .few))
 
-  pub too-deep : {old new : List ℕ} {e : ℕ} → readMessage m ≡ deep e → length new ≡ length old → Judged S T m 2 old new (Refused M.TooDeep)
-  too-deep p q = on 2 3 M.NotText refl (rw p) (stop 3 M.TooDeep _ refl (rw p) q)
+  result-is : textResult S T (length old) (readMessage m) ≡ readingResult (length old) (p .here .asked .second) (askedReading S T (p .here .asked))
+  result-is = rw (p .here .text, p .here .once, p .here .is)
 
-  module _ {old new : List ℕ} {j : Json} (p : readMessage m ≡ whole (item j no-items)) where
-    pub text-on : {r : MessageAnswer} → Judged S T m 4 old new r → Judged S T m 2 old new r
-    text-on h = on 2 3 M.NotText refl (rw p) (on 3 4 M.TooDeep refl (rw p) h)
+  pub unread : r ≡ Nothing → Uncleared (textResult S T (length old) (readMessage m)) old new (Refused M.NoReading)
+  unread e = go (askedReading S T (p .here .asked)) refl reads
+    where
+      go : (o : Option (List Typed)) → askedReading S T (p .here .asked) ≡ o → ReadTold old new 0 o r → Uncleared (textResult S T (length old) (readMessage m)) old new (Refused M.NoReading)
+      go none q h = refused (result-is ∙ ap (readingResult (length old) (p .here .asked .second)) q) (h .0)
+      go (some ts) q h = absurd (let z : Nothing ≡ Records (0 + length ts) = sym e ∙ h .1 in let y : _≡_ {A = ℕ} 0 1 = cc in omega arith)
 
-    -- 25 and 26
-    pub repeated : keysOnce j ≡ false → length new ≡ length old → Judged S T m 4 old new (Refused M.RepeatedKey)
-    repeated e q = stop 4 M.RepeatedKey _ refl (rw (p, e)) q
+  module _ {n : ℕ} (e : r ≡ Records n) where
+    record Read : Type 0 where
+      ts : List Typed
+      is : textResult S T (length old) (readMessage m) ≡ readingResult (length old) (p .here .asked .second) (some ts)
+      words : new ≡ putAll old 0 ts
+      count : n ≡ length ts
 
-    pub no-envelope : keysOnce j ≡ true → envelope j ≡ none → length new ≡ length old → Judged S T m 4 old new (Refused M.NotEnvelope)
-    no-envelope e f q = on 4 5 M.RepeatedKey refl (rw (p, e)) (stop 5 M.NotEnvelope _ refl (rw (p, said-is p ∙ f)) q)
+    read : Read
+    read = go (askedReading S T (p .here .asked)) refl reads
+      where
+        go : (o : Option (List Typed)) → askedReading S T (p .here .asked) ≡ o → ReadTold old new 0 o r → Read
+        go none q h = absurd (let z : Records n ≡ Nothing = sym e ∙ h .1 in let y : _≡_ {A = ℕ} 0 1 = cc in omega arith)
+        go (some ts) q h =
+            let z : Records n ≡ Records (0 + length ts) = sym e ∙ h .1 in
+            let y : n ≡ 0 + length ts = cc in
+            record { ts = ts; is = result-is ∙ ap (readingResult (length old) (p .here .asked .second)) q; words = h .0; count = omega arith }
 
-    pub envelope-on : {r : MessageAnswer} {v : Envelope} → keysOnce j ≡ true → envelope j ≡ some v → Judged S T m 6 old new r → Judged S T m 4 old new r
-    envelope-on e f h = on 4 5 M.RepeatedKey refl (rw (p, e)) (on 5 6 M.NotEnvelope refl (rw (p, said-is p ∙ f)) h)
+    pub unheld : length new / record-words < n → Uncleared (textResult S T (length old) (readMessage m)) old new (Refused M.NoRoom)
+    unheld h = no-room old (p .here .asked .second) (read .ts) (read .is) (read .words) (read .count) h
 
-  -- 27
-  module _ {old new : List ℕ} {v : Envelope} (p : said m ≡ some v) where
-    pub unknown : commandOf S T v ≡ none → length new ≡ length old → Judged S T m 6 old new (Refused M.UnknownCommand)
-    unknown e q = stop 6 M.UnknownCommand _ refl (rw (p, called-is p ∙ e)) q
+    pub answered : {c : ℕ} → c ≡ x .second → n ≤ length new / record-words → Uncleared (textResult S T (length old) (readMessage m)) old new (Accepted c n)
+    answered ec h =
+        let z : p .here .asked .second ≡ _ = sym (ec ∙ p .here .like .second) in
+        subst (λ (i : ℕ). Uncleared (textResult S T (length old) (readMessage m)) old new (Accepted i n)) z (held old (p .here .asked .second) (read .ts) (read .is) (read .words) (read .count) h)
 
-    pub known-on : {c : ℕ} {r : MessageAnswer} → commandOf S T v ≡ some c → Judged S T m 7 old new r → Judged S T m 6 old new r
-    known-on e h = on 6 7 M.UnknownCommand refl (rw (p, called-is p ∙ e)) h
+-- 22 and 21
+module _ (S T m : List ℕ) {old new : List ℕ} where
+  pub too-long : message-bytes < length m → length new ≡ length old → Uncleared (soundResult S T m (length old)) old new (Refused M.TooLong)
+  unfolding soundResult
+  too-long h l = refused (rw (lt-ltb message-bytes (length m) h)) l
 
-    -- 28 to 30
-    module _ {c : ℕ} (q : commandOf S T v ≡ some c) where
-      pub in-band-only : mayUse T c (v .outOfBand) ≡ false → length new ≡ length old → Judged S T m 7 old new (Refused M.NotOutOfBand)
-      in-band-only e z = stop 7 M.NotOutOfBand _ refl (rw (p, row-is p q, e)) z
+  pub unsound : sound S T ≡ false → length new ≡ length old → Uncleared (messageResult S T m (length old)) old new (Refused M.UnsoundTable)
+  unfolding messageResult
+  unsound e l = refused (rw e) l
 
-      pub no-reading : mayUse T c (v .outOfBand) ≡ true → argumentsReading S T (arguments T c) (v .arguments) ≡ none → length new ≡ length old
-          → Judged S T m 7 old new (Refused M.NoReading)
-      no-reading e f z = on 7 8 M.NotOutOfBand refl (rw (p, row-is p q, e)) (stop 8 M.NoReading _ refl (rw (row-is p q, reading-is p (length old) q ∙ f)) z)
+  module _ {r : MessageAnswer} where
+    as-result : {a b : MessageResult} → a ≡ b → Uncleared b old new r → Uncleared a old new r
+    as-result e u = subst (λ (x : MessageResult). Uncleared x old new r) (sym e) u
 
-      module _ {ts : List Typed} (e : mayUse T c (v .outOfBand) ≡ true) (f : argumentsReading S T (arguments T c) (v .arguments) ≡ some ts) where
-        pub no-room : length old / record-words < length ts → length new ≡ length old → Judged S T m 7 old new (Refused M.NoRoom)
-        no-room h z =
-            on 7 8 M.NotOutOfBand refl (rw (p, row-is p q, e)) (on 8 9 M.NoReading refl (rw (row-is p q, reading-is p (length old) q ∙ f))
-            (stop 9 M.NoRoom _ refl (rw (reading-is p (length old) q ∙ f) (lt-ltb (length old / record-words) (length ts) h)) z))
+    pub short-enough : length m ≤ message-bytes → Uncleared (textResult S T (length old) (readMessage m)) old new r → Uncleared (soundResult S T m (length old)) old new r
+    unfolding soundResult
+    short-enough h u = as-result (rw (le-ltb message-bytes (length m) h)) u
 
-        pub accepted : {n : ℕ} → length ts ≤ length old / record-words → n ≡ length ts → new ≡ putAll old 0 ts → Judged S T m 7 old new (Accepted c n)
-        accepted h i z =
-            on 7 8 M.NotOutOfBand refl (rw (p, row-is p q, e)) (on 8 9 M.NoReading refl (rw (row-is p q, reading-is p (length old) q ∙ f))
-            (on 9 10 M.NoRoom refl (rw (reading-is p (length old) q ∙ f) (le-ltb (length old / record-words) (length ts) h))
-            (record { told = (none-left (length old), record { ts = ts; row = row-is p q; reads = reading-is p (length old) q ∙ f; count = i; fits = omega arith; words = z }) })))
+    pub is-sound : sound S T ≡ true → Uncleared (soundResult S T m (length old)) old new r → Uncleared (messageResult S T m (length old)) old new r
+    unfolding messageResult
+    is-sound e u = as-result (rw e) u

@@ -1,18 +1,15 @@
-// The message call: each number is judged before the next; the records are written as they are read, and cleared where the message is refused.
-use crate::commands::Command;
-use crate::commands::find_command;
-use crate::envelope::Envelope;
-use crate::envelope::read_envelope;
+// The message call: a sound table and its index, the message's text, what it asks, and the reading of that. Each stage answers what it found; records are written as they are read.
+use crate::asked::Asked;
+use crate::asked::Asking;
+use crate::asked::ask_command;
 use children::index::INDEX_WORDS;
 use children::index::fill_index;
 use readings::readings::Count;
-use readings::readings::read_arguments;
-use rows::rows::word;
+use readings::readings::read_whole;
 use rules::MESSAGE_BYTES;
 use rules::MessageAnswer;
 use rules::MessageRefusal;
 use rules::RECORD_WORDS;
-use rules::row;
 use table::sound::is_sound;
 use text::keys::keys_once;
 use text::nodes::NODE_WORDS;
@@ -20,14 +17,13 @@ use text::texts::Text;
 use text::texts::read_message;
 use tokens::node;
 use words::clear;
-ghost use mathlib.Core.Path.{_≡_};
-ghost use mathlib.Core.Bool.{true};
 ghost use Prim.Native.Nat.{_≤_, _<_, _^_};
 ghost use lib.ListN.{length};
 ghost use Rattle.grammar.specs.Limits.{message-bytes};
-ghost use Rattle.rules.specs.Envelope.{mayUse};
-ghost use Rattle.rules.specs.Sound.{sound};
-ghost use Rattle.message.specs.Stages.{short-message, NodesFit, TextRead, SaysCall, FoundRow, CallsRow, Judged, Answered};
+ghost use Rattle.grammar.specs.Machine.Message.{readMessage};
+ghost use Rattle.rules.specs.Answers.{textResult, soundResult, messageResult};
+ghost use Rattle.children.specs.Index.{Given};
+ghost use Rattle.message.specs.Stages.{short-message, NodesFit, ReadsText, KeysRead, WholeText, AskedIn, PresentIn, Uncleared, Answered};
 
 // There is at most one node for every two bytes.
 const NODE_ROOM: usize = NODE_WORDS * (MESSAGE_BYTES / 2);
@@ -37,168 +33,162 @@ const SHORT_MESSAGE: usize = MESSAGE_BYTES / 4;
 
 const SHORT_ROOM: usize = NODE_WORDS * (SHORT_MESSAGE / 2);
 
-// Whether a message may use the command at row c.
-fn may_use(rows: &[u32], c: usize, oob: bool) -> bool
-    ensures { λ r. ⌜ r ≡ mayUse (now (rows .entry)) c oob ⌝ }
-{
-    if oob {
-        return word(rows, c, row::ALLOW_OOB) == 1;
-    }
-    true
+// The message's value stands in the nodes from node 0 on; or why there is none.
+pub enum TextFound {
+    Value,
+    Refused(MessageRefusal),
 }
 
-// Numbers 28 to 30: the arguments at node k of the command at row c.
-fn with_command(
+// 25: whether no key is repeated, over the nodes.
+fn find_repeats(m: &[u8], nodes: &[u32], count: usize) -> TextFound
+    requires { ⌜ WholeText (now m) (now nodes) count ⌝ }
+    ensures { λ r. ⌜ KeysRead (now (m .entry)) (now (nodes .entry)) r ⌝ }
+{
+    if !keys_once(m, false, nodes, count) {
+        return TextFound::Refused(MessageRefusal::RepeatedKey);
+    }
+    TextFound::Value
+}
+
+// 23 to 25: the message's text, into words that its nodes fit.
+fn read_text(m: &[u8], nodes: &mut [u32]) -> TextFound
+    requires { ⌜ NodesFit (now m) (now nodes) ⌝ }
+    ensures { λ r. ⌜ ReadsText (now (m .entry)) (now (nodes .entry)) (now (nodes .exit)) r ⌝ }
+{
+    match read_message(m, nodes) {
+        Text::Whole(count) => find_repeats(m, nodes, count),
+        Text::Fault(_e) => TextFound::Refused(MessageRefusal::NotText),
+        Text::Deep(_e) => TextFound::Refused(MessageRefusal::TooDeep),
+        Text::TooLong => TextFound::Refused(MessageRefusal::NotText),
+    }
+}
+
+// 29 and 30: the value at the node asked for.
+fn read_present(
     schema: &[u8],
     rows: &[u32],
     m: &[u8],
     nodes: &[u32],
-    k: usize,
-    c: usize,
-    oob: bool,
+    index: &[u32],
+    asked: Asked,
     records: &mut [u32],
 ) -> MessageAnswer
-    requires { ⌜ CallsRow (now schema) (now rows) (now m) (now nodes) k c oob ⌝ }
-    ensures { λ r. ⌜ Judged (now (schema .entry)) (now (rows .entry)) (now (m .entry)) 7 (now (records .entry)) (now (records .exit)) r ⌝ }
+    requires { ⌜ PresentIn (now schema) (now rows) (now m) (now nodes) (now index) asked ⌝ }
+    ensures { λ r. ⌜ Uncleared (textResult (now (schema .entry)) (now (rows .entry)) (length (now (records .entry))) (readMessage (now (m .entry)))) (now (records .entry)) (now (records .exit)) r ⌝ }
 {
-    if !may_use(rows, c, oob) {
-        return MessageAnswer::Refused(MessageRefusal::NotOutOfBand);
-    }
-    let mut index = [0u32; INDEX_WORDS];
-    fill_index(schema, rows, &mut index);
-    match read_arguments(schema, rows, m, nodes, &index, k, c, records) {
+    let how = asked.how;
+    match read_whole(schema, rows, m, nodes, index, asked.node, how, records) {
         Count::Nothing => MessageAnswer::Refused(MessageRefusal::NoReading),
         Count::Records(n) => {
             if records.len() / RECORD_WORDS < n {
                 return MessageAnswer::Refused(MessageRefusal::NoRoom);
             }
-            MessageAnswer::Accepted(c, n)
+            MessageAnswer::Accepted(asked.second, n)
         }
     }
 }
 
-// The same, with absent arguments read as an empty object at 0, 0.
-fn with_arguments(
+// 29 and 30: what is asked; an absent value is read as an empty object at 0, 0.
+fn read_asked(
     schema: &[u8],
     rows: &[u32],
     m: &[u8],
     nodes: &[u32],
-    arguments: usize,
-    c: usize,
-    oob: bool,
+    index: &[u32],
+    asked: Asked,
     records: &mut [u32],
 ) -> MessageAnswer
-    requires { ⌜ FoundRow (now schema) (now rows) (now m) (now nodes) arguments c oob ⌝ }
-    ensures { λ r. ⌜ Judged (now (schema .entry)) (now (rows .entry)) (now (m .entry)) 7 (now (records .entry)) (now (records .exit)) r ⌝ }
+    requires { ⌜ AskedIn (now schema) (now rows) (now m) (now nodes) (now index) asked ⌝ }
+    ensures { λ r. ⌜ Uncleared (textResult (now (schema .entry)) (now (rows .entry)) (length (now (records .entry))) (readMessage (now (m .entry)))) (now (records .entry)) (now (records .exit)) r ⌝ }
 {
-    if arguments == 0 {
+    if asked.node == 0 {
         let empty = [node::OBJECT, 0, 0, 1];
-        return with_command(schema, rows, m, &empty, 0, c, oob, records);
+        return read_present(schema, rows, m, &empty, index, asked, records);
     }
-    with_command(schema, rows, m, nodes, arguments, c, oob, records)
+    read_present(schema, rows, m, nodes, index, asked, records)
 }
 
-// Number 27: the command named at a node.
-fn with_name(
+// 23 on, stage by stage, with words that the nodes of the message fit.
+fn answer_in(
     schema: &[u8],
     rows: &[u32],
-    m: &[u8],
-    nodes: &[u32],
-    name: usize,
-    oob: bool,
-    arguments: usize,
-    records: &mut [u32],
-) -> MessageAnswer
-    requires { ⌜ SaysCall (now schema) (now rows) (now m) (now nodes) name oob arguments ⌝ }
-    ensures { λ r. ⌜ Judged (now (schema .entry)) (now (rows .entry)) (now (m .entry)) 6 (now (records .entry)) (now (records .exit)) r ⌝ }
-{
-    match find_command(schema, rows, m, nodes, name) {
-        Command::Unknown => MessageAnswer::Refused(MessageRefusal::UnknownCommand),
-        Command::Row(c) => with_arguments(schema, rows, m, nodes, arguments, c, oob, records),
-    }
-}
-
-// Numbers 25 and 26, over the nodes.
-fn with_nodes(
-    schema: &[u8],
-    rows: &[u32],
-    m: &[u8],
-    nodes: &[u32],
-    count: usize,
-    records: &mut [u32],
-) -> MessageAnswer
-    requires { ⌜ TextRead (now schema) (now rows) (now m) (now nodes) count ⌝ }
-    ensures { λ r. ⌜ Judged (now (schema .entry)) (now (rows .entry)) (now (m .entry)) 4 (now (records .entry)) (now (records .exit)) r ⌝ }
-{
-    if !keys_once(m, false, nodes, count) {
-        return MessageAnswer::Refused(MessageRefusal::RepeatedKey);
-    }
-    match read_envelope(m, nodes) {
-        Envelope::Improper => MessageAnswer::Refused(MessageRefusal::NotEnvelope),
-        Envelope::Call(name, oob, arguments) => with_name(
-            schema,
-            rows,
-            m,
-            nodes,
-            name,
-            oob,
-            arguments,
-            records,
-        ),
-    }
-}
-
-// Numbers 23 and 24, with words that the nodes of the message fit.
-fn with_words(
-    schema: &[u8],
-    rows: &[u32],
+    index: &[u32],
     m: &[u8],
     nodes: &mut [u32],
     records: &mut [u32],
 ) -> MessageAnswer
-    requires { ⌜ (sound (now schema) (now rows) ≡ true) × NodesFit (now m) (now nodes) ⌝ }
-    ensures { λ r. ⌜ Judged (now (schema .entry)) (now (rows .entry)) (now (m .entry)) 2 (now (records .entry)) (now (records .exit)) r ⌝ }
+    requires { ⌜ Given (now schema) (now rows) (now index) × NodesFit (now m) (now nodes) ⌝ }
+    ensures { λ r. ⌜ Uncleared (textResult (now (schema .entry)) (now (rows .entry)) (length (now (records .entry))) (readMessage (now (m .entry)))) (now (records .entry)) (now (records .exit)) r ⌝ }
 {
-    match read_message(m, nodes) {
-        Text::Whole(count) => with_nodes(schema, rows, m, nodes, count, records),
-        Text::Fault(_e) => MessageAnswer::Refused(MessageRefusal::NotText),
-        Text::Deep(_e) => MessageAnswer::Refused(MessageRefusal::TooDeep),
-        Text::TooLong => MessageAnswer::Refused(MessageRefusal::NotText),
+    let found = read_text(m, nodes);
+    if let TextFound::Refused(x) = found {
+        return MessageAnswer::Refused(x);
+    }
+    match ask_command(schema, rows, m, nodes) {
+        Asking::Refuses(x) => MessageAnswer::Refused(x),
+        Asking::Asks(asked) => read_asked(schema, rows, m, nodes, index, asked, records),
     }
 }
 
-// The same of a short message, whose nodes fit fewer words.
-fn with_short_text(schema: &[u8], rows: &[u32], m: &[u8], records: &mut [u32]) -> MessageAnswer
-    requires { ⌜ (sound (now schema) (now rows) ≡ true) × (length (now m) ≤ short-message) ⌝ }
-    ensures { λ r. ⌜ Judged (now (schema .entry)) (now (rows .entry)) (now (m .entry)) 2 (now (records .entry)) (now (records .exit)) r ⌝ }
+// The nodes of a short message, and of a longer one.
+fn answer_short(
+    schema: &[u8],
+    rows: &[u32],
+    index: &[u32],
+    m: &[u8],
+    records: &mut [u32],
+) -> MessageAnswer
+    requires { ⌜ Given (now schema) (now rows) (now index) × (length (now m) ≤ short-message) ⌝ }
+    ensures { λ r. ⌜ Uncleared (textResult (now (schema .entry)) (now (rows .entry)) (length (now (records .entry))) (readMessage (now (m .entry)))) (now (records .entry)) (now (records .exit)) r ⌝ }
 {
     let mut nodes = [0u32; SHORT_ROOM];
-    with_words(schema, rows, m, &mut nodes, records)
+    answer_in(schema, rows, index, m, &mut nodes, records)
 }
 
-// The same of a longer message.
-fn with_long_text(schema: &[u8], rows: &[u32], m: &[u8], records: &mut [u32]) -> MessageAnswer
-    requires { ⌜ (sound (now schema) (now rows) ≡ true) × (length (now m) ≤ message-bytes) ⌝ }
-    ensures { λ r. ⌜ Judged (now (schema .entry)) (now (rows .entry)) (now (m .entry)) 2 (now (records .entry)) (now (records .exit)) r ⌝ }
+fn answer_long(
+    schema: &[u8],
+    rows: &[u32],
+    index: &[u32],
+    m: &[u8],
+    records: &mut [u32],
+) -> MessageAnswer
+    requires { ⌜ Given (now schema) (now rows) (now index) × (length (now m) ≤ message-bytes) ⌝ }
+    ensures { λ r. ⌜ Uncleared (textResult (now (schema .entry)) (now (rows .entry)) (length (now (records .entry))) (readMessage (now (m .entry)))) (now (records .entry)) (now (records .exit)) r ⌝ }
 {
     let mut nodes = [0u32; NODE_ROOM];
-    with_words(schema, rows, m, &mut nodes, records)
+    answer_in(schema, rows, index, m, &mut nodes, records)
 }
 
-// All numbers, from 21 and 22 on.
-fn judge(schema: &[u8], rows: &[u32], m: &[u8], records: &mut [u32]) -> MessageAnswer
-    ensures { λ r. ⌜ Judged (now (schema .entry)) (now (rows .entry)) (now (m .entry)) 0 (now (records .entry)) (now (records .exit)) r ⌝ }
+// 22 on: a message against a sound table and its index, which a run of messages can share.
+fn answer_given(
+    schema: &[u8],
+    rows: &[u32],
+    index: &[u32],
+    m: &[u8],
+    records: &mut [u32],
+) -> MessageAnswer
+    requires { ⌜ Given (now schema) (now rows) (now index) ⌝ }
+    ensures { λ r. ⌜ Uncleared (soundResult (now (schema .entry)) (now (rows .entry)) (now (m .entry)) (length (now (records .entry)))) (now (records .entry)) (now (records .exit)) r ⌝ }
 {
-    if !is_sound(schema, rows) {
-        return MessageAnswer::Refused(MessageRefusal::UnsoundTable);
-    }
     if MESSAGE_BYTES < m.len() {
         return MessageAnswer::Refused(MessageRefusal::TooLong);
     }
     if m.len() <= SHORT_MESSAGE {
-        return with_short_text(schema, rows, m, records);
+        return answer_short(schema, rows, index, m, records);
     }
-    with_long_text(schema, rows, m, records)
+    answer_long(schema, rows, index, m, records)
+}
+
+// 21: the table is judged and its index filled before the message is looked at.
+fn answer(schema: &[u8], rows: &[u32], m: &[u8], records: &mut [u32]) -> MessageAnswer
+    ensures { λ r. ⌜ Uncleared (messageResult (now (schema .entry)) (now (rows .entry)) (now (m .entry)) (length (now (records .entry)))) (now (records .entry)) (now (records .exit)) r ⌝ }
+{
+    if !is_sound(schema, rows) {
+        return MessageAnswer::Refused(MessageRefusal::UnsoundTable);
+    }
+    let mut index = [0u32; INDEX_WORDS];
+    fill_index(schema, rows, &mut index);
+    answer_given(schema, rows, &index, m, records)
 }
 
 // Reads a message against a table and its schema: the command's row and the records of its arguments, or why it is refused.
@@ -210,7 +200,7 @@ pub fn check_message(
 ) -> MessageAnswer
     ensures { λ r. ⌜ Answered (now (schema .entry)) (now (table .entry)) (now (message .entry)) (now (records .entry)) (now (records .exit)) r ⌝ }
 {
-    let a = judge(schema, table, message, records);
+    let a = answer(schema, table, message, records);
     match a {
         MessageAnswer::Refused(x) => {
             clear(records, 0);

@@ -9,16 +9,16 @@ use mathlib.Core.Option.{Option, none, some}
 use native.Mathlib.Omega.{arith}
 use lib.Dec.{eqb, ltb}
 use lib.ListN.{length, List·getD-eq-default}
-use borrow.Author.Tests.{eq-eqb, eqb-true, ltb-true, ltb-false}
-use Rattle.grammar.specs.Limits.{row-words, chain-structs}
+use borrow.Author.Tests.{eq-eqb, eqb-true, ltb-true, ltb-false, leb-true}
+use Rattle.grammar.specs.Limits.{row-words, chain-structs, table-rows}
 use Rattle.grammar.specs.Notation.{same, all, apart}
 use Rattle.grammar.specs.Tree.{Kind}
 use Rattle.rules.specs.Kinds.{struct-kind, member-kind, union-kind, branch-kind, alternate-kind, command-kind}
 use Rattle.rules.specs.Types.{column, sameKind}
-use Rattle.rules.specs.Rows.{upFrom, rowCount, kind, isEnum, isStruct, isUnion, isAlternate, isCommand, base, typeRef, unionBase, discriminator, branchStruct, next, unnamed, owns, children, members, after, typeKind, nameOf, ownerLink}
+use Rattle.rules.specs.Rows.{upFrom, rowCount, kind, isEnum, isStruct, isUnion, isAlternate, isCommand, base, typeRef, unionBase, discriminator, branchStruct, arguments, allowOob, returns, returnsArray, next, unnamed, owns, children, members, after, typeKind, nameOf, ownerLink}
 use Rattle.rules.specs.Rules.{everyRow, namesOf, is, sameKinds, kindsOf, noClash, those, isDefinition, distinctNames, goodChains, goodUnions, goodAlternates, chainFits, unionFits, alternateFits, discriminatorFits, branchFits}
 use Rattle.rules.specs.Envelope.{Names}
-use Rattle.rules.specs.Sound.{sound, restZero, referencesFit, toStruct}
+use Rattle.rules.specs.Sound.{sound, restZero, referencesFit, isFlag, toStruct, toType}
 use Rattle.rules.proofs.Lists.{none-not-some, and-left, and-right, and-of, or-cases, or-right, or-implies, not-of, all-true, is-true, is-at, in-those, in-upFrom, in-map, apart-only, apart-injective, apart-append}
 use Rattle.rules.proofs.TableRows.{no-children, unnamed-struct, owned-struct, fit-child, laid-fit, members-agree}
 
@@ -28,11 +28,13 @@ StructLink T l = (s : ℕ) → l ≡ suc s → kind T s ≡ struct-kind
 
 pub record SoundFacts (S T : List ℕ) : Type 0 where
   -- a row of some kind is one of the table's, and its children are of the kind after its own
+  pub few-rows : rowCount T ≤ table-rows
   pub row-there : (r : ℕ) → (kind T r ≡ 0 → ⊥) → r < rowCount T
   pub child-kind : (r c : ℕ) → List·Memᴰ c (children T r) → kind T c ≡ suc (kind T r)
   -- links
   pub base-link : (r : ℕ) → kind T r ≡ struct-kind → StructLink T (base T r)
   pub union-link : (r : ℕ) → kind T r ≡ union-kind → StructLink T (unionBase T r)
+  pub command-link : (r : ℕ) → kind T r ≡ command-kind → StructLink T (arguments T r)
   pub branch-link : (r b : ℕ) → kind T r ≡ union-kind → List·Memᴰ b (children T r) → StructLink T (branchStruct T b)
   pub discriminator-link : (r : ℕ) → kind T r ≡ union-kind → (d : ℕ) × (discriminator T r ≡ suc d)
   -- names that one object may have as keys, and names of one list
@@ -120,6 +122,20 @@ module _ (S T : List ℕ) (h : sound S T ≡ true) where
       let f : unionRefers r ≡ true = union-refers r k in
       ⊎-elim (to-owned T r) (to-struct T (unionBase T r))
       (or-cases (owns T r) (toStruct T (unionBase T r)) (search (and-left, and-right)))
+
+  -- what a command refers to
+  command-to : (r : ℕ) → kind T r ≡ command-kind → StructLink T (arguments T r)
+  command-to r k =
+      let f : referencesFit T r ≡ true = refers r (omega arith) in
+      let g : (eqb (arguments T r) 0 || owns T r || toStruct T (arguments T r)) && isFlag T (allowOob T r)
+      && (eqb (returns T r) 0 && eqb (returnsArray T r) 0 || toType T (returns T r) && isFlag T (returnsArray T r)) ≡ true =
+      or-implies (isCommand T r) _ (search (and-left, and-right)) (eq-eqb (kind T r) command-kind k) in
+      ⊎-elim (λ o. ⊎-elim (λ (z : eqb (arguments T r) 0 ≡ true) s e. let y : arguments T r ≡ 0 = eqb-true (arguments T r) 0 z in absurd (omega arith)) (to-owned T r) (or-cases (eqb (arguments T r) 0) (owns T r) o))
+      (to-struct T (arguments T r)) (or-cases (eqb (arguments T r) 0 || owns T r) (toStruct T (arguments T r)) (search (and-left, and-right)))
+
+  few : rowCount T ≤ table-rows
+  unfolding sound
+  few = leb-true (rowCount T) table-rows (search (and-left, and-right) depth 14)
 
   discriminator-to : (r : ℕ) → kind T r ≡ union-kind → (d : ℕ) × (discriminator T r ≡ suc d)
   discriminator-to r k =
@@ -225,10 +241,12 @@ module _ (S T : List ℕ) (h : sound S T ≡ true) where
 
 pub sound-facts : (S T : List ℕ) → sound S T ≡ true → SoundFacts S T
 sound-facts S T h = record {
+  few-rows = few S T h;
   row-there = there S T h;
   child-kind = fit S T h;
   base-link = base-to S T h;
   union-link = union-to S T h;
+  command-link = command-to S T h;
   branch-link = branch-to S T h;
   discriminator-link = discriminator-to S T h;
   children-apart = own-apart S T h;

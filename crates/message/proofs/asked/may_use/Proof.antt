@@ -1,8 +1,8 @@
--- `check::may_use` meets its contract: out of band wants the command's flag.
-use Rattle.message.proofs.StageLaws.{out-of-band-use}
+-- `asked::may_use` meets its contract: out of band wants the command's flag.
+use Rattle.message.proofs.AskingLaws.{out-of-band-use}
 use borrow.Author.Needs.{needs}
-use Rattle.message.proofs.check.may_use.Statement.{statement}
-use Rattle.message.proofs.check.may_use.Tie as tie
+use Rattle.message.proofs.asked.may_use.Statement.{statement}
+use Rattle.message.proofs.asked.may_use.Tie as tie
 
 word-requires : tie.Need-word-requires
 word-requires c κs = search needs
