@@ -38,17 +38,6 @@ module _ (S T : List ℕ) where
   unmeant : (ms : List ℕ) (key : List ℕ) → all (λ y. not (same key y)) (namesOf S T ms) ≡ true → memberIn S T key ms ≡ 0
   unmeant ms key h = eqb-true (memberIn S T key ms) 0 (not-false (eqb (memberIn S T key ms) 0) (one-of S T key ms ∙ differs (namesOf S T ms) key h))
 
-  -- where none is mandatory, all of them are there
-  pub none-asked : (fs : Fields) (ms : List ℕ) → mandatoryIn T ms ≡ 0 → mandatoryThere S T ms fs ≡ true
-  unfolding mandatoryIn
-  none-asked fs [] e = refl
-  none-asked fs (m ∷ ms) e = go (eqb (optional T m) 0) e (none-asked fs ms)
-    where
-      go : (b : Bool) → cond b (suc (mandatoryIn T ms)) (mandatoryIn T ms) ≡ 0 → (mandatoryIn T ms ≡ 0 → mandatoryThere S T ms fs ≡ true)
-          → (not b || anyOf (keysOf fs) (nameOf S T m)) && mandatoryThere S T ms fs ≡ true
-      go true p f = absurd (omega arith)
-      go false p f = f p
-
   -- no member, no field that means one
   met-none : (fs : Fields) → met S T [] fs ≡ 0
   unfolding met metBy

@@ -43,7 +43,7 @@ module _ (S T : List ℕ) (cs : List ℕ) where
       go true q r = absurd (omega arith)
       go false q r = r q
 
-  -- the same as the other lookups by name
+  -- it agrees with the other lookups by name
   pub one-of : (l : List ℕ) → not0 (memberIn S T cs l) ≡ anyOf (namesOf S T l) cs
   one-of [] = refl
   one-of (c ∷ l) = go (same cs (nameOf S T c)) (one-of l)

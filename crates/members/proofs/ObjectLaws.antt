@@ -1,4 +1,4 @@
--- The members that an object has at a type: a struct's, or those of a union's base and of the branch that is chosen; and whether the mandatory ones are there.
+-- The members that an object has at a type: a struct's, or those of a union's base and of the branch that is chosen.
 -- The idea: each return says what the object's members are by the type's row; in a sound table every link has its members.
 use Prim.Native.Nat.{ℕ, suc, _+_, _-_, _<_, _≤_}
 use mathlib.Core.Path.{_≡_, refl, sym, ap, ap₂, _∙_}
@@ -20,7 +20,7 @@ use Rattle.rules.specs.Values.{asString, valueAt}
 use Rattle.rules.specs.Rows.{kind, unionBase, discriminator, branchStruct, children, members, nameOf}
 use Rattle.rules.specs.Rules.{namesOf}
 use Rattle.rules.specs.SchemaTable.{memberIn}
-use Rattle.rules.specs.ReadingOf.{append, branchLink, chosen, membersAt, mandatoryThere}
+use Rattle.rules.specs.ReadingOf.{append, branchLink, chosen, membersAt}
 use Rattle.rules.proofs.Lists.{clash}
 use Rattle.rules.proofs.Lookups.{member-found}
 use Rattle.rules.proofs.SoundFacts.{sound-facts}
@@ -28,12 +28,12 @@ use Rattle.rules.proofs.ReadingParts.{members-struct, members-union}
 use Rattle.text.specs.Nodes.{Holds, nodeKind}
 use Rattle.lookups.specs.Lookups.{stringKind, ValueFound, FindsValue}
 use Rattle.lookups.proofs.NodeLaws.{string-node}
-use Rattle.members.specs.Members.{FieldsAt, BothThere, BranchTold, BranchOf, TwoStructs, StructsTold, StructsAt, ObjectTold, ObjectAt}
+use Rattle.members.specs.Members.{FieldsAt, BranchTold, BranchOf, StructsTold, StructsAt}
 use Rattle.children.specs.Index.{Given}
 use Rattle.children.specs.Children.{ChildMeant}
 use Rattle.children.specs.Children.MeaningAt.{a-string}
 use Rattle.members.specs.declared.objects.Structs.{Structs}
-use Rattle.members.specs.declared.objects.Structs.the-variants.{Two, Neither}
+use Rattle.members.specs.declared.objects.Structs.the-variants.{Links, NoObject}
 use Rattle.members.proofs.MemberLaws.{members-zero, branch-none, branch-at}
 use Rattle.members.proofs.SoundMembers.{Has, struct-has, link-has}
 
@@ -47,16 +47,16 @@ not-string (arr a e js) h = refl
 not-string (obj a e fs) h = refl
 
 -- the branch of the union at row r
-module _ (S T m w ix : List ℕ) (r : ℕ) {k v tag link : ℕ} {name : List ℕ} (p : name ≡ nameOf S T tag) (p′ : tag ≡ link - 1) (p″ : link ≡ discriminator T r)
+module _ (S T m w ix : List ℕ) (r : ℕ) {k v x link : ℕ} {name : List ℕ} (p : name ≡ nameOf S T x) (p′ : x ≡ link - 1) (p″ : link ≡ discriminator T r)
     (g : FindsValue message m w k name v) where
   -- what is chosen, by the value found
   by-value : (P : Option (List ℕ) → Type 0) (fs : Fields) (u : FieldsAt m w k fs)
       → ((o : Option Json) → ValueFound message m w (u .levels) o v → P (chosen S T r o)) → P (chosen S T r (valueAt (nameOf S T (discriminator T r - 1)) fs))
   by-value P fs u f =
-      let e : name ≡ nameOf S T (discriminator T r - 1) = p ∙ ap (nameOf S T) (p′ ∙ ap (λ (x : ℕ). x - 1) p″) in
+      let e : name ≡ nameOf S T (discriminator T r - 1) = p ∙ ap (nameOf S T) (p′ ∙ ap (λ (i : ℕ). i - 1) p″) in
       rw (← e) (f (valueAt name fs) (g .told fs (u .levels) (u .holds)))
 
-  pub branch-absent : v ≡ 0 → BranchOf S T m w ix r k Neither
+  pub branch-absent : v ≡ 0 → BranchOf S T m w ix r k NoObject
   branch-absent z = record { told = λ fs h e u. by-value (λ x. x ≡ none) fs u (go (u .levels)) }
     where
       go : (l : ℕ) (o : Option Json) → ValueFound message m w l o v → chosen S T r o ≡ none
@@ -64,7 +64,7 @@ module _ (S T m w ix : List ℕ) (r : ℕ) {k v tag link : ℕ} {name : List ℕ
       go l (some j) q = absurd (omega (arith, q .0))
 
   module _ {t : Bool} (i : t ≡ stringKind (nodeKind w v)) where
-    pub branch-other : t ≡ false → BranchOf S T m w ix r k Neither
+    pub branch-other : t ≡ false → BranchOf S T m w ix r k NoObject
     branch-other f = record { told = λ fs h e u. by-value (λ x. x ≡ none) fs u (go (u .levels)) }
       where
         go : (l : ℕ) (o : Option Json) → ValueFound message m w l o v → chosen S T r o ≡ none
@@ -96,13 +96,13 @@ module _ (S T m w ix : List ℕ) (r : ℕ) {k v tag link : ℕ} {name : List ℕ
         Apart added = (ms : List ℕ) → members T chain-structs (unionBase T r) ≡ some ms → apart same (namesOf S T (ms ++ added)) ≡ true
 
         found : (y : ℕ) → Given S T ix → ((cs : List ℕ) → c ≡ memberIn S T cs (children T r) → (has : Has T y) × Apart (has .rows) × (branchLink S T cs (children T r) ≡ y))
-            → (fs : Fields) → FieldsAt m w k fs → BranchTold S T r fs (Two b y)
+            → (fs : Fields) → FieldsAt m w k fs → BranchTold S T r fs (Links b y)
         found y g z fs u =
             let f = chooses (λ x. (has : Has T y) × Apart (has .rows) × (x ≡ some (has .rows))) fs u
             (λ a e l cs h. let o = z cs (d .told cs g (a-string a e l h)) in (o .0, o .1, ap (members T chain-structs) (o .2) ∙ o .0 .are)) in
             (q, record { added = f .0 .rows; added-is = f .0 .are; chosen-is = f .2; names-apart = f .1 })
 
-        pub branch-unmeant : c ≡ 0 → BranchOf S T m w ix r k (Two b 0)
+        pub branch-unmeant : c ≡ 0 → BranchOf S T m w ix r k (Links b 0)
         branch-unmeant z = record {
           told = λ fs h e u. found 0 h
               (λ cs x. (
@@ -113,7 +113,7 @@ module _ (S T m w ix : List ℕ) (r : ℕ) {k v tag link : ℕ} {name : List ℕ
               fs u;
         }
 
-        pub branch-meant : (c ≡ 0 → ⊥) → {y : ℕ} → y ≡ branchStruct T (c - 1) → BranchOf S T m w ix r k (Two b y)
+        pub branch-meant : (c ≡ 0 → ⊥) → {y : ℕ} → y ≡ branchStruct T (c - 1) → BranchOf S T m w ix r k (Links b y)
         branch-meant z {y} x = record {
           told = λ fs h e u. found y h
               (λ cs o.
@@ -130,12 +130,25 @@ module _ (S T m w ix : List ℕ) (r : ℕ) {k v tag link : ℕ} {name : List ℕ
 
 -- the type reference t
 module _ (S T m w : List ℕ) {ix : List ℕ} {k t : ℕ} where
-  pub structs-below : t < 16 → StructsAt S T m w ix k t Neither
+  pub structs-none : t ≡ 0 → StructsAt S T m w ix k t (Links 0 0)
   unfolding membersAt
-  structs-below h = record { told = λ fs o u. rw (lt-ltb t first-row h) }
+  structs-none z = record {
+    told = λ fs o u. record {
+      base = [];
+      branch = [];
+      base-is = members-zero T chain-structs;
+      branch-is = members-zero T chain-structs;
+      both = rw z;
+      names-apart = refl;
+    };
+  }
+
+  pub structs-below : (t ≡ 0 → ⊥) → t < 16 → StructsAt S T m w ix k t NoObject
+  unfolding membersAt
+  structs-below n h = record { told = λ fs o u. rw (ne-eqb t 0 n, lt-ltb t first-row h) }
 
   module _ (h : 16 ≤ t) {r y : ℕ} (p : r ≡ t - 16) (q : y ≡ kind T r) where
-    pub structs-struct : y ≡ struct-kind → {l : ℕ} → l ≡ t - 16 + 1 → StructsAt S T m w ix k t (Two l 0)
+    pub structs-struct : y ≡ struct-kind → {l : ℕ} → l ≡ t - 16 + 1 → StructsAt S T m w ix k t (Links l 0)
     structs-struct e {l} z = record {
       told = λ fs o u.
           let n : l ≡ suc r = omega arith in
@@ -157,7 +170,7 @@ module _ (S T m w : List ℕ) {ix : List ℕ} {k t : ℕ} where
         base-has o = link-has S T (o .sound-table) (unionBase T r) (sound-facts S T (o .sound-table) .union-link r (sym q ∙ e))
 
         go : (x : Structs) (fs : Fields) → Given S T ix → BranchTold S T r fs x → StructsTold S T t fs x
-        go (Two b c) fs o d =
+        go (Links b c) fs o d =
             let has = base-has o in
             record {
               base = has .rows;
@@ -167,29 +180,8 @@ module _ (S T m w : List ℕ) {ix : List ℕ} {k t : ℕ} where
               both = members-union S T t r fs (omega arith) (sym q ∙ e) ∙ ap₂ append (has .are) (d .1 .chosen-is);
               names-apart = d .1 .names-apart (has .rows) (has .are);
             }
-        go Neither fs o d = members-union S T t r fs (omega arith) (sym q ∙ e) ∙ ap₂ append (base-has o .are) d
+        go NoObject fs o d = members-union S T t r fs (omega arith) (sym q ∙ e) ∙ ap₂ append (base-has o .are) d
 
-    pub structs-other : (y ≡ struct-kind → ⊥) → (y ≡ union-kind → ⊥) → StructsAt S T m w ix k t Neither
+    pub structs-other : (y ≡ struct-kind → ⊥) → (y ≡ union-kind → ⊥) → StructsAt S T m w ix k t NoObject
     unfolding membersAt
-    structs-other e f = record { told = λ fs o u. rw (le-ltb t first-row h, ← p, ← q, ne-eqb y 3 e, ne-eqb y 5 f) }
-
--- every mandatory member is there
-module _ {S T m w ix : List ℕ} {k t : ℕ} {x : Structs} (g : StructsAt S T m w ix k t x) where
-  pub object-none : x ≡ Neither → ObjectAt S T m w ix k t Neither
-  object-none e = record { told = λ fs o u. go fs (rw e at (g .told fs o u)) }
-    where
-      go : (fs : Fields) → StructsTold S T t fs Neither → ObjectTold S T t fs Neither
-      go fs d = rw d
-
-  module _ {b c : ℕ} (e : x ≡ Two b c) {y : Bool} (f : BothThere S T m w ix b c k y) where
-    structs : (fs : Fields) → Given S T ix → FieldsAt m w k fs → TwoStructs S T t b c fs
-    structs fs o u = rw e at (g .told fs o u)
-
-    there : (fs : Fields) → Given S T ix → FieldsAt m w k fs → (d : TwoStructs S T t b c fs) → mandatoryThere S T (d .base ++ d .branch) fs ≡ y
-    there fs o u d = sym (f .told fs o u (d .base) (d .branch) (d .base-is) (d .branch-is) (d .names-apart))
-
-    pub object-lacks : y ≡ false → ObjectAt S T m w ix k t Neither
-    object-lacks z = record { told = λ fs o u. let d = structs fs o u in rw (d .both) (there fs o u d ∙ z) }
-
-    pub object-holds : y ≡ true → ObjectAt S T m w ix k t (Two b c)
-    object-holds z = record { told = λ fs o u. let d = structs fs o u in record { structs = d; there = there fs o u d ∙ z } }
+    structs-other e f = record { told = λ fs o u. rw (ne-eqb t 0 (omega arith), le-ltb t first-row h, ← p, ← q, ne-eqb y 3 e, ne-eqb y 5 f) }

@@ -6,13 +6,10 @@ use mathlib.Core.Option.{some}
 use Rattle.grammar.specs.Limits.{chain-structs}
 use Rattle.grammar.specs.Tree.{Fields}
 use Rattle.grammar.specs.Tree.Fields.{no-fields, field}
-use Rattle.grammar.specs.Machine.Message.{message}
 use Rattle.rules.specs.Rows.{members}
 use Rattle.rules.specs.SchemaTable.{memberIn}
-use Rattle.text.specs.Nodes.{HoldsFields}
 use Rattle.children.specs.Index.{Given}
 use Rattle.children.specs.Counts.{mandatoryIn}
-use Rattle.children.specs.Children.{MeaningAt}
 
 -- 1 if the link is to a mandatory member, else 0
 unfoldable pub metBy : List ℕ → ℕ → ℕ
@@ -29,13 +26,7 @@ pub record MandatoryCount (T ix : List ℕ) (left link x : ℕ) : Type 0 where
   pub small : x ≤ left * 2 ^ 32
   pub told : (S : List ℕ) → Given S T ix → (ms : List ℕ) → members T left link ≡ some ms → x ≡ mandatoryIn T ms
 
--- 1 if the key at node a means a mandatory member of two structs, else 0
-pub record KeyMet (S T m w ix : List ℕ) (a base branch x : ℕ) : Type 0 where
-  pub small : x ≤ 1
-  pub told : (cs : List ℕ) → Given S T ix → MeaningAt m w a cs → (ms bs : List ℕ) → members T chain-structs base ≡ some ms → members T chain-structs branch ≡ some bs
-      → x ≡ metBy T (memberIn S T cs (ms ++ bs))
-
--- how many fields from node a up to node e mean one
-pub record FieldsMet (S T m w ix : List ℕ) (base branch a e x : ℕ) : Type 0 where
-  pub told : (fs : Fields) (l : ℕ) → Given S T ix → HoldsFields message m w fs l a e → (ms bs : List ℕ) → members T chain-structs base ≡ some ms → members T chain-structs branch ≡ some bs
-      → x ≡ met S T (ms ++ bs) fs
+-- and two structs
+pub record MandatoryMembers (T ix : List ℕ) (base branch x : ℕ) : Type 0 where
+  pub told : (S : List ℕ) → Given S T ix → (ms bs : List ℕ) → members T chain-structs base ≡ some ms → members T chain-structs branch ≡ some bs
+      → x ≡ mandatoryIn T (ms ++ bs)

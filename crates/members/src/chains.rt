@@ -42,7 +42,7 @@ fn member_meant(
     child_meant(schema, rows, m, nodes, index, r, k)
 }
 
-// The same of two structs, a union's base and its branch's.
+// The link of the member that the key at node k means, of two structs: a union's base and then its branch's; 0 if there is none.
 pub fn field_member(
     schema: &[u8],
     rows: &[u32],

@@ -1,5 +1,4 @@
 // The structs whose members an object has at a type.
-use crate::mandatory::both_there;
 use children::children::child_meant;
 use lookups::values::is_string;
 use lookups::values::value_at;
@@ -11,10 +10,13 @@ use rules::kind;
 use rules::row;
 ghost use mathlib.Core.Path.{_≡_};
 ghost use Prim.Native.Nat.{_-_, _<_, _^_};
-ghost use Rattle.members.specs.Members.{StructsAt, BranchOf, ObjectAt};
+ghost use Rattle.members.specs.Members.{StructsAt, BranchOf};
 
 // A type reference, a word of a row, from here on is to a row.
 pub const FIRST_REFERENCE: u32 = FIRST_ROW as u32;
+
+// The type reference of a command without data.
+const NO_TYPE: u32 = 0;
 
 // The row that a link is to; 0 for none.
 fn row_of(link: u32) -> usize
@@ -26,10 +28,10 @@ fn row_of(link: u32) -> usize
     wide(link - 1)
 }
 
-// The structs whose members an object has: one, or a union's base and its branch's; links, 0 for none.
+// The links of the structs whose members an object has, a union's base and its branch's, 0 for no struct; or no object is read there.
 pub enum Structs {
-    Two(u32, u32),
-    Neither,
+    Links(u32, u32),
+    NoObject,
 }
 
 // The base of the union at row r and the branch that the object at node k chooses, wherever its discriminator stands.
@@ -45,24 +47,24 @@ fn branch_of(
     requires { ⌜ r < 2 ^ 39 ⌝ }
     ensures { λ x. ⌜ BranchOf (now (schema .entry)) (now (rows .entry)) (now (m .entry)) (now (nodes .entry)) (now (index .entry)) r k x ⌝ }
 {
-    let tag = row_of(word(rows, r, row::DISCRIMINATOR));
-    let v = value_at(m, false, nodes, k, name_of(schema, rows, tag));
+    let discriminator = row_of(word(rows, r, row::DISCRIMINATOR));
+    let v = value_at(m, false, nodes, k, name_of(schema, rows, discriminator));
     if v == 0 {
-        return Structs::Neither;
+        return Structs::NoObject;
     }
     if !is_string(nodes, v) {
-        return Structs::Neither;
+        return Structs::NoObject;
     }
     let b = child_meant(schema, rows, m, nodes, index, r, v);
     let base = word(rows, r, row::UNION_BASE);
     if b == 0 {
-        return Structs::Two(base, 0);
+        return Structs::Links(base, 0);
     }
-    Structs::Two(base, word(rows, b - 1, row::BRANCH_STRUCT))
+    Structs::Links(base, word(rows, b - 1, row::BRANCH_STRUCT))
 }
 
-// The structs for the object at node k at the type reference t.
-fn structs_at(
+// The structs for the object at node k at the type reference t; none of them has a member where there is no type.
+pub fn structs_at(
     schema: &[u8],
     rows: &[u32],
     m: &[u8],
@@ -73,36 +75,17 @@ fn structs_at(
 ) -> Structs
     ensures { λ x. ⌜ StructsAt (now (schema .entry)) (now (rows .entry)) (now (m .entry)) (now (nodes .entry)) (now (index .entry)) k t x ⌝ }
 {
+    if t == NO_TYPE {
+        return Structs::Links(0, 0);
+    }
     if t < FIRST_REFERENCE {
-        return Structs::Neither;
+        return Structs::NoObject;
     }
     let row = t - FIRST_REFERENCE;
     let r = wide(row);
     match word(rows, r, row::KIND) {
-        kind::STRUCT => Structs::Two(row + 1, 0),
+        kind::STRUCT => Structs::Links(row + 1, 0),
         kind::UNION => branch_of(schema, rows, m, nodes, index, r, k),
-        _ => Structs::Neither,
+        _ => Structs::NoObject,
     }
-}
-
-// The same, where every mandatory member is there.
-pub fn object_at(
-    schema: &[u8],
-    rows: &[u32],
-    m: &[u8],
-    nodes: &[u32],
-    index: &[u32],
-    k: usize,
-    t: u32,
-) -> Structs
-    ensures { λ x. ⌜ ObjectAt (now (schema .entry)) (now (rows .entry)) (now (m .entry)) (now (nodes .entry)) (now (index .entry)) k t x ⌝ }
-{
-    let s = structs_at(schema, rows, m, nodes, index, k, t);
-    let Structs::Two(base, branch) = s else {
-        return Structs::Neither;
-    };
-    if !both_there(schema, rows, m, nodes, index, base, branch, k) {
-        return Structs::Neither;
-    }
-    Structs::Two(base, branch)
 }

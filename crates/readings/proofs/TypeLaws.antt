@@ -19,8 +19,8 @@ use Rattle.rows.proofs.LoopLaws.{WalkLeft, left-hit, left-on, left-ends}
 use Rattle.rows.proofs.ChildLaws.{left-children}
 use Rattle.text.specs.Nodes.{nodeKind}
 use Rattle.readings.specs.Parts.{columnOf, AlternativeOf, TypeFor}
-use Rattle.readings.specs.declared.types.Via.{Via}
-use Rattle.readings.specs.declared.types.Via.the-variants.{Direct, Alternative, Missing}
+use Rattle.readings.specs.declared.types.Choice.{Choice}
+use Rattle.readings.specs.declared.types.Choice.the-variants.{Itself, Alternative, NoAlternative}
 use Rattle.readings.proofs.BuiltInLaws.{column-small, node-column}
 
 is-column : (o : Option Kind) (k : Kind) → is o (λ j. sameKind j k) ≡ eqb (columnOr6 o) (column k)
@@ -35,7 +35,7 @@ pub alternatives-start : {T : List ℕ} {r c a n : ℕ} → First T r a → Coun
 alternatives-start {T} p q = record { left = λ k z. left-children p q (λ rs. fromAlternatives (ofKind T k rs)) refl }
 
 module _ {T : List ℕ} {r c i n : ℕ} (v : AlternativesLeft T r c i n) where
-  pub alternatives-end : n ≤ 0 → AlternativeOf T r c Missing
+  pub alternatives-end : n ≤ 0 → AlternativeOf T r c NoAlternative
   alternatives-end h = record { told = λ k z. left-ends (v .left k z) h }
 
   module _ (h : 0 < n) {t t′ y y′ : ℕ} (p : t ≡ typeRef T i) (p′ : t′ ≡ t) (q : y ≡ columnOr6 (typeKind T t′)) (q′ : y′ ≡ y) where
@@ -52,21 +52,21 @@ module _ {T : List ℕ} {r c i n : ℕ} (v : AlternativesLeft T r c i n) where
 
 -- the type for a value at a node
 module _ (T w : List ℕ) {k t f : ℕ} where
-  pub direct-array : (f ≡ 0 → ⊥) → TypeFor T w k t f Direct
+  pub direct-array : (f ≡ 0 → ⊥) → TypeFor T w k t f Itself
   unfolding via
   direct-array n = record { told = λ S m j l h. rw (ne-eqb f 0 n) }
 
   module _ (z : f ≡ 0) where
-    pub direct-below : t < 16 → TypeFor T w k t f Direct
+    pub direct-below : t < 16 → TypeFor T w k t f Itself
     unfolding via
     direct-below l = record { told = λ S m j x h. rw (z, lt-leb first-row t l) }
 
     module _ (l : 16 ≤ t) {r y : ℕ} (p : r ≡ t - 16) (q : y ≡ kind T r) where
-      pub direct-other : (y ≡ 7 → ⊥) → TypeFor T w k t f Direct
+      pub direct-other : (y ≡ 7 → ⊥) → TypeFor T w k t f Itself
       unfolding via
       direct-other n = record { told = λ S m j x h. rw (z, le-leb first-row t l, ← p, ← q, ne-eqb y 7 n) }
 
-      pub by-alternative : y ≡ 7 → {c d : ℕ} {x : Via} → c ≡ columnOf d → d ≡ nodeKind w k → AlternativeOf T r c x → TypeFor T w k t f x
+      pub by-alternative : y ≡ 7 → {c d : ℕ} {x : Choice} → c ≡ columnOf d → d ≡ nodeKind w k → AlternativeOf T r c x → TypeFor T w k t f x
       unfolding via
       by-alternative e {c} {d} {x} u v g = record {
         told = λ S m j i h.

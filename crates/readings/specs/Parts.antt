@@ -1,7 +1,7 @@
--- Serves contracts: by which type a value is read and what it is read as there, for every value that the nodes hold.
+-- Serves contracts: by which type a value is read and what is read inside it there, for every value that the nodes hold.
 use Prim.Native.Nat.{ℕ}
 use mathlib.Core.Path.{_≡_}
-use mathlib.Core.Bool.{Bool, true}
+use mathlib.Core.Bool.{Bool, true, cond}
 use mathlib.Core.List.{List, [], _∷_, _++_}
 use mathlib.Core.Option.{Option, none, some}
 use lib.ListN.{getD}
@@ -15,16 +15,16 @@ use Rattle.rules.specs.Types.{column, takes, ranges, numberFits, builtInTakes}
 use Rattle.rules.specs.Rows.{children}
 use Rattle.rules.specs.Readings.{typed}
 use Rattle.rules.specs.ReadingOf as Reading
-use Rattle.rules.specs.ReadingOf.{under, ofKind, fromAlternatives, scalarFits, via, plainReading, itemsReading, fieldsReading}
+use Rattle.rules.specs.ReadingOf.{under, ofKind, fromAlternatives, scalarFits, via, mandatoryThere, plainReading, itemsReading, fieldsReading}
 use Rattle.text.specs.Nodes.{Holds}
 use Rattle.children.specs.Index.{Given}
 use Rattle.members.specs.Members.{FieldsAt, TwoStructs}
 use Rattle.readings.specs.declared.builtins.Range.{Range}
 use Rattle.readings.specs.declared.builtins.Range.the-variants.{From, Any}
-use Rattle.readings.specs.declared.types.Via.{Via}
-use Rattle.readings.specs.declared.types.Via.the-variants.{Direct, Alternative, Missing}
-use Rattle.readings.specs.declared.shapes.Shape.{Shape}
-use Rattle.readings.specs.declared.shapes.Shape.the-variants.{Alone, Elements, Members, Misfit}
+use Rattle.readings.specs.declared.types.Choice.{Choice}
+use Rattle.readings.specs.declared.types.Choice.the-variants.{Itself, Alternative, NoAlternative}
+use Rattle.readings.specs.declared.contents.Content.{Content}
+use Rattle.readings.specs.declared.contents.Content.the-variants.{Alone, Elements, Members, Misfit}
 
 -- the grid's column of a node's kind, 6 for none
 abbrev pub columnOf : ℕ → ℕ
@@ -45,28 +45,28 @@ pub record BuiltInTakes (m w : List ℕ) (k b : ℕ) (r : Bool) : Type 0 where
   pub told : (a e l : ℕ) (v : Scalar) → Holds message m w (leaf a e v) l k → r ≡ builtInTakes b v
 
 -- alternates
-abbrev pub viaAs : Via → Reading.Via
-viaAs Direct = Reading.Via.direct
+abbrev pub viaAs : Choice → Reading.Via
+viaAs Itself = Reading.Via.direct
 viaAs (Alternative u) = Reading.Via.alternative u
-viaAs Missing = Reading.Via.missing
+viaAs NoAlternative = Reading.Via.missing
 
-pub record AlternativeOf (T : List ℕ) (r c : ℕ) (x : Via) : Type 0 where
+pub record AlternativeOf (T : List ℕ) (r c : ℕ) (x : Choice) : Type 0 where
   pub told : (k : Kind) → column k ≡ c → viaAs x ≡ fromAlternatives (ofKind T k (children T r))
 
-pub record TypeFor (T w : List ℕ) (k t f : ℕ) (x : Via) : Type 0 where
+pub record TypeFor (T w : List ℕ) (k t f : ℕ) (x : Choice) : Type 0 where
   pub told : (S m : List ℕ) (j : Json) (l : ℕ) → Holds message m w j l k → viaAs x ≡ via S T (kindOf j) t f
 
 -- scalars
 pub record ScalarFits (S T m w ix : List ℕ) (k t : ℕ) (b : Bool) : Type 0 where
   pub told : (a e l : ℕ) (v : Scalar) → Given S T ix → Holds message m w (leaf a e v) l k → b ≡ scalarFits S T t v
 
--- what a value is read as
+-- what is read inside a value, whatever is done with keys that no member has
 pub record AsElements (S T : List ℕ) (j : Json) (t f : ℕ) : Type 0 where
   pub start : ℕ
   pub end : ℕ
   pub items : Items
   pub is-array : j ≡ arr start end items
-  pub reading : plainReading S T j t f ≡ under (typed j t f) (itemsReading S T items t)
+  pub reading : (passes : Bool) → plainReading passes S T j t f ≡ under (typed j t f) (itemsReading passes S T items t)
 
 pub record AsMembers (S T : List ℕ) (j : Json) (t f b c : ℕ) : Type 0 where
   pub start : ℕ
@@ -74,22 +74,23 @@ pub record AsMembers (S T : List ℕ) (j : Json) (t f b c : ℕ) : Type 0 where
   pub fields : Fields
   pub is-object : j ≡ obj start end fields
   pub structs : TwoStructs S T t b c fields
-  pub reading : plainReading S T j t f ≡ under (typed j t f) (fieldsReading S T fields (structs .base ++ structs .branch))
+  pub reading : (passes : Bool) → plainReading passes S T j t f
+      ≡ under (typed j t f) (cond (mandatoryThere S T (structs .base ++ structs .branch) fields) (fieldsReading passes S T fields (structs .base ++ structs .branch)) none)
 
-abbrev pub ShapeTold : (S T : List ℕ) → Json → ℕ → ℕ → Shape → Type 0
-ShapeTold S T j t f Alone = plainReading S T j t f ≡ some (typed j t f ∷ [])
-ShapeTold S T j t f Elements = AsElements S T j t f
-ShapeTold S T j t f (Members b c) = AsMembers S T j t f b c
-ShapeTold S T j t f Misfit = plainReading S T j t f ≡ none
+abbrev pub ContentTold : (S T : List ℕ) → Json → ℕ → ℕ → Content → Type 0
+ContentTold S T j t f Alone = (passes : Bool) → plainReading passes S T j t f ≡ some (typed j t f ∷ [])
+ContentTold S T j t f Elements = AsElements S T j t f
+ContentTold S T j t f (Members b c) = AsMembers S T j t f b c
+ContentTold S T j t f Misfit = (passes : Bool) → plainReading passes S T j t f ≡ none
 
-pub record ScalarShape (S T m w ix : List ℕ) (k t f : ℕ) (x : Shape) : Type 0 where
-  pub told : (a e l : ℕ) (v : Scalar) → Given S T ix → Holds message m w (leaf a e v) l k → ShapeTold S T (leaf a e v) t f x
+pub record ScalarContent (S T m w ix : List ℕ) (k t f : ℕ) (x : Content) : Type 0 where
+  pub told : (a e l : ℕ) (v : Scalar) → Given S T ix → Holds message m w (leaf a e v) l k → ContentTold S T (leaf a e v) t f x
 
-pub record ArrayShape (t f : ℕ) (x : Shape) : Type 0 where
-  pub told : (S T : List ℕ) (a e : ℕ) (js : Items) → ShapeTold S T (arr a e js) t f x
+pub record ArrayContent (t f : ℕ) (x : Content) : Type 0 where
+  pub told : (S T : List ℕ) (a e : ℕ) (js : Items) → ContentTold S T (arr a e js) t f x
 
-pub record ObjectShape (S T m w ix : List ℕ) (k t f : ℕ) (x : Shape) : Type 0 where
-  pub told : (a e : ℕ) (fs : Fields) → Given S T ix → FieldsAt m w k fs → ShapeTold S T (obj a e fs) t f x
+pub record ObjectContent (S T m w ix : List ℕ) (k t f : ℕ) (x : Content) : Type 0 where
+  pub told : (a e : ℕ) (fs : Fields) → Given S T ix → FieldsAt m w k fs → ContentTold S T (obj a e fs) t f x
 
-pub record ShapeAt (S T m w ix : List ℕ) (k t f : ℕ) (x : Shape) : Type 0 where
-  pub told : (j : Json) (l : ℕ) → Given S T ix → Holds message m w j l k → keysOnce j ≡ true → ShapeTold S T j t f x
+pub record ContentAt (S T m w ix : List ℕ) (k t f : ℕ) (x : Content) : Type 0 where
+  pub told : (j : Json) (l : ℕ) → Given S T ix → Holds message m w j l k → keysOnce j ≡ true → ContentTold S T j t f x

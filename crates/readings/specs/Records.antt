@@ -1,7 +1,7 @@
 -- What reading a value at a type writes and counts, by the definition of readings, over a sound table with its index and nodes that hold the value.
 use Prim.Native.Nat.{ℕ, suc, _+_, _*_, _≤_}
 use mathlib.Core.Path.{_≡_}
-use mathlib.Core.Bool.{true, cond}
+use mathlib.Core.Bool.{Bool, true, cond}
 use mathlib.Core.List.{List, [], _∷_}
 use mathlib.Core.Option.{Option, none, some}
 use lib.Dec.{leb}
@@ -11,9 +11,8 @@ use Rattle.grammar.specs.Limits.{message-levels, record-words}
 use Rattle.grammar.specs.Tree.{Json}
 use Rattle.grammar.specs.Keys.{keysOnce}
 use Rattle.grammar.specs.Machine.Message.{message}
-use Rattle.rules.specs.Rows.{arguments}
 use Rattle.rules.specs.Readings.{Typed, recordOf}
-use Rattle.rules.specs.ReadingOf.{readingOf, argumentsReading}
+use Rattle.rules.specs.ReadingOf.{readingOf}
 use Rattle.text.specs.Nodes.{Holds}
 use Rattle.children.specs.Index.{Given}
 use Rattle.readings.specs.declared.readings.Count.{Count}
@@ -34,9 +33,9 @@ ReadTold old new n none r = (length new ≡ length old) × (r ≡ Nothing)
 ReadTold old new n (some ts) r = (new ≡ putAll old n ts) × (r ≡ Records (n + length ts))
 
 -- the value at node k, at the type reference t, as an array of it where f is 1, after n records
-pub record ReadsAt (S T m w ix old new : List ℕ) (k t f left n : ℕ) (r : Count) : Type 0 where
-  pub told : (j : Json) (l : ℕ) → Given S T ix → Holds message m w j l k → keysOnce j ≡ true → l ≤ left → ReadTold old new n (readingOf S T j t f) r
+pub record ReadsAt (S T m w ix old new : List ℕ) (k t f : ℕ) (passes : Bool) (left n : ℕ) (r : Count) : Type 0 where
+  pub told : (j : Json) (l : ℕ) → Given S T ix → Holds message m w j l k → keysOnce j ≡ true → l ≤ left → ReadTold old new n (readingOf passes S T j t f) r
 
--- the arguments at node k of the command at row c
-pub record ReadsArgumentsAt (S T m w ix old new : List ℕ) (k c : ℕ) (r : Count) : Type 0 where
-  pub told : (j : Json) (l : ℕ) → Given S T ix → Holds message m w j l k → keysOnce j ≡ true → l ≤ message-levels → ReadTold old new 0 (argumentsReading S T (arguments T c) j) r
+-- the whole value at node k, from the first record on
+pub record ReadsWhole (S T m w ix old new : List ℕ) (k t f : ℕ) (passes : Bool) (r : Count) : Type 0 where
+  pub told : (j : Json) (l : ℕ) → Given S T ix → Holds message m w j l k → keysOnce j ≡ true → l ≤ message-levels → ReadTold old new 0 (readingOf passes S T j t f) r

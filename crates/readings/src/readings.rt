@@ -1,34 +1,52 @@
 // Readings: a value reader and a member reader that call each other, the levels left falling.
+use crate::contents::Content;
+use crate::contents::content_at;
 use crate::records::put_record;
-use crate::shapes::Shape;
-use crate::shapes::shape_at;
-use crate::types::Via;
+use crate::types::Choice;
 use crate::types::type_for;
+use children::children::mandatory_one;
 use members::chains::field_member;
-use members::objects::FIRST_REFERENCE;
-use rows::rows::wide;
+use members::mandatory::mandatory_members;
 use rows::rows::word;
-use rules::TABLE_ROWS;
 use rules::row;
 use text::nodes::NODE_END;
-use text::nodes::NODE_KIND;
 use text::nodes::NODE_NEXT;
 use text::nodes::NODE_START;
 use text::nodes::node_number;
 use text::nodes::node_word;
 use text::texts::MESSAGE_LEVELS;
-use tokens::node;
 ghost use mathlib.Core.Path.{_≡_};
 ghost use mathlib.Core.List.{[], _∷_};
 ghost use Prim.Native.Nat.{suc, _+_, _*_, _≤_, _<_, _^_};
 ghost use Rattle.text.specs.Nodes.{node};
-ghost use Rattle.readings.specs.Records.{putRecord, ReadsArgumentsAt};
-ghost use Rattle.readings.specs.Readers.{ReadsValue, ReadsPlain, ReadsItems, ReadsFields, IsEmpty};
+ghost use Rattle.readings.specs.Records.{putRecord, ReadsWhole};
+ghost use Rattle.readings.specs.Readers.{ReadsValue, ReadsPlain, ReadsItems, ReadsFields};
 
 // How many records there are now, or that there is no reading.
 pub enum Count {
     Records(usize),
     Nothing,
+}
+
+// At which type a value is read: a type reference, 1 if as an array of it, and whether keys that no member has pass.
+pub struct ReadAs {
+    pub reference: u32,
+    pub array: u32,
+    pub passes: bool,
+}
+
+// The structs whose members an object has, as links, 0 for none, and whether keys that no member has pass.
+pub struct Members {
+    pub base: u32,
+    pub branch: u32,
+    pub passes: bool,
+}
+
+// The node that is read, the levels left below it, and the count of records so far.
+pub struct At {
+    pub node: usize,
+    pub left: usize,
+    pub count: usize,
 }
 
 // The record of node k at a type.
@@ -45,235 +63,222 @@ fn put_node_record(nodes: &[u32], k: usize, t: u32, array: u32, records: &mut [u
     );
 }
 
-// The value at node k, at the type reference t, as an array of it where `array` is 1, after n records.
+// The value at a node, at a type.
 fn read_value(
     schema: &[u8],
     rows: &[u32],
     m: &[u8],
     nodes: &[u32],
     index: &[u32],
-    k: usize,
-    t: u32,
-    array: u32,
-    left: usize,
+    at: At,
+    how: ReadAs,
     records: &mut [u32],
-    n: usize,
 ) -> Count
-    requires { ⌜ (k < 2 ^ 32) × (n ≤ 2 * k) ⌝ }
-    ensures { λ r. ⌜ ReadsValue (now (schema .entry)) (now (rows .entry)) (now (m .entry)) (now (nodes .entry)) (now (index .entry)) (now (records .entry)) (now (records .exit)) k t array left n r ⌝ }
+    requires { ⌜ (at .node < 2 ^ 32) × (at .count ≤ 2 * at .node) ⌝ }
+    ensures { λ r. ⌜ ReadsValue (now (schema .entry)) (now (rows .entry)) (now (m .entry)) (now (nodes .entry)) (now (index .entry)) (now (records .entry)) (now (records .exit)) (at .node) (how .reference) (how .array) (how .passes) (at .left) (at .count) r ⌝ }
 {
+    let k = at.node;
+    let left = at.left;
+    let n = at.count;
+    let t = how.reference;
+    let array = how.array;
+    let passes = how.passes;
     match type_for(rows, nodes, k, t, array) {
-        Via::Missing => Count::Nothing,
-        Via::Direct => read_plain(schema, rows, m, nodes, index, k, t, array, left, records, n),
-        Via::Alternative(u) => {
+        Choice::NoAlternative => Count::Nothing,
+        Choice::Itself => read_plain(schema, rows, m, nodes, index, at, how, records),
+        Choice::Alternative(reference) => {
             put_node_record(nodes, k, t, array, records, n);
-            read_plain(
-                schema,
-                rows,
-                m,
-                nodes,
-                index,
-                k,
-                u,
-                array,
+            let at = At {
+                node: k,
                 left,
-                records,
-                n + 1,
-            )
+                count: n + 1,
+            };
+            let how = ReadAs {
+                reference,
+                array,
+                passes,
+            };
+            read_plain(schema, rows, m, nodes, index, at, how, records)
         }
     }
 }
 
-// The same at a type that is no alternate.
+// The value at a node, at a type that is no alternate.
 fn read_plain(
     schema: &[u8],
     rows: &[u32],
     m: &[u8],
     nodes: &[u32],
     index: &[u32],
-    k: usize,
-    t: u32,
-    array: u32,
-    left: usize,
+    at: At,
+    how: ReadAs,
     records: &mut [u32],
-    n: usize,
 ) -> Count
-    requires { ⌜ (k < 2 ^ 32) × (n ≤ 2 * k + 1) ⌝ }
-    ensures { λ r. ⌜ ReadsPlain (now (schema .entry)) (now (rows .entry)) (now (m .entry)) (now (nodes .entry)) (now (index .entry)) (now (records .entry)) (now (records .exit)) k t array left n r ⌝ }
+    requires { ⌜ (at .node < 2 ^ 32) × (at .count ≤ 2 * at .node + 1) ⌝ }
+    ensures { λ r. ⌜ ReadsPlain (now (schema .entry)) (now (rows .entry)) (now (m .entry)) (now (nodes .entry)) (now (index .entry)) (now (records .entry)) (now (records .exit)) (at .node) (how .reference) (how .array) (how .passes) (at .left) (at .count) r ⌝ }
 {
-    let shape = shape_at(schema, rows, m, nodes, index, k, t, array);
-    let c = n + 1;
+    let k = at.node;
+    let left = at.left;
+    let n = at.count;
+    let t = how.reference;
+    let array = how.array;
+    let passes = how.passes;
+    let content = content_at(schema, rows, m, nodes, index, k, t, array);
+    let count = n + 1;
     put_node_record(nodes, k, t, array, records, n);
-    match shape {
-        Shape::Misfit => Count::Nothing,
-        Shape::Alone => Count::Records(c),
-        Shape::Elements => {
+    match content {
+        Content::Misfit => Count::Nothing,
+        Content::Alone => Count::Records(count),
+        Content::Elements => {
             if left == 0 {
                 return Count::Nothing;
             }
-            read_items(schema, rows, m, nodes, index, k, t, left - 1, records, c)
+            let inside = At {
+                node: k,
+                left: left - 1,
+                count,
+            };
+            read_items(schema, rows, m, nodes, index, inside, how, records)
         }
-        Shape::Members(base, branch) => {
+        Content::Members(base, branch) => {
             if left == 0 {
                 return Count::Nothing;
             }
-            read_fields(
-                schema,
-                rows,
-                m,
-                nodes,
-                index,
-                k,
+            let inside = At {
+                node: k,
+                left: left - 1,
+                count,
+            };
+            let of = Members {
                 base,
                 branch,
-                left - 1,
-                records,
-                c,
-            )
+                passes,
+            };
+            read_fields(schema, rows, m, nodes, index, inside, of, records)
         }
     }
 }
 
-// The elements of the array at node k.
+// The elements of the array at a node, each at the type alone.
 fn read_items(
     schema: &[u8],
     rows: &[u32],
     m: &[u8],
     nodes: &[u32],
     index: &[u32],
-    k: usize,
-    t: u32,
-    left: usize,
+    at: At,
+    how: ReadAs,
     records: &mut [u32],
-    n: usize,
 ) -> Count
-    requires { ⌜ (k < 2 ^ 32) × (n ≤ 2 * suc k) ⌝ }
-    ensures { λ r. ⌜ ReadsItems (now (schema .entry)) (now (rows .entry)) (now (m .entry)) (now (nodes .entry)) (now (index .entry)) (now (records .entry)) (now (records .exit)) k t left n r ⌝ }
+    requires { ⌜ (at .node < 2 ^ 32) × (at .count ≤ 2 * suc (at .node)) ⌝ }
+    ensures { λ r. ⌜ ReadsItems (now (schema .entry)) (now (rows .entry)) (now (m .entry)) (now (nodes .entry)) (now (index .entry)) (now (records .entry)) (now (records .exit)) (at .node) (how .reference) (how .passes) (at .left) (at .count) r ⌝ }
 {
+    let k = at.node;
+    let left = at.left;
+    let reference = how.reference;
+    let passes = how.passes;
     let end = node_number(nodes, k, NODE_NEXT);
-    let mut i = k + 1;
-    let mut c = n;
-    while i < end {
-        let v = read_value(schema, rows, m, nodes, index, i, t, 0, left, records, c);
-        let Count::Records(d) = v else {
+    let mut node = k + 1;
+    let mut count = at.count;
+    while node < end {
+        let at = At { node, left, count };
+        let how = ReadAs {
+            reference,
+            array: 0,
+            passes,
+        };
+        let v = read_value(schema, rows, m, nodes, index, at, how, records);
+        let Count::Records(c) = v else {
             return Count::Nothing;
         };
-        let j = node_number(nodes, i, NODE_NEXT);
-        if j <= i {
+        let next = node_number(nodes, node, NODE_NEXT);
+        if next <= node {
             return Count::Nothing;
         }
-        c = d;
-        i = j;
+        count = c;
+        node = next;
     }
-    if i != end {
+    if node != end {
         return Count::Nothing;
     }
-    Count::Records(c)
+    Count::Records(count)
 }
 
-// The fields of the object at node k, each a member of one of two structs.
+// The fields of the object at a node, each a member of one of two structs, and every mandatory member among them.
 fn read_fields(
     schema: &[u8],
     rows: &[u32],
     m: &[u8],
     nodes: &[u32],
     index: &[u32],
-    k: usize,
-    base: u32,
-    branch: u32,
-    left: usize,
+    at: At,
+    of: Members,
     records: &mut [u32],
-    n: usize,
 ) -> Count
-    requires { ⌜ (k < 2 ^ 32) × (n ≤ 2 * suc k) ⌝ }
-    ensures { λ r. ⌜ ReadsFields (now (schema .entry)) (now (rows .entry)) (now (m .entry)) (now (nodes .entry)) (now (index .entry)) (now (records .entry)) (now (records .exit)) k base branch left n r ⌝ }
+    requires { ⌜ (at .node < 2 ^ 32) × (at .count ≤ 2 * suc (at .node)) ⌝ }
+    ensures { λ r. ⌜ ReadsFields (now (schema .entry)) (now (rows .entry)) (now (m .entry)) (now (nodes .entry)) (now (index .entry)) (now (records .entry)) (now (records .exit)) (at .node) (of .base) (of .branch) (of .passes) (at .left) (at .count) r ⌝ }
 {
+    let k = at.node;
+    let left = at.left;
+    let base = of.base;
+    let branch = of.branch;
+    let passes = of.passes;
     let end = node_number(nodes, k, NODE_NEXT);
-    let mut a = k + 1;
-    let mut c = n;
-    while a < end {
-        let link = field_member(schema, rows, m, nodes, index, a, base, branch);
+    let mut key = k + 1;
+    let mut count = at.count;
+    let mut met = 0;
+    while key < end {
+        let link = field_member(schema, rows, m, nodes, index, key, base, branch);
         if link == 0 {
             return Count::Nothing;
         }
-        let at = a + 1;
-        let v = read_value(
-            schema,
-            rows,
-            m,
-            nodes,
-            index,
-            at,
-            word(rows, link - 1, row::TYPE_REF),
-            word(rows, link - 1, row::ARRAY_MARK),
-            left,
-            records,
-            c,
-        );
-        let Count::Records(d) = v else {
+        let member = link - 1;
+        let node = key + 1;
+        let at = At { node, left, count };
+        let how = ReadAs {
+            reference: word(rows, member, row::TYPE_REF),
+            array: word(rows, member, row::ARRAY_MARK),
+            passes,
+        };
+        let v = read_value(schema, rows, m, nodes, index, at, how, records);
+        let Count::Records(c) = v else {
             return Count::Nothing;
         };
-        let j = node_number(nodes, at, NODE_NEXT);
-        if j <= at {
+        let next = node_number(nodes, node, NODE_NEXT);
+        if next <= node {
             return Count::Nothing;
         }
-        c = d;
-        a = j;
+        count = c;
+        met += mandatory_one(rows, member);
+        key = next;
     }
-    if a != end {
+    if key != end {
         return Count::Nothing;
     }
-    Count::Records(c)
-}
-
-// Whether the value at node k is an object without fields.
-fn is_empty(nodes: &[u32], k: usize) -> bool
-    requires { ⌜ k < 2 ^ 32 ⌝ }
-    ensures { λ b. ⌜ IsEmpty (now (nodes .entry)) k b ⌝ }
-{
-    if node_word(nodes, k, NODE_KIND) != node::OBJECT {
-        return false;
+    if met != mandatory_members(rows, index, base, branch) {
+        return Count::Nothing;
     }
-    node_number(nodes, k, NODE_NEXT) == k + 1
+    Count::Records(count)
 }
 
-// The arguments at node k of the command at row c.
-pub fn read_arguments(
+// The whole value at node k, at a type: its records from the first on.
+pub fn read_whole(
     schema: &[u8],
     rows: &[u32],
     m: &[u8],
     nodes: &[u32],
     index: &[u32],
     k: usize,
-    c: usize,
+    how: ReadAs,
     records: &mut [u32],
 ) -> Count
     requires { ⌜ k < 2 ^ 32 ⌝ }
-    ensures { λ r. ⌜ ReadsArgumentsAt (now (schema .entry)) (now (rows .entry)) (now (m .entry)) (now (nodes .entry)) (now (index .entry)) (now (records .entry)) (now (records .exit)) k c r ⌝ }
+    ensures { λ r. ⌜ ReadsWhole (now (schema .entry)) (now (rows .entry)) (now (m .entry)) (now (nodes .entry)) (now (index .entry)) (now (records .entry)) (now (records .exit)) k (how .reference) (how .array) (how .passes) r ⌝ }
 {
-    let link = word(rows, c, row::ARGUMENTS);
-    if link == 0 {
-        if !is_empty(nodes, k) {
-            return Count::Nothing;
-        }
-        put_node_record(nodes, k, 0, 0, records, 0);
-        return Count::Records(1);
-    }
-    if TABLE_ROWS < wide(link) {
-        return Count::Nothing;
-    }
-    let t = link - 1 + FIRST_REFERENCE;
-    read_value(
-        schema,
-        rows,
-        m,
-        nodes,
-        index,
-        k,
-        t,
-        0,
-        MESSAGE_LEVELS,
-        records,
-        0,
-    )
+    let at = At {
+        node: k,
+        left: MESSAGE_LEVELS,
+        count: 0,
+    };
+    read_value(schema, rows, m, nodes, index, at, how, records)
 }

@@ -14,14 +14,14 @@ use text::nodes::node_word;
 ghost use Prim.Native.Nat.{_<_, _^_};
 ghost use Rattle.readings.specs.Parts.{AlternativeOf, TypeFor};
 
-pub enum Via {
-    Direct,
+pub enum Choice {
+    Itself,
     Alternative(u32),
-    Missing,
+    NoAlternative,
 }
 
 // The first alternative of row r with the grid's column c.
-fn alternative(rows: &[u32], r: usize, c: usize) -> Via
+fn alternative(rows: &[u32], r: usize, c: usize) -> Choice
     requires { ⌜ r < 2 ^ 39 ⌝ }
     ensures { λ x. ⌜ AlternativeOf (now (rows .entry)) r c x ⌝ }
 {
@@ -30,27 +30,27 @@ fn alternative(rows: &[u32], r: usize, c: usize) -> Via
     while 0 < left {
         let t = word(rows, i, row::TYPE_REF);
         if wide(type_kind(rows, wide(t))) == c {
-            return Via::Alternative(t);
+            return Choice::Alternative(t);
         }
         i = next_row(rows, i);
         left -= 1;
     }
-    Via::Missing
+    Choice::NoAlternative
 }
 
 // The type by which the value at node k is read, where it is asked for at the type reference t, as an array of it where `array` is 1.
-pub fn type_for(rows: &[u32], nodes: &[u32], k: usize, t: u32, array: u32) -> Via
+pub fn type_for(rows: &[u32], nodes: &[u32], k: usize, t: u32, array: u32) -> Choice
     ensures { λ x. ⌜ TypeFor (now (rows .entry)) (now (nodes .entry)) k t array x ⌝ }
 {
     if array != 0 {
-        return Via::Direct;
+        return Choice::Itself;
     }
     if t < FIRST_REFERENCE {
-        return Via::Direct;
+        return Choice::Itself;
     }
     let r = wide(t - FIRST_REFERENCE);
     if word(rows, r, row::KIND) != kind::ALTERNATE {
-        return Via::Direct;
+        return Choice::Itself;
     }
     alternative(rows, r, column(node_word(nodes, k, NODE_KIND)))
 }

@@ -1,9 +1,10 @@
--- What a value is read as at a type that is no alternate: scalars, arrays and objects, by the words of its node.
+-- What is read inside a value at a type that is no alternate: scalars, arrays and objects, by the words of its node.
 -- The idea: each return decides the tests of the reading; a node's kind says which of the three the value is.
 use Prim.Native.Nat.{ℕ, _-_, _<_, _≤_}
 use mathlib.Core.Path.{_≡_, refl, sym, ap, _∙_}
 use mathlib.Core.Bool.{Bool, true, false, cond}
-use mathlib.Core.List.{List}
+use mathlib.Core.List.{List, _++_}
+use mathlib.Core.Option.{Option, none}
 use native.Mathlib.Omega.{arith}
 use borrow.Author.Tests.{ne-eqb, le-ltb}
 use Rattle.grammar.specs.Limits.{first-row}
@@ -16,7 +17,8 @@ use Rattle.grammar.specs.Keys.{keysOf, keysOnce, keysOnceF}
 use Rattle.grammar.specs.Machine.Message.{message}
 use Rattle.rules.specs.Types.{sameKind}
 use Rattle.rules.specs.Rows.{kind, children}
-use Rattle.rules.specs.ReadingOf.{scalarFits}
+use Rattle.rules.specs.Readings.{Typed, typed}
+use Rattle.rules.specs.ReadingOf.{under, scalarFits, mandatoryThere, fieldsReading}
 use Rattle.rules.proofs.Lists.{clash, and-left}
 use Rattle.rules.proofs.ReadingParts.{scalar-built-in, scalar-enum}
 use Rattle.strings.specs.Strings.{plainString}
@@ -28,12 +30,12 @@ use Rattle.lookups.proofs.NodeLaws.{string-node}
 use Rattle.children.specs.Index.{Given}
 use Rattle.children.specs.Children.{ChildMeant}
 use Rattle.children.specs.Children.MeaningAt.{a-string}
-use Rattle.members.specs.Members.{ObjectTold, ObjectAt}
-use Rattle.readings.specs.Parts.{BuiltInTakes, ScalarFits, ShapeTold, ScalarShape, ArrayShape, ObjectShape, ShapeAt}
+use Rattle.members.specs.Members.{StructsTold, StructsAt}
+use Rattle.readings.specs.Parts.{BuiltInTakes, ScalarFits, ContentTold, ScalarContent, ArrayContent, ObjectContent, ContentAt}
 use Rattle.members.specs.declared.objects.Structs.{Structs}
-use Rattle.members.specs.declared.objects.Structs.the-variants.{Two, Neither}
-use Rattle.readings.specs.declared.shapes.Shape.{Shape}
-use Rattle.readings.specs.declared.shapes.Shape.the-variants.{Alone, Elements, Members, Misfit}
+use Rattle.members.specs.declared.objects.Structs.the-variants.{Links, NoObject}
+use Rattle.readings.specs.declared.contents.Content.{Content}
+use Rattle.readings.specs.declared.contents.Content.the-variants.{Alone, Elements, Members, Misfit}
 use Rattle.members.proofs.MemberLaws.{not0, one-of}
 
 -- scalars that fit
@@ -66,67 +68,72 @@ module _ {S T m w ix : List ℕ} {k t : ℕ} where
           go a e l (num b token) d x z = absurd (clash z refl)
           go a e l (str cs) d x z = ap not0 (g .told cs d (a-string a e l x)) ∙ one-of S T cs (children T r) ∙ sym (scalar-enum S T t r cs (omega arith) (sym q ∙ o))
 
--- the shape of a scalar
+-- the content of a scalar
 module _ {S T m w ix : List ℕ} {k t f : ℕ} where
-  pub scalar-array : (f ≡ 0 → ⊥) → ScalarShape S T m w ix k t f Misfit
-  scalar-array n = record { told = λ a e l v d x. rw (ne-eqb f 0 n) }
+  pub scalar-array : (f ≡ 0 → ⊥) → ScalarContent S T m w ix k t f Misfit
+  scalar-array n = record { told = λ a e l v d x b. rw (ne-eqb f 0 n) }
 
   module _ (z : f ≡ 0) {b : Bool} (g : ScalarFits S T m w ix k t b) where
-    pub scalar-misfits : b ≡ false → ScalarShape S T m w ix k t f Misfit
-    scalar-misfits h = record { told = λ a e l v d x. rw (z, ← g .told a e l v d x, h) }
+    pub scalar-misfits : b ≡ false → ScalarContent S T m w ix k t f Misfit
+    scalar-misfits h = record { told = λ a e l v d x y. rw (z, ← g .told a e l v d x, h) }
 
-    pub scalar-alone : b ≡ true → ScalarShape S T m w ix k t f Alone
-    scalar-alone h = record { told = λ a e l v d x. rw (z, ← g .told a e l v d x, h) }
+    pub scalar-alone : b ≡ true → ScalarContent S T m w ix k t f Alone
+    scalar-alone h = record { told = λ a e l v d x y. rw (z, ← g .told a e l v d x, h) }
 
--- the shape of an array
+-- the content of an array
 module _ {t f : ℕ} where
-  pub array-elements : f ≡ 1 → ArrayShape t f Elements
+  pub array-elements : f ≡ 1 → ArrayContent t f Elements
   array-elements z = record {
-    told = λ S T a e js. record { start = a; end = e; items = js; is-array = refl; reading = rw z };
+    told = λ S T a e js. record { start = a; end = e; items = js; is-array = refl; reading = λ b. rw z };
   }
 
   module _ (n : f ≡ 1 → ⊥) where
-    pub array-other : (f ≡ 0 → ⊥) → ArrayShape t f Misfit
-    array-other o = record { told = λ S T a e js. rw (ne-eqb f 0 o, ne-eqb f 1 n) }
+    pub array-other : (f ≡ 0 → ⊥) → ArrayContent t f Misfit
+    array-other o = record { told = λ S T a e js b. rw (ne-eqb f 0 o, ne-eqb f 1 n) }
 
     module _ (z : f ≡ 0) where
-      pub array-misfits : (t ≡ 15 → ⊥) → ArrayShape t f Misfit
-      array-misfits o = record { told = λ S T a e js. rw (z, ne-eqb t 15 o) }
+      pub array-misfits : (t ≡ 15 → ⊥) → ArrayContent t f Misfit
+      array-misfits o = record { told = λ S T a e js b. rw (z, ne-eqb t 15 o) }
 
-      pub array-alone : t ≡ 15 → ArrayShape t f Alone
-      array-alone o = record { told = λ S T a e js. rw (z, o) }
+      pub array-alone : t ≡ 15 → ArrayContent t f Alone
+      array-alone o = record { told = λ S T a e js b. rw (z, o) }
 
--- the shape of an object
+-- the content of an object: what leaves no reading inside leaves none
+under-cond : (b : Bool) (x : Typed) (o : Option (List Typed)) → cond b (under x o) none ≡ under x (cond b o none)
+under-cond true x o = refl
+under-cond false x o = refl
+
 module _ {S T m w ix : List ℕ} {k t f : ℕ} where
-  pub object-array : (f ≡ 0 → ⊥) → ObjectShape S T m w ix k t f Misfit
-  object-array n = record { told = λ a e fs o u. rw (ne-eqb f 0 n) }
+  pub object-array : (f ≡ 0 → ⊥) → ObjectContent S T m w ix k t f Misfit
+  object-array n = record { told = λ a e fs o u b. rw (ne-eqb f 0 n) }
 
   module _ (z : f ≡ 0) where
-    pub object-alone : t ≡ 15 → ObjectShape S T m w ix k t f Alone
-    object-alone n = record { told = λ a e fs o u. rw (z, n) }
+    pub object-alone : t ≡ 15 → ObjectContent S T m w ix k t f Alone
+    object-alone n = record { told = λ a e fs o u b. rw (z, n) }
 
-    module _ (n : t ≡ 15 → ⊥) {x : Structs} (g : ObjectAt S T m w ix k t x) where
-      pub object-members : {b c : ℕ} → x ≡ Two b c → ObjectShape S T m w ix k t f (Members b c)
+    module _ (n : t ≡ 15 → ⊥) {x : Structs} (g : StructsAt S T m w ix k t x) where
+      pub object-members : {b c : ℕ} → x ≡ Links b c → ObjectContent S T m w ix k t f (Members b c)
       object-members {b} {c} h = record { told = λ a e fs o u. go a e fs (rw h at (g .told fs o u)) }
         where
-          go : (a e : ℕ) (fs : Fields) → ObjectTold S T t fs (Two b c) → ShapeTold S T (obj a e fs) t f (Members b c)
+          go : (a e : ℕ) (fs : Fields) → StructsTold S T t fs (Links b c) → ContentTold S T (obj a e fs) t f (Members b c)
           go a e fs d = record {
             start = a;
             end = e;
             fields = fs;
             is-object = refl;
-            structs = d .structs;
-            reading = rw (z, ne-eqb t 15 n, d .structs .both, d .there);
+            structs = d;
+            reading = λ y. rw (z, ne-eqb t 15 n, d .both)
+                (under-cond (mandatoryThere S T (d .base ++ d .branch) fs) (typed (obj a e fs) t 0) (fieldsReading y S T fs (d .base ++ d .branch)));
           }
 
-      pub object-misfits : x ≡ Neither → ObjectShape S T m w ix k t f Misfit
+      pub object-misfits : x ≡ NoObject → ObjectContent S T m w ix k t f Misfit
       object-misfits h = record { told = λ a e fs o u. go a e fs (rw h at (g .told fs o u)) }
         where
-          go : (a e : ℕ) (fs : Fields) → ObjectTold S T t fs Neither → ShapeTold S T (obj a e fs) t f Misfit
-          go a e fs d = rw (z, ne-eqb t 15 n, d)
+          go : (a e : ℕ) (fs : Fields) → StructsTold S T t fs NoObject → ContentTold S T (obj a e fs) t f Misfit
+          go a e fs d y = rw (z, ne-eqb t 15 n, d)
 
--- the shape of a value, by its node's kind
-pub scalar-below : (m : List ℕ) (a e : ℕ) (v : Scalar) → scalarNode m a e v < 8
+-- the content of a value, by its node's kind
+scalar-below : (m : List ℕ) (a e : ℕ) (v : Scalar) → scalarNode m a e v < 8
 scalar-below m a e null = omega arith
 scalar-below m a e (bool true) = omega arith
 scalar-below m a e (bool false) = omega arith
@@ -138,27 +145,27 @@ scalar-below m a e (str cs) = go (plainString m a e)
     go true = omega arith
     go false = omega arith
 
-module _ (S T m w : List ℕ) {ix : List ℕ} {k t f y : ℕ} {x : Shape} (q : y ≡ nodeKind w k) where
-  pub shape-array : y ≡ 8 → ArrayShape t f x → ShapeAt S T m w ix k t f x
-  shape-array e g = record { told = λ j l o h once. go j l h }
+module _ (S T m w : List ℕ) {ix : List ℕ} {k t f y : ℕ} {x : Content} (q : y ≡ nodeKind w k) where
+  pub content-array : y ≡ 8 → ArrayContent t f x → ContentAt S T m w ix k t f x
+  content-array e g = record { told = λ j l o h once. go j l h }
     where
-      go : (j : Json) (l : ℕ) → Holds message m w j l k → ShapeTold S T j t f x
+      go : (j : Json) (l : ℕ) → Holds message m w j l k → ContentTold S T j t f x
       go (leaf a z v) l h = absurd (omega (arith, scalar-below m a z v, h .0 .has-kind))
       go (arr a z js) l h = g .told S T a z js
       go (obj a z fs) l h = absurd (omega (arith, h .0 .has-kind))
 
-  pub shape-object : y ≡ 9 → ObjectShape S T m w ix k t f x → ShapeAt S T m w ix k t f x
-  shape-object e g = record { told = λ j l o h once. go j l o h once }
+  pub content-object : y ≡ 9 → ObjectContent S T m w ix k t f x → ContentAt S T m w ix k t f x
+  content-object e g = record { told = λ j l o h once. go j l o h once }
     where
-      go : (j : Json) (l : ℕ) → Given S T ix → Holds message m w j l k → keysOnce j ≡ true → ShapeTold S T j t f x
+      go : (j : Json) (l : ℕ) → Given S T ix → Holds message m w j l k → keysOnce j ≡ true → ContentTold S T j t f x
       go (leaf a z v) l o h once = absurd (omega (arith, scalar-below m a z v, h .0 .has-kind))
       go (arr a z js) l o h once = absurd (omega (arith, h .0 .has-kind))
       go (obj a z fs) l o h once = g .told a z fs o (record { levels = l - 1; holds = h .3; once = and-left (apart same (keysOf fs)) (keysOnceF fs) once })
 
-  pub shape-scalar : (y ≡ 8 → ⊥) → (y ≡ 9 → ⊥) → ScalarShape S T m w ix k t f x → ShapeAt S T m w ix k t f x
-  shape-scalar d e g = record { told = λ j l o h once. go j l o h }
+  pub content-scalar : (y ≡ 8 → ⊥) → (y ≡ 9 → ⊥) → ScalarContent S T m w ix k t f x → ContentAt S T m w ix k t f x
+  content-scalar d e g = record { told = λ j l o h once. go j l o h }
     where
-      go : (j : Json) (l : ℕ) → Given S T ix → Holds message m w j l k → ShapeTold S T j t f x
+      go : (j : Json) (l : ℕ) → Given S T ix → Holds message m w j l k → ContentTold S T j t f x
       go (leaf a z v) l o h = g .told a z l v o h
       go (arr a z js) l o h = absurd (d (q ∙ h .0 .has-kind))
       go (obj a z fs) l o h = absurd (e (q ∙ h .0 .has-kind))

@@ -1,10 +1,10 @@
--- `shapes::scalar_shape` meets its contract.
+-- `contents::scalar_content` meets its contract.
 -- A scalar is no array.
 use borrow.Author.Tests.{not-true, not-false}
-use Rattle.readings.proofs.ShapeLaws.{scalar-array, scalar-misfits, scalar-alone}
+use Rattle.readings.proofs.ContentLaws.{scalar-array, scalar-misfits, scalar-alone}
 use borrow.Author.Needs.{needs}
-use Rattle.readings.proofs.shapes.scalar_shape.Statement.{statement}
-use Rattle.readings.proofs.shapes.scalar_shape.Tie as tie
+use Rattle.readings.proofs.contents.scalar_content.Statement.{statement}
+use Rattle.readings.proofs.contents.scalar_content.Tie as tie
 
 returns : tie.Need-returns
 returns c = scalar-array (c .if1 .taken)
@@ -18,5 +18,5 @@ returns-2 c = scalar-misfits (c .before .before .if1 .left) (c .before .scalar-f
 returns-3 : tie.Need-returns-3
 returns-3 c = scalar-alone (c .before .before .if1 .left) (c .before .scalar-fits .ensures) (not-false _ (c .if2 .left))
 
-pub scalar-shape-spec : {M : Type 1} → statement M
-scalar-shape-spec = tie.close (tie.spec returns scalar-fits-requires returns-2 returns-3)
+pub scalar-content-spec : {M : Type 1} → statement M
+scalar-content-spec = tie.close (tie.spec returns scalar-fits-requires returns-2 returns-3)

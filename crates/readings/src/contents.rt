@@ -1,10 +1,10 @@
-// What a value is read as at a type that is no alternate.
+// What is read inside a value at a type that is no alternate.
 use crate::builtins::built_in_takes;
 use children::children::child_meant;
 use lookups::values::is_string;
 use members::objects::FIRST_REFERENCE;
 use members::objects::Structs;
-use members::objects::object_at;
+use members::objects::structs_at;
 use rows::rows::wide;
 use rows::rows::word;
 use rules::kind;
@@ -12,13 +12,13 @@ use rules::row;
 use text::nodes::NODE_KIND;
 use text::nodes::node_word;
 use tokens::node;
-ghost use Rattle.readings.specs.Parts.{ScalarFits, ShapeAt, ArrayShape, ObjectShape, ScalarShape};
+ghost use Rattle.readings.specs.Parts.{ScalarFits, ContentAt, ArrayContent, ObjectContent, ScalarContent};
 
 // The built-in that takes every value.
 const ANY: u32 = 15;
 
-// Its own record alone; that and its elements'; that and its fields', as members of two structs; or nothing.
-pub enum Shape {
+// Inside a value: nothing more than its own record, its elements, or its fields as members of the structs with two links; or it doesn't fit.
+pub enum Content {
     Alone,
     Elements,
     Members(u32, u32),
@@ -51,7 +51,7 @@ fn scalar_fits(
 }
 
 // A scalar, at node k.
-fn scalar_shape(
+fn scalar_content(
     schema: &[u8],
     rows: &[u32],
     m: &[u8],
@@ -60,36 +60,36 @@ fn scalar_shape(
     k: usize,
     t: u32,
     array: u32,
-) -> Shape
-    ensures { λ x. ⌜ ScalarShape (now (schema .entry)) (now (rows .entry)) (now (m .entry)) (now (nodes .entry)) (now (index .entry)) k t array x ⌝ }
+) -> Content
+    ensures { λ x. ⌜ ScalarContent (now (schema .entry)) (now (rows .entry)) (now (m .entry)) (now (nodes .entry)) (now (index .entry)) k t array x ⌝ }
 {
     if array != 0 {
-        return Shape::Misfit;
+        return Content::Misfit;
     }
     if !scalar_fits(schema, rows, m, nodes, index, k, t) {
-        return Shape::Misfit;
+        return Content::Misfit;
     }
-    Shape::Alone
+    Content::Alone
 }
 
 // An array.
-fn array_shape(t: u32, array: u32) -> Shape
-    ensures { λ x. ⌜ ArrayShape t array x ⌝ }
+fn array_content(t: u32, array: u32) -> Content
+    ensures { λ x. ⌜ ArrayContent t array x ⌝ }
 {
     if array == 1 {
-        return Shape::Elements;
+        return Content::Elements;
     }
     if array != 0 {
-        return Shape::Misfit;
+        return Content::Misfit;
     }
     if t != ANY {
-        return Shape::Misfit;
+        return Content::Misfit;
     }
-    Shape::Alone
+    Content::Alone
 }
 
 // An object, at node k.
-fn object_shape(
+fn object_content(
     schema: &[u8],
     rows: &[u32],
     m: &[u8],
@@ -98,23 +98,23 @@ fn object_shape(
     k: usize,
     t: u32,
     array: u32,
-) -> Shape
-    ensures { λ x. ⌜ ObjectShape (now (schema .entry)) (now (rows .entry)) (now (m .entry)) (now (nodes .entry)) (now (index .entry)) k t array x ⌝ }
+) -> Content
+    ensures { λ x. ⌜ ObjectContent (now (schema .entry)) (now (rows .entry)) (now (m .entry)) (now (nodes .entry)) (now (index .entry)) k t array x ⌝ }
 {
     if array != 0 {
-        return Shape::Misfit;
+        return Content::Misfit;
     }
     if t == ANY {
-        return Shape::Alone;
+        return Content::Alone;
     }
-    match object_at(schema, rows, m, nodes, index, k, t) {
-        Structs::Two(base, branch) => Shape::Members(base, branch),
-        Structs::Neither => Shape::Misfit,
+    match structs_at(schema, rows, m, nodes, index, k, t) {
+        Structs::Links(base, branch) => Content::Members(base, branch),
+        Structs::NoObject => Content::Misfit,
     }
 }
 
 // The value at node k, at the type reference t, as an array of it where `array` is 1.
-pub fn shape_at(
+pub fn content_at(
     schema: &[u8],
     rows: &[u32],
     m: &[u8],
@@ -123,12 +123,12 @@ pub fn shape_at(
     k: usize,
     t: u32,
     array: u32,
-) -> Shape
-    ensures { λ x. ⌜ ShapeAt (now (schema .entry)) (now (rows .entry)) (now (m .entry)) (now (nodes .entry)) (now (index .entry)) k t array x ⌝ }
+) -> Content
+    ensures { λ x. ⌜ ContentAt (now (schema .entry)) (now (rows .entry)) (now (m .entry)) (now (nodes .entry)) (now (index .entry)) k t array x ⌝ }
 {
     match node_word(nodes, k, NODE_KIND) {
-        node::ARRAY => array_shape(t, array),
-        node::OBJECT => object_shape(schema, rows, m, nodes, index, k, t, array),
-        _ => scalar_shape(schema, rows, m, nodes, index, k, t, array),
+        node::ARRAY => array_content(t, array),
+        node::OBJECT => object_content(schema, rows, m, nodes, index, k, t, array),
+        _ => scalar_content(schema, rows, m, nodes, index, k, t, array),
     }
 }

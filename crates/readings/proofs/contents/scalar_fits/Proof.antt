@@ -1,10 +1,10 @@
--- `shapes::scalar_fits` meets its contract.
+-- `contents::scalar_fits` meets its contract.
 -- A built-in by the grid and its range, an enum by the meaning of its values.
 use borrow.Author.Tests.{not-true, not-false}
-use Rattle.readings.proofs.ShapeLaws.{fits-built-in, fits-no-enum, fits-no-string, fits-enum}
+use Rattle.readings.proofs.ContentLaws.{fits-built-in, fits-no-enum, fits-no-string, fits-enum}
 use borrow.Author.Needs.{needs}
-use Rattle.readings.proofs.shapes.scalar_fits.Statement.{statement}
-use Rattle.readings.proofs.shapes.scalar_fits.Tie as tie
+use Rattle.readings.proofs.contents.scalar_fits.Statement.{statement}
+use Rattle.readings.proofs.contents.scalar_fits.Tie as tie
 
 wide-requires : tie.Need-wide-requires
 wide-requires c κs = search needs
