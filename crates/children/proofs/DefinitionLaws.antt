@@ -98,7 +98,7 @@ filling-start {S} {T} {ix} e = record {
   owners = [];
   listing = record {
     items = [];
-    chained = record { words = ap length e ∙ length-replicate {A = ℕ} index-words 0; chains = index-empty rowOf (childMark S T) (linksOf ix) (no-heads e); below = tt; few = omega arith };
+    chained = record { words = ap length e ∙ length-replicate {A = ℕ} index-words 0; chains = index-empty rowOf (childMark S T) (linksOf ix) (no-heads e); below = tt; few = omega arith; owners = λ y m. elim m [ ] };
     owned = λ r m t. elim m [ ];
   };
   all-long = λ x h t. absurd (omega arith);

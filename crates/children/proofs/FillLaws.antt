@@ -8,7 +8,8 @@ use mathlib.Core.Bool.{Bool, true, false}
 use mathlib.Core.Logic.{_⊎_, inl, inr, ⊎-elim}
 use mathlib.Core.List.{List, [], _∷_, List·Memᴰ, List·Memᴰ·head, List·Memᴰ·tail, List·Memᴰ·cases-cons}
 use lib.Dec.{eqb}
-use lib.ListN.{length, getD}
+use lib.ListN.{length, getD, set}
+use lib.Seq.{getD-set-same, getD-set-other}
 use borrow.Author.Tests.{eqb-true, eqb-false}
 use Rattle.grammar.specs.Limits.{table-rows}
 use Rattle.buckets.specs.Buckets.{All, Indexed}
@@ -20,13 +21,20 @@ use Rattle.rules.proofs.TableRows.{next-above, past-children-above, past-childr
 use Rattle.rows.specs.Rows.{Follows, First, Counted as Sized}
 use Rattle.rows.proofs.LoopLaws.{walk-at, walk-over, past-next, past-within, past-over}
 use Rattle.rows.proofs.ChildLaws.{children-walk, children-past}
-use Rattle.children.specs.Index.{index-words, countPlace, linksOf, isLong, Child, childAt, rowOf, childMark, Chained, Owned}
-use Rattle.children.specs.Filling.{Put, Counted, Grown, ChildrenAdded, ListAdded}
-use Rattle.children.proofs.PartLaws.{heads-wide, links-wide, put-room, put-counts, put-added, counted-room, counted-heads, counted-links, counted-here, counted-other}
+use Rattle.children.specs.Index.{index-words, countPlace, linksOf, ownersOf, isLong, Child, childAt, rowOf, childMark, Noted, Chained, Owned}
+use Rattle.children.specs.Filling.{Put, OwnerPut, Counted, Grown, ChildrenAdded, ListAdded}
+use Rattle.children.proofs.PartLaws.{heads-wide, links-wide, owners-wide, put-room, put-counts, put-owners, put-added, counted-room, counted-heads, counted-links, counted-owners, counted-here, counted-other, owner-room, owner-heads, owner-links, owner-counts, owner-owners}
 
 all-weaker : {A : Type 0} (P Q : A → Type 0) → ((y : A) → P y → Q y) → (ys : List A) → All P ys → All Q ys
 all-weaker P Q f [] a = tt
 all-weaker P Q f (y ∷ ys) a = (f y (a .0), all-weaker P Q f ys (a .1))
+
+all-at : {A : Type 0} (P : A → Type 0) (ys : List A) → All P ys → (y : A) → List·Memᴰ y ys → P y
+all-at P [] a y m = elim m [ ]
+all-at P (x ∷ ys) a y m = ⊎-elim (λ e. subst P (sym e) (a .0)) (all-at P ys (a .1) y) (List·Memᴰ·cases-cons m)
+
+noted-so : {T ix ix′ : List ℕ} {y : Child} → ownersOf ix′ ≡ ownersOf ix → Noted T ix y → Noted T ix′ y
+noted-so {y = y} e d = record { child = d .child; note = ap (λ (l : List ℕ). getD l (y .row) 0) e ∙ d .note }
 
 module _ {S T ix : List ℕ} {items : List Child} {n : ℕ} (v : Chained S T ix items n) where
   pub chained-wider : {k : ℕ} → n ≤ k → Chained S T ix items k
@@ -35,6 +43,7 @@ module _ {S T ix : List ℕ} {items : List Child} {n : ℕ} (v : Chained S T ix 
     chains = v .chains;
     below = all-weaker (λ y. rowOf y < n) (λ y. rowOf y < k) (λ y (l : rowOf y < n). omega arith) items (v .below);
     few = omega (arith, v .few);
+    owners = v .owners;
   }
 
   -- a count was stored
@@ -44,19 +53,34 @@ module _ {S T ix : List ℕ} {items : List Child} {n : ℕ} (v : Chained S T ix 
     chains = subst₂ (λ (a b : List ℕ). Indexed rowOf (childMark S T) a b items) (sym (counted-heads p)) (sym (counted-links p)) (v .chains);
     below = v .below;
     few = v .few;
+    owners = λ y m. noted-so (counted-owners p) (v .owners y m);
   }
 
-  -- row n came
-  chained-more : (r : ℕ) {mark : ℕ} {ix′ : List ℕ} → n < table-rows → mark ≡ childMark S T (childAt n r) → Put ix mark n ix′ → Chained S T ix′ (childAt n r ∷ items) (suc n)
-  chained-more r h q p =
+  -- row n came, a child of row r
+  chained-more : {r mark : ℕ} {ix₁ ix₂ : List ℕ} → n < table-rows → mark ≡ childMark S T (childAt n r) → Put ix mark n ix₁ → OwnerPut ix₁ n r ix₂ → List·Memᴰ n (children T r)
+      → Chained S T ix₂ (childAt n r ∷ items) (suc n)
+  chained-more {r} {ix₁ = ix₁} {ix₂} h q p o child =
       let room : n < length (linksOf ix) = omega (arith, links-wide ix (v .words)) in
+      let words : length ix₁ ≡ index-words = put-room h p ∙ v .words in
+      let owners : ownersOf ix₂ ≡ set (ownersOf ix) n r = owner-owners o h ∙ ap (λ (l : List ℕ). set l n r) (put-owners h p) in
       record {
-        words = put-room h p ∙ v .words;
-        chains =
-            index-added rowOf (childMark S T) (v .chains) (childAt n r) (heads-wide ix (v .words)) room refl (sym q)
-            (all-weaker (λ y. rowOf y < n) (λ y. rowOf y ≡ n → ⊥) (λ y (l : rowOf y < n) e. omega arith) items (v .below)) (put-added h p);
+        words = owner-room o ∙ words;
+        chains = subst₂ (λ (a b : List ℕ). Indexed rowOf (childMark S T) a b (childAt n r ∷ items)) (sym (owner-heads o)) (sym (owner-links o))
+            (index-added rowOf (childMark S T) (v .chains) (childAt n r) (heads-wide ix (v .words)) room refl (sym q)
+            (all-weaker (λ y. rowOf y < n) (λ y. rowOf y ≡ n → ⊥) (λ y (l : rowOf y < n) e. omega arith) items (v .below)) (put-added h p));
         below = (omega arith, all-weaker (λ y. rowOf y < n) (λ y. rowOf y < suc n) (λ y (l : rowOf y < n). omega arith) items (v .below));
         few = omega (arith, v .few);
+        owners = λ y m. ⊎-elim (new owners) (λ m′. old owners (v .owners y m′) (all-at (λ x. rowOf x < n) items (v .below) y m′)) (List·Memᴰ·cases-cons m);
+      }
+    where
+      new : {y : Child} → ownersOf ix₂ ≡ set (ownersOf ix) n r → y ≡ childAt n r → Noted T ix₂ y
+      new {y} e q = subst (Noted T ix₂) (sym q)
+          (record { child = child; note = ap (λ (l : List ℕ). getD l n 0) e ∙ getD-set-same (ownersOf ix) n r 0 (omega (arith, owners-wide ix (v .words))) })
+
+      old : {y : Child} → ownersOf ix₂ ≡ set (ownersOf ix) n r → Noted T ix y → rowOf y < n → Noted T ix₂ y
+      old {y} e d l = record {
+        child = d .child;
+        note = ap (λ (z : List ℕ). getD z (y .row) 0) e ∙ getD-set-other (ownersOf ix) n (y .row) r 0 (λ z. omega arith) ∙ d .note;
       }
 
 -- the children of row r, from the first on: those but the n rows from c on came
@@ -69,6 +93,7 @@ pub record Growing (S T ix : List ℕ) (r c n : ℕ) (items : List Child) : Type
 pub record RunAdded (S T ix : List ℕ) (r c n : ℕ) (ix′ : List ℕ) : Type 0 where
   pub room : length ix′ ≡ length ix
   pub ends : past T c n ≡ pastChildren T r
+  pub own : (x : ℕ) → List·Memᴰ x (walk T c n) → List·Memᴰ x (children T r)
   pub counts : (x : ℕ) → getD ix′ (countPlace x) 0 ≡ getD ix (countPlace x) 0
   pub told : (items : List Child) → Chained S T ix items (firstChild T r) → Growing S T ix′ r c n items
 
@@ -76,6 +101,7 @@ pub run-start : {S T ix : List ℕ} {r a n : ℕ} → First T r a → Sized T r 
 run-start {S} {T} {ix} p q = record {
   room = refl;
   ends = children-past p q refl;
+  own = λ x m. subst (List·Memᴰ x) (sym (children-walk p q)) m;
   counts = λ x. refl;
   told = λ items v. record {
     more = items;
@@ -89,19 +115,22 @@ module _ {S T ix ix₁ : List ℕ} {r c n : ℕ} (v : RunAdded S T ix r c n ix�
   pub run-within : 0 < n → pastChildren T r ≤ table-rows → c < table-rows
   run-within h k = omega (arith, past-within T c n h, v .ends)
 
-  pub run-more : {name ix₂ : List ℕ} {k mark c′ : ℕ} → 0 < n → pastChildren T r ≤ table-rows → name ≡ nameOf S T c → k ≡ markOf name → mark ≡ markMore k r → Put ix₁ mark c ix₂
-      → Follows T c c′ → RunAdded S T ix r c′ (n - 1) ix₂
-  run-more {name} {ix₂} {k} {mark} {c′} l w qn qm q p f =
+  pub run-more : {name ix₂ ix₃ : List ℕ} {k mark c′ : ℕ} → 0 < n → pastChildren T r ≤ table-rows → name ≡ nameOf S T c → k ≡ markOf name → mark ≡ markMore k r → Put ix₁ mark c ix₂
+      → OwnerPut ix₂ c r ix₃ → Follows T c c′ → RunAdded S T ix r c′ (n - 1) ix₃
+  run-more l w qn qm q p o f =
       let h : c < table-rows = run-within l w in
       record {
-        room = put-room h p ∙ v .room;
+        room = owner-room o ∙ put-room h p ∙ v .room;
         ends = sym (past-next l f) ∙ v .ends;
-        counts = λ x. put-counts h p x ∙ v .counts x;
+        own = λ x m. v .own x (subst (List·Memᴰ x) (sym (walk-at T l (f .is))) (List·Memᴰ·tail m));
+        counts = λ x. owner-counts o h x ∙ put-counts h p x ∙ v .counts x;
         told = λ items w.
             let g = v .told items w in
             record {
               more = childAt c r ∷ g .more;
-              chained = chained-wider (chained-more (g .chained) r h (q ∙ ap (λ (x : ℕ). markMore x r) (qm ∙ ap markOf qn)) p) (omega (arith, f .is, next-above T c));
+              chained =
+                  chained-wider (chained-more (g .chained) h (q ∙ ap (λ (x : ℕ). markMore x r) (qm ∙ ap markOf qn)) p o (v .own c (subst (List·Memᴰ c) (sym (walk-at T l (f .is))) (List·Memᴰ·head refl))))
+                  (omega (arith, f .is, next-above T c));
               kept = λ y m. List·Memᴰ·tail (g .kept y m);
               come = λ x m. ⊎-elim
                   (λ i. ⊎-elim (λ (e : x ≡ c). inr (List·Memᴰ·head (ap (λ i. childAt i r) e))) inl (List·Memᴰ·cases-cons (subst (List·Memᴰ x) (walk-at T l (f .is)) i)))

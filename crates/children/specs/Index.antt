@@ -12,9 +12,9 @@ use Rattle.rules.specs.Rows.{childCount, children, nameOf}
 use Rattle.rules.specs.Sound.{sound}
 use Rattle.children.specs.Counts.{mandatoryIn}
 
--- the words of an index: heads of buckets, a link for each row, a count for each row
+-- the words of an index: heads of buckets; then for each row a link, its owner and a count
 abbrev pub index-words : ℕ
-index-words = buckets + table-rows + table-rows
+index-words = buckets + table-rows + table-rows + table-rows
 
 unfoldable pub headsOf : List ℕ → List ℕ
 headsOf ix = take buckets ix
@@ -22,8 +22,14 @@ headsOf ix = take buckets ix
 unfoldable pub linksOf : List ℕ → List ℕ
 linksOf ix = take table-rows (drop buckets ix)
 
+unfoldable pub ownersOf : List ℕ → List ℕ
+ownersOf ix = take table-rows (drop (buckets + table-rows) ix)
+
+abbrev pub ownerPlace : ℕ → ℕ
+ownerPlace c = buckets + table-rows + c
+
 abbrev pub countPlace : ℕ → ℕ
-countPlace r = buckets + table-rows + r
+countPlace r = buckets + table-rows + table-rows + r
 
 -- a list of more children than these is long
 abbrev pub short-list : ℕ
@@ -47,12 +53,18 @@ rowOf y = y .row
 abbrev pub childMark : List ℕ → List ℕ → Child → ℕ
 childMark S T y = markMore (markOf (nameOf S T (y .row))) (y .owner)
 
--- the items are in chains, each in the bucket of its mark; their rows are below n, and there are no more than n
+-- it is a child of its owner, which is noted at its row
+pub record Noted (T ix : List ℕ) (y : Child) : Type 0 where
+  pub child : List·Memᴰ (y .row) (children T (y .owner))
+  pub note : getD (ownersOf ix) (y .row) 0 ≡ y .owner
+
+-- the items are in chains, each in the bucket of its mark, with their owners; their rows are below n, and there are no more than n
 pub record Chained (S T ix : List ℕ) (items : List Child) (n : ℕ) : Type 0 where
   pub words : length ix ≡ index-words
   pub chains : Indexed rowOf (childMark S T) (headsOf ix) (linksOf ix) items
   pub below : All (λ y. rowOf y < n) items
   pub few : length items ≤ n
+  pub owners : (y : Child) → List·Memᴰ y items → Noted T ix y
 
 -- every child of row r is among the items, and the mandatory ones are counted
 pub record Owned (T ix : List ℕ) (items : List Child) (r : ℕ) : Type 0 where

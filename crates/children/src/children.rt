@@ -91,7 +91,7 @@ fn inner_bytes<'a>(m: &'a [u8], nodes: &[u32], k: usize) -> &'a [u8]
     part_of(m, a + 1, inner_size(a, e))
 }
 
-// The same as `scanned_child`; the bytes of a plain key or string are compared as they are.
+// The link of the child of row r that the key or string at node k means, where the bytes of a plain one are compared as they are; 0 if there is none.
 fn short_child(schema: &[u8], rows: &[u32], m: &[u8], nodes: &[u32], r: usize, k: usize) -> usize
     requires { ⌜ r < 2 ^ 39 ⌝ }
     ensures { λ x. ⌜ ChildScanned (now (schema .entry)) (now (rows .entry)) (now (m .entry)) (now (nodes .entry)) r k x ⌝ }
@@ -102,7 +102,7 @@ fn short_child(schema: &[u8], rows: &[u32], m: &[u8], nodes: &[u32], r: usize, k
     scanned_child(schema, rows, m, nodes, r, k)
 }
 
-// The same, where a long list is looked up in the index of a sound table.
+// The link of the child that is meant in a sound table: a short list is looked through, a long one has an index; 0 if there is none.
 pub fn child_meant(
     schema: &[u8],
     rows: &[u32],
@@ -147,7 +147,7 @@ pub fn scanned_mandatory(rows: &[u32], r: usize) -> usize
     n
 }
 
-// The same, where a long list is counted in the index of a sound table.
+// How many children of row r of a sound table are mandatory: a short list is looked through, the count of a long one stands in the index.
 pub fn own_mandatory(rows: &[u32], index: &[u32], r: usize) -> usize
     requires { ⌜ r < 2 ^ 39 ⌝ }
     ensures { λ x. ⌜ OwnMandatory (now (rows .entry)) (now (index .entry)) r x ⌝ }

@@ -1,4 +1,4 @@
-// An index of long lists of children by their row and name, over lent words: heads of buckets, a link for each row, a count for each row.
+// An index of long lists of children by their row and name, over lent words: heads of buckets; then for each row a link, its owner and a count.
 use crate::children::scanned_mandatory;
 use crate::marks::name_mark;
 use crate::marks::owner_mark;
@@ -20,12 +20,14 @@ ghost use Rattle.grammar.specs.Limits.{table-rows};
 ghost use Rattle.rules.specs.Rows.{pastChildren};
 ghost use Rattle.rules.specs.Sound.{sound};
 ghost use Rattle.children.specs.Index.{index-words, isLong, Filled};
-ghost use Rattle.children.specs.Filling.{Put, Counted, ChildrenAdded, ListAdded, InlineAdded};
+ghost use Rattle.children.specs.Filling.{Put, OwnerPut, Counted, ChildrenAdded, ListAdded, InlineAdded};
 
-pub const INDEX_WORDS: usize = BUCKETS + TABLE_ROWS + TABLE_ROWS;
+pub const INDEX_WORDS: usize = BUCKETS + TABLE_ROWS + TABLE_ROWS + TABLE_ROWS;
 
-// Where the counts begin.
-pub const COUNTS: usize = BUCKETS + TABLE_ROWS;
+// Where the owners begin, and the counts.
+pub const OWNERS: usize = BUCKETS + TABLE_ROWS;
+
+pub const COUNTS: usize = BUCKETS + TABLE_ROWS + TABLE_ROWS;
 
 // A list of more children than these is long.
 const SHORT_LIST: usize = 16;
@@ -46,6 +48,14 @@ fn put_child(index: &mut [u32], mark: u32, c: usize)
     index[h] = (c + 1) as u32;
 }
 
+// Notes row r as the owner of row c.
+fn put_owner(index: &mut [u32], c: usize, r: usize)
+    requires { ⌜ (length (now index) ≡ index-words) × (c < table-rows) × (r < table-rows) ⌝ }
+    ensures { λ _. ⌜ OwnerPut (now (index .entry)) c r (now (index .exit)) ⌝ }
+{
+    index[OWNERS + c] = r as u32;
+}
+
 // Puts the children of row r into the index.
 fn add_children(schema: &[u8], rows: &[u32], index: &mut [u32], r: usize)
     requires { ⌜ (length (now index) ≡ index-words) × (pastChildren (now rows) r ≤ table-rows) ⌝ }
@@ -56,6 +66,7 @@ fn add_children(schema: &[u8], rows: &[u32], index: &mut [u32], r: usize)
     while 0 < left {
         let mark = owner_mark(name_mark(name_of(schema, rows, c)), r);
         put_child(index, mark, c);
+        put_owner(index, c, r);
         c = next_row(rows, c);
         left -= 1;
     }

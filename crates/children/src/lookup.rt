@@ -1,40 +1,45 @@
 // A long list of children, asked through the index.
 use crate::index::COUNTS;
 use crate::index::INDEX_WORDS;
+use crate::index::OWNERS;
 use crate::marks::meaning_mark;
 use crate::marks::owner_mark;
 use buckets::BUCKETS;
 use buckets::bucket_of;
-use buckets::next;
 use lookups::values::node_means;
 use rows::names::name_of;
-use rows::rows::first_child;
-use rows::rows::past_children;
 use rows::rows::wide;
 use rules::TABLE_ROWS;
 ghost use mathlib.Core.Path.{_≡_};
-ghost use Prim.Native.Nat.{_<_, _^_};
-ghost use lib.ListN.{getD};
-ghost use Rattle.children.specs.Index.{countPlace};
+ghost use Prim.Native.Nat.{_≤_, _<_, _^_};
+ghost use lib.ListN.{length, getD};
+ghost use Rattle.children.specs.Index.{index-words, countPlace};
 ghost use Rattle.children.specs.Lookup.{RowMeant, ChildListed, ChildIndexed};
 
-// Whether row c is one from a up to e whose name the key or string at node k means.
+// Word i, as a number; 0 past the end.
+fn number_at(words: &[u32], i: usize) -> usize
+    ensures { λ x. ⌜ x ≡ getD (now (words .entry)) i 0 ⌝ }
+{
+    if words.len() <= i {
+        return 0;
+    }
+    wide(words[i])
+}
+
+// Whether row c is a child of row r whose name the key or string at node k means.
 fn is_meant(
     schema: &[u8],
     rows: &[u32],
     m: &[u8],
     nodes: &[u32],
+    owners: &[u32],
+    r: usize,
     k: usize,
-    a: usize,
-    e: usize,
     c: usize,
 ) -> bool
-    ensures { λ b. ⌜ RowMeant (now (schema .entry)) (now (rows .entry)) (now (m .entry)) (now (nodes .entry)) k a e c b ⌝ }
+    ensures { λ b. ⌜ RowMeant (now (schema .entry)) (now (rows .entry)) (now (m .entry)) (now (nodes .entry)) (now (owners .entry)) r k c b ⌝ }
 {
-    if c < a {
-        return false;
-    }
-    if e <= c {
+    if number_at(owners, c) != r {
         return false;
     }
     node_means(m, false, nodes, k, name_of(schema, rows, c))
@@ -46,14 +51,16 @@ fn listed_child(
     rows: &[u32],
     m: &[u8],
     nodes: &[u32],
-    links: &[u32],
+    index: &[u32],
     head: usize,
-    a: usize,
-    e: usize,
+    r: usize,
     k: usize,
 ) -> usize
-    ensures { λ x. ⌜ ChildListed (now (schema .entry)) (now (rows .entry)) (now (m .entry)) (now (nodes .entry)) (now (links .entry)) head a e k x ⌝ }
+    requires { ⌜ index-words ≤ length (now index) ⌝ }
+    ensures { λ x. ⌜ ChildListed (now (schema .entry)) (now (rows .entry)) (now (m .entry)) (now (nodes .entry)) (now (index .entry)) head r k x ⌝ }
 {
+    let links = &index[BUCKETS..OWNERS];
+    let owners = &index[OWNERS..COUNTS];
     let mut word = head;
     let mut left = TABLE_ROWS;
     while 0 < left {
@@ -61,10 +68,10 @@ fn listed_child(
             return 0;
         }
         let c = word - 1;
-        if is_meant(schema, rows, m, nodes, k, a, e, c) {
+        if is_meant(schema, rows, m, nodes, owners, r, k, c) {
             return word;
         }
-        word = next(links, c);
+        word = number_at(links, c);
         left -= 1;
     }
     0
@@ -80,28 +87,14 @@ pub fn indexed_child(
     r: usize,
     k: usize,
 ) -> usize
-    requires { ⌜ r < 2 ^ 39 ⌝ }
     ensures { λ x. ⌜ ChildIndexed (now (schema .entry)) (now (rows .entry)) (now (m .entry)) (now (nodes .entry)) (now (index .entry)) r k x ⌝ }
 {
     if index.len() < INDEX_WORDS {
         return 0;
     }
     let mark = owner_mark(meaning_mark(m, nodes, k), r);
-    let h = bucket_of(mark);
-    let head = wide(index[h]);
-    let a = first_child(rows, r);
-    let e = past_children(rows, r);
-    listed_child(
-        schema,
-        rows,
-        m,
-        nodes,
-        &index[BUCKETS..COUNTS],
-        head,
-        a,
-        e,
-        k,
-    )
+    let head = number_at(index, bucket_of(mark));
+    listed_child(schema, rows, m, nodes, index, head, r, k)
 }
 
 // How many children of row r are mandatory, by the index.
@@ -109,9 +102,5 @@ pub fn indexed_mandatory(index: &[u32], r: usize) -> usize
     requires { ⌜ r < 2 ^ 39 ⌝ }
     ensures { λ x. ⌜ x ≡ getD (now (index .entry)) (countPlace r) 0 ⌝ }
 {
-    let i = COUNTS + r;
-    if index.len() <= i {
-        return 0;
-    }
-    wide(index[i])
+    number_at(index, COUNTS + r)
 }

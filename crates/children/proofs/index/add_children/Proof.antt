@@ -6,6 +6,7 @@ use Rattle.rows.specs.Rows.{Room}
 use Rattle.rows.proofs.LoopLaws.{room-next}
 use Rattle.rows.proofs.ChildLaws.{children-room}
 use Rattle.children.proofs.FillLaws.{RunAdded, run-start, run-within, run-more, run-end}
+use Rattle.children.proofs.PartLaws.{put-room}
 use borrow.Author.Needs.{needs}
 use Rattle.children.proofs.index.add_children.Statement.{statement}
 use Rattle.children.proofs.index.add_children.Tie as tie
@@ -37,6 +38,9 @@ owner-mark-requires c κs = search needs
 put-child-requires : tie.Need-put-child-requires Inv-loop μ-loop
 put-child-requires c κs = (c .before .before .before .before .before .loop .inv .1 .room ∙ c .before .before .before .before .before .before .before .before .before .before .before .pre .0, run-within (c .before .before .before .before .before .loop .inv .1) (c .before .before .before .before .loop-test .taken) (c .before .before .before .before .before .before .before .before .before .before .before .pre .1))
 
+put-owner-requires : tie.Need-put-owner-requires Inv-loop μ-loop
+put-owner-requires c κs = (put-room (run-within (c .before .before .before .before .before .before .before .before .before .loop .inv .1) (c .before .before .before .before .before .before .before .before .loop-test .taken) (c .before .before .before .before .before .before .before .before .before .before .before .before .before .before .before .pre .1)) (c .before .before .before .put-child .ensures) ∙ c .before .before .before .before .before .before .before .before .before .loop .inv .1 .room ∙ c .before .before .before .before .before .before .before .before .before .before .before .before .before .before .before .pre .0, run-within (c .before .before .before .before .before .before .before .before .before .loop .inv .1) (c .before .before .before .before .before .before .before .before .loop-test .taken) (c .before .before .before .before .before .before .before .before .before .before .before .before .before .before .before .pre .1), omega (arith, c .before .before .before .before .before .before .before .before .before .before .before .before .before .before .before .pre .1, past-children-above (c .before .before .before .before .before .before .before .before .before .before .before .before .before .before .before .args .rows .now) (c .before .before .before .before .before .before .before .before .before .before .before .before .before .before .before .args .r)))
+
 next-row-requires : tie.Need-next-row-requires Inv-loop μ-loop
 next-row-requires c κs = search needs
 
@@ -48,9 +52,9 @@ loop-less c = search needs
 
 loop-again : tie.Need-loop-again Inv-loop μ-loop
 loop-again c =
-    let l = c .before .before .before .before .before .before .before .before .loop-test .taken in
+    let l = c .before .before .before .before .before .before .before .before .before .before .before .before .loop-test .taken in
     let f = c .next-row .ensures in
-    (room-next (c .before .before .before .before .before .before .before .before .before .loop .inv .0) l f, run-more (c .before .before .before .before .before .before .before .before .before .loop .inv .1) l (c .before .before .before .before .before .before .before .before .before .before .before .before .before .before .before .pre .1) (c .before .before .before .before .before .before .before .name-of .ensures) (c .before .before .before .before .before .before .name-mark .ensures) (c .before .before .before .before .before .owner-mark .ensures) (c .before .before .before .put-child .ensures) f)
+    (room-next (c .before .before .before .before .before .before .before .before .before .before .before .before .before .loop .inv .0) l f, run-more (c .before .before .before .before .before .before .before .before .before .before .before .before .before .loop .inv .1) l (c .before .before .before .before .before .before .before .before .before .before .before .before .before .before .before .before .before .before .before .pre .1) (c .before .before .before .before .before .before .before .before .before .before .before .name-of .ensures) (c .before .before .before .before .before .before .before .before .before .before .name-mark .ensures) (c .before .before .before .before .before .before .before .before .before .owner-mark .ensures) (c .before .before .before .before .before .before .before .put-child .ensures) (c .before .before .before .put-owner .ensures) f)
 
 same-length : tie.Need-same-length Inv-loop μ-loop
 same-length c = search needs
@@ -71,6 +75,7 @@ add-children-spec =
     name-mark-requires
     owner-mark-requires
     put-child-requires
+    put-owner-requires
     next-row-requires
     sub-left
     loop-less

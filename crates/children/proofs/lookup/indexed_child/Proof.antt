@@ -1,10 +1,6 @@
--- `lookup::indexed_child` meets its contract: the chain of the bucket of what is meant, over the rows of the list.
-use borrow.Author.Needs.{needs}
-use Prim.Native.Nat.{ℕ}
-use mathlib.Core.Path.{ap, _∙_}
-use lib.ListN.{getD}
-use Rattle.children.specs.Index.{linksOf}
+-- `lookup::indexed_child` meets its contract: the chain of the bucket of what is meant.
 use Rattle.children.proofs.LookupLaws.{child-indexed}
+use borrow.Author.Needs.{needs}
 use Rattle.children.proofs.lookup.indexed_child.Statement.{statement}
 use Rattle.children.proofs.lookup.indexed_child.Tie as tie
 
@@ -20,38 +16,14 @@ owner-mark-requires c κs = search needs
 bucket-of-requires : tie.Need-bucket-of-requires
 bucket-of-requires c κs = search needs
 
-mul-wide : tie.Need-mul-wide
-mul-wide c = search needs
-
-shared-slice-read-wide : tie.Need-shared-slice-read-wide
-shared-slice-read-wide c = search needs
-
-wide-requires : tie.Need-wide-requires
-wide-requires c κs = search needs
-
-first-child-requires : tie.Need-first-child-requires
-first-child-requires c κs = search needs
-
-past-children-requires : tie.Need-past-children-requires
-past-children-requires c κs = search needs
-
-sub-listed-child : tie.Need-sub-listed-child
-sub-listed-child c = search needs
-
-part-listed-child-start : tie.Need-part-listed-child-start
-part-listed-child-start c = search needs
-
-part-listed-child-end : tie.Need-part-listed-child-end
-part-listed-child-end c = search needs
+number-at-requires : tie.Need-number-at-requires
+number-at-requires c κs = search needs
 
 listed-child-requires : tie.Need-listed-child-requires
 listed-child-requires c κs = search needs
 
 returns-2 : tie.Need-returns-2
-unfolding linksOf
-returns-2 c =
-    let i = c .before .before .before .before .before .before .before .before .before .before .before .before .before .before .before .args .index .now in
-    child-indexed (c .before .before .before .before .before .before .before .before .meaning-mark .ensures) (c .before .before .before .before .before .before .before .owner-mark .ensures) (c .before .before .before .before .wide .ensures ∙ ap (λ (h : ℕ). getD i h 0) (c .before .before .before .before .before .before .bucket-of .ensures)) (c .before .before .before .first-child .ensures) (c .before .before .past-children .ensures) (c .listed-child .ensures)
+returns-2 c = child-indexed (c .before .before .before .before .meaning-mark .ensures) (c .before .before .before .owner-mark .ensures) (c .before .before .bucket-of .ensures) (c .before .number-at .ensures) (c .listed-child .ensures)
 
 pub indexed-child-spec : {M : Type 1} → statement M
 indexed-child-spec =
@@ -61,13 +33,6 @@ indexed-child-spec =
     meaning-mark-requires
     owner-mark-requires
     bucket-of-requires
-    mul-wide
-    shared-slice-read-wide
-    wide-requires
-    first-child-requires
-    past-children-requires
-    sub-listed-child
-    part-listed-child-start
-    part-listed-child-end
+    number-at-requires
     listed-child-requires
     returns-2)
