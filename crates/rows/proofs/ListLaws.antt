@@ -1,4 +1,4 @@
--- Laws of tests and of `all`, `any` and `noClash` of lists: images, appended lists, tests that agree, and that `noClash` may go through either list first.
+-- Laws of tests and of `all` and `any` of lists: images, appended lists, tests that agree.
 -- By induction on the list; a test that decides is taken by its two values.
 use Prim.Native.Nat.{ℕ}
 use mathlib.Core.Path.{_≡_, refl, sym, ap, _∙_}
@@ -8,7 +8,7 @@ use mathlib.Core.Option.{Option, none, some}
 use lib.Dec.{eqb}
 use borrow.Author.Tests.{eqb-true, eqb-false, eq-eqb, ne-eqb}
 use Rattle.grammar.specs.Notation.{all, same}
-use Rattle.rules.specs.Rules.{any, is, noClash}
+use Rattle.rules.specs.Rules.{any, is}
 
 module _ {A : Type 0} (f : A → Bool) where
   pub all-append : (l k : List A) → all f (l ++ k) ≡ all f l && all f k
@@ -99,13 +99,6 @@ same-sym [] [] = refl
 same-sym [] (b ∷ y) = refl
 same-sym (a ∷ x) [] = refl
 same-sym (a ∷ x) (b ∷ y) = rw (eqb-sym a b, same-sym x y)
-
--- no name of the second list is one of the first
-pub no-clash-is : (xs ys : List (List ℕ)) → all (λ y. not (any (same y) xs)) ys ≡ noClash xs ys
-no-clash-is xs ys =
-    all-same (λ y. not (any (same y) xs)) (λ y. all (λ x. not (same x y)) xs) ys
-    (λ y. not-any (same y) xs ∙ all-same (λ x. not (same y x)) (λ x. not (same x y)) xs (λ x. ap not (same-sym y x)))
-    ∙ sym (all-swap (λ x y. not (same x y)) xs ys)
 
 -- that there is a value, and then a test that asks the same of it
 pub is-guard : {A : Type 0} (o : Option A) (f : A → Bool) (b : Bool) → ((a : A) → o ≡ some a → b ≡ f a) → is o (λ _. true) && b ≡ is o f

@@ -142,8 +142,8 @@ module _ (S : List ℕ) (room : ℕ) where
   applies-test UnknownName a = breaks-test (allRefer S) a
   applies-test BadChain a = breaks-test (λ ds. goodChains S (table S ds)) a
   applies-test BadUnion a = breaks-test (λ ds. goodUnions S (table S ds)) a
-  applies-test BadAlternate a = breaks-test (λ ds. goodAlternates (table S ds)) a
-  applies-test BadReturn a = breaks-test (λ ds. goodReturns (table S ds)) a
+  applies-test BadAlternate a = breaks-test (λ ds. goodAlternates S (table S ds)) a
+  applies-test BadReturn a = breaks-test (λ ds. goodReturns S (table S ds)) a
   applies-test TooManyRows a = passes-test (λ ds. rowCount (table S ds)) table-rows a
   applies-test NoRoom a = passes-test (λ ds. rowCount (table S ds)) (room / row-words) a
 
@@ -160,8 +160,8 @@ module _ (S : List ℕ) (room : ℕ) where
   test-applies UnknownName e = test-breaks (allRefer S) e
   test-applies BadChain e = test-breaks (λ ds. goodChains S (table S ds)) e
   test-applies BadUnion e = test-breaks (λ ds. goodUnions S (table S ds)) e
-  test-applies BadAlternate e = test-breaks (λ ds. goodAlternates (table S ds)) e
-  test-applies BadReturn e = test-breaks (λ ds. goodReturns (table S ds)) e
+  test-applies BadAlternate e = test-breaks (λ ds. goodAlternates S (table S ds)) e
+  test-applies BadReturn e = test-breaks (λ ds. goodReturns S (table S ds)) e
   test-applies TooManyRows e = test-passes (λ ds. rowCount (table S ds)) table-rows e
   test-applies NoRoom e = test-passes (λ ds. rowCount (table S ds)) (room / row-words) e
 

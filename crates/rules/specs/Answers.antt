@@ -24,7 +24,7 @@ use Rattle.rules.specs.declared.MessageAnswer.the-variants as MA
 use Rattle.rules.specs.Types.{takes, inRange, builtInTakes}
 use Rattle.rules.specs.Values.{_>>=_}
 use Rattle.rules.specs.Definitions.{Definition, definitions}
-use Rattle.rules.specs.Names.{sameName}
+use Rattle.rules.specs.Names.{sameName, clash}
 use Rattle.rules.specs.Rows.{rowCount, isCommand, arguments, nameOf, next, walk, past, unnamed, owns, firstChild, childCount, children, pastChildren, members, typeKind}
 use Rattle.rules.specs.Rules.{is, goodNames, distinctNames, goodChains, goodUnions, goodAlternates, goodReturns}
 use Rattle.rules.specs.SchemaTable.{table, allRefer}
@@ -79,8 +79,8 @@ module _ (S : List ℕ) (room : ℕ) where
   schemaTest js ds R.UnknownName = is ds (λ d. not (allRefer S d))
   schemaTest js ds R.BadChain = is ds (λ d. not (goodChains S (table S d)))
   schemaTest js ds R.BadUnion = is ds (λ d. not (goodUnions S (table S d)))
-  schemaTest js ds R.BadAlternate = is ds (λ d. not (goodAlternates (table S d)))
-  schemaTest js ds R.BadReturn = is ds (λ d. not (goodReturns (table S d)))
+  schemaTest js ds R.BadAlternate = is ds (λ d. not (goodAlternates S (table S d)))
+  schemaTest js ds R.BadReturn = is ds (λ d. not (goodReturns S (table S d)))
   schemaTest js ds R.TooManyRows = is ds (λ d. ltb table-rows (rowCount (table S d)))
   schemaTest js ds R.NoRoom = is ds (λ d. ltb (room / row-words) (rowCount (table S d)))
 
@@ -97,7 +97,7 @@ module _ (S : List ℕ) (room : ℕ) where
   ofDefinitions js ds = schemaAnswered (tableIn ds) (first (schemaTest js ds) schemaRefusals)
 
   unfoldable pub schemaResult : SchemaResult
-  unfolding readSchema definitions table allRefer goodNames distinctNames goodChains goodUnions goodAlternates goodReturns next walk past unnamed owns firstChild childCount children pastChildren members typeKind nameOf
+  unfolding readSchema definitions table allRefer clash goodNames distinctNames goodChains goodUnions goodAlternates goodReturns next walk past unnamed owns firstChild childCount children pastChildren members typeKind nameOf
   schemaResult = let js = objectsIn (readSchema S) in ofDefinitions js (js >>= definitions)
 
 module _ (S T : List ℕ) where
@@ -154,5 +154,5 @@ module _ (S T m : List ℕ) (room : ℕ) where
       messageAnswered c ts (first (messageTest o v c ts) messageRefusals)
 
   unfoldable pub messageResult : MessageResult
-  unfolding readMessage sound laidOut goodNames distinctNames goodChains goodUnions goodAlternates goodReturns next walk past unnamed owns firstChild childCount children pastChildren members typeKind nameOf envelope scalarFits membersAt via takes inRange builtInTakes
+  unfolding readMessage sound laidOut clash goodNames distinctNames goodChains goodUnions goodAlternates goodReturns next walk past unnamed owns firstChild childCount children pastChildren members typeKind nameOf envelope scalarFits membersAt via takes inRange builtInTakes
   messageResult = ofText (readMessage m)

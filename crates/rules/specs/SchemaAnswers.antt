@@ -64,8 +64,8 @@ SchemaApplies RepeatedName S room = Breaks distinctNames S
 SchemaApplies UnknownName S room = (ds : List Definition) × Says S ds × (allRefer S ds ≡ false)
 SchemaApplies BadChain S room = Breaks goodChains S
 SchemaApplies BadUnion S room = Breaks goodUnions S
-SchemaApplies BadAlternate S room = Breaks (λ S T. goodAlternates T) S
-SchemaApplies BadReturn S room = Breaks (λ S T. goodReturns T) S
+SchemaApplies BadAlternate S room = Breaks goodAlternates S
+SchemaApplies BadReturn S room = Breaks goodReturns S
 SchemaApplies TooManyRows S room = (ds : List Definition) × Says S ds × (table-rows < rowCount (table S ds))
 SchemaApplies NoRoom S room = (ds : List Definition) × Says S ds × (room / row-words < rowCount (table S ds))
 
