@@ -1,7 +1,7 @@
 -- Names looked up in an index of rows: a walk along a chain, a row that comes into the index, and a run of rows from its last to its first.
 -- The idea: the rows left of a chain decide what all of them do; names that clash have one mark, so a bucket tells of all rows in the index.
 use Prim.{tt}
-use Prim.Native.Nat.{ℕ, zero, suc, _+_, _-_, _≤_, _<_}
+use Prim.Native.Nat.{ℕ, _-_, _≤_, _<_}
 use mathlib.Core.Path.{_≡_, refl, sym, ap, _∙_, subst}
 use mathlib.Core.Bool.{Bool, true, false, not, _&&_, and-true, and-false}
 use mathlib.Core.List.{List, [], _∷_}

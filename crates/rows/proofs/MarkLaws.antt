@@ -1,6 +1,6 @@
 -- Laws of marks: names that clash have one mark, so names of different marks do not clash; marks of rows are written one after the other.
 -- Runs of rows are apart where the name of each row of one is fresh in the other.
-use Prim.Native.Nat.{ℕ, _+_, _-_, _*_, _≤_, _<_}
+use Prim.Native.Nat.{ℕ, _+_, _-_, _≤_, _<_}
 use mathlib.Core.Path.{_≡_, refl, sym, ap, _∙_, subst}
 use mathlib.Core.Bool.{Bool, true, false, not}
 use mathlib.Core.Logic.{⊎-elim}

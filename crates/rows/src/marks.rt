@@ -82,14 +82,7 @@ pub fn is_named(
 }
 
 // Whether a name whose mark is given clashes with that of row r.
-pub fn clashes(
-    schema: &[u8],
-    rows: &[u32],
-    marks: &[u32],
-    r: usize,
-    name: &[u8],
-    mark: u32,
-) -> bool
+pub fn clashes(schema: &[u8], rows: &[u32], marks: &[u32], r: usize, name: &[u8], mark: u32) -> bool
     requires { ⌜ Marks (now schema) (now rows) (now marks) × (mark ≡ markOf (now name)) ⌝ }
     ensures { λ b. ⌜ b ≡ clash (now (name .entry)) (nameOf (now (schema .entry)) (now (rows .entry)) r) ⌝ }
 {

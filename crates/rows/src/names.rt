@@ -6,7 +6,7 @@ use rules::row;
 use strings::classes::class_in;
 ghost use mathlib.Core.Path.{_≡_};
 ghost use lib.ListN.{take, drop};
-ghost use mathlib.Core.Bool.{not, _&&_, _||_};
+ghost use mathlib.Core.Bool.{_&&_, _||_};
 ghost use Rattle.grammar.specs.Notation.{text, same, all};
 ghost use Rattle.rules.specs.Names.{letter, digit, nameByte, goodName, clash};
 ghost use Rattle.rules.specs.Rows.{nameOf};

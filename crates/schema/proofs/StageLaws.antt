@@ -3,22 +3,19 @@ use Prim.Native.Nat.{ℕ, zero, suc, _-_, _/_, _≤_, _<_}
 use native.Mathlib.Omega.{arith}
 use mathlib.Core.Path.{_≡_, refl, sym, ap, _∙_, subst}
 use mathlib.Core.Bool.{Bool, true, false, not}
-use mathlib.Core.List.{List, [], _∷_, _++_}
-use mathlib.Core.Option.{Option, some}
+use mathlib.Core.List.{List, _∷_, _++_}
 use lib.Dec.{ltb}
 use lib.ListN.{length, drop, replicate}
 use borrow.Author.Tests.{lt-ltb, le-ltb}
 use Rattle.grammar.specs.Limits.{table-rows, row-words}
-use Rattle.grammar.specs.Tree.{Items}
 use Rattle.rules.specs.declared.SchemaRefusal.{SchemaRefusal}
 use Rattle.rules.specs.declared.SchemaRefusal.the-variants.{UnknownName, TooManyRows, NoRoom}
 use Rattle.rules.specs.declared.SchemaAnswer.{SchemaAnswer}
 use Rattle.rules.specs.declared.SchemaAnswer.the-variants.{Accepted, Refused}
-use Rattle.rules.specs.Definitions.{Definition}
 use Rattle.rules.specs.Rows.{rowCount}
 use Rattle.rules.specs.Rules.{is}
 use Rattle.rules.specs.SchemaTable.{table}
-use Rattle.rules.specs.Answers.{SchemaResult, schemaRefusals, first, schemaTest, tableIn, schemaAnswered}
+use Rattle.rules.specs.Answers.{schemaRefusals, schemaTest}
 use Rattle.schema.specs.Stages.{objects, written, resultBy, Answered, Zero, IsTable, Refers}
 
 abbrev pub test : List ℕ → ℕ → SchemaRefusal → Bool

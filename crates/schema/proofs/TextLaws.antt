@@ -11,10 +11,9 @@ use borrow.Author.Tests.{lt-ltb, le-ltb}
 use Rattle.grammar.specs.Limits.{schema-bytes, row-words}
 use Rattle.text.specs.Nodes.{node-words}
 use Rattle.grammar.specs.Tree.{Items}
-use Rattle.grammar.specs.Keys.{keysOnceI}
 use Rattle.grammar.specs.SchemaText.{SchemaText}
-use Rattle.grammar.specs.Machine.Out.{whole, fault, deep}
-use Rattle.grammar.specs.Machine.Schema.{schema, readSchema}
+use Rattle.grammar.specs.Machine.Out.{whole}
+use Rattle.grammar.specs.Machine.Schema.{schema}
 use Rattle.grammar.proofs.Texts.{schema-complete, schema-broken, schema-too-deep}
 use Rattle.rules.specs.declared.SchemaRefusal.the-variants.{TooLong, NotText, RepeatedKey, NotDefinitions}
 use Rattle.rules.specs.declared.SchemaAnswer.{SchemaAnswer}
@@ -22,7 +21,7 @@ use Rattle.rules.specs.declared.SchemaAnswer.the-variants.{Refused}
 use Rattle.rules.specs.Definitions.{Definition, definitions}
 use Rattle.rules.specs.SchemaTable.{table, allRefer}
 use Rattle.rules.specs.RawTable.{rawFrom}
-use Rattle.rules.specs.Answers.{schemaRefusals, schemaResult}
+use Rattle.rules.specs.Answers.{schemaResult}
 use Rattle.rules.proofs.NameSpans.{names-within}
 use Rattle.rules.proofs.CellBases.{named-bases}
 use Rattle.definitions.specs.declared.rows.Put.{Put}

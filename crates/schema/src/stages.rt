@@ -44,10 +44,10 @@ fn judge_definitions(schema: &[u8], table: &[u32], marks: &[u32], rows: &mut [u3
     if !good_unions(schema, table, marks) {
         return SchemaAnswer::Refused(SchemaRefusal::BadUnion);
     }
-    if !good_alternates(table) {
+    if !good_alternates(schema, table) {
         return SchemaAnswer::Refused(SchemaRefusal::BadAlternate);
     }
-    if !good_returns(table) {
+    if !good_returns(schema, table) {
         return SchemaAnswer::Refused(SchemaRefusal::BadReturn);
     }
     hand_over(table, rows, schema)

@@ -1,6 +1,4 @@
 -- `compile::with_nodes` meets its contract: numbers 3 and 4, then the raw rows.
-use native.Mathlib.Omega.{arith}
-use mathlib.Core.Path.{refl}
 use borrow.Author.Tests.{not-true, not-false}
 use Rattle.schema.proofs.TextLaws.{repeated, keys-on, no-definitions, definitions-on, put-refused, put-rows, put-few, raw-length, raw-rows}
 use borrow.Author.Needs.{needs}

@@ -24,13 +24,13 @@ good-alternates-requires : tie.Need-good-alternates-requires
 good-alternates-requires c κs = search needs
 
 returns-3 : tie.Need-returns-3
-returns-3 c = let S = c .before .before .before .before .before .before .before .before .before .before .args .schema .now in kept (c .before .before .before .before .before .before .before .before .before .before .pre .2) 7 8 BadChain (goodChains S) refl refl (granted (c .before .before .before .before .before .good-chains .ensures) (c .before .before .before .before .if1 .left)) (kept (c .before .before .before .before .before .before .before .before .before .before .pre .2) 8 9 BadUnion (goodUnions S) refl refl (granted (c .before .before .before .good-unions .ensures) (c .before .before .if2 .left)) (broken (c .before .before .before .before .before .before .before .before .before .before .pre .2) 9 BadAlternate _ (goodAlternates) refl refl (c .before .before .before .before .before .before .before .before .before .before .pre .1) (denied (c .before .good-alternates .ensures) (c .if3 .taken))))
+returns-3 c = let S = c .before .before .before .before .before .before .before .before .before .before .args .schema .now in kept (c .before .before .before .before .before .before .before .before .before .before .pre .2) 7 8 BadChain (goodChains S) refl refl (granted (c .before .before .before .before .before .good-chains .ensures) (c .before .before .before .before .if1 .left)) (kept (c .before .before .before .before .before .before .before .before .before .before .pre .2) 8 9 BadUnion (goodUnions S) refl refl (granted (c .before .before .before .good-unions .ensures) (c .before .before .if2 .left)) (broken (c .before .before .before .before .before .before .before .before .before .before .pre .2) 9 BadAlternate _ (goodAlternates S) refl refl (c .before .before .before .before .before .before .before .before .before .before .pre .1) (denied (c .before .good-alternates .ensures) (c .if3 .taken))))
 
 good-returns-requires : tie.Need-good-returns-requires
 good-returns-requires c κs = search needs
 
 returns-4 : tie.Need-returns-4
-returns-4 c = let S = c .before .before .before .before .before .before .before .before .before .before .before .before .args .schema .now in kept (c .before .before .before .before .before .before .before .before .before .before .before .before .pre .2) 7 8 BadChain (goodChains S) refl refl (granted (c .before .before .before .before .before .before .before .good-chains .ensures) (c .before .before .before .before .before .before .if1 .left)) (kept (c .before .before .before .before .before .before .before .before .before .before .before .before .pre .2) 8 9 BadUnion (goodUnions S) refl refl (granted (c .before .before .before .before .before .good-unions .ensures) (c .before .before .before .before .if2 .left)) (kept (c .before .before .before .before .before .before .before .before .before .before .before .before .pre .2) 9 10 BadAlternate (goodAlternates) refl refl (granted (c .before .before .before .good-alternates .ensures) (c .before .before .if3 .left)) (broken (c .before .before .before .before .before .before .before .before .before .before .before .before .pre .2) 10 BadReturn _ (goodReturns) refl refl (c .before .before .before .before .before .before .before .before .before .before .before .before .pre .1) (denied (c .before .good-returns .ensures) (c .if4 .taken)))))
+returns-4 c = let S = c .before .before .before .before .before .before .before .before .before .before .before .before .args .schema .now in kept (c .before .before .before .before .before .before .before .before .before .before .before .before .pre .2) 7 8 BadChain (goodChains S) refl refl (granted (c .before .before .before .before .before .before .before .good-chains .ensures) (c .before .before .before .before .before .before .if1 .left)) (kept (c .before .before .before .before .before .before .before .before .before .before .before .before .pre .2) 8 9 BadUnion (goodUnions S) refl refl (granted (c .before .before .before .before .before .good-unions .ensures) (c .before .before .before .before .if2 .left)) (kept (c .before .before .before .before .before .before .before .before .before .before .before .before .pre .2) 9 10 BadAlternate (goodAlternates S) refl refl (granted (c .before .before .before .good-alternates .ensures) (c .before .before .if3 .left)) (broken (c .before .before .before .before .before .before .before .before .before .before .before .before .pre .2) 10 BadReturn _ (goodReturns S) refl refl (c .before .before .before .before .before .before .before .before .before .before .before .before .pre .1) (denied (c .before .good-returns .ensures) (c .if4 .taken)))))
 
 hand-over-requires : tie.Need-hand-over-requires
 hand-over-requires c κs = search needs
@@ -39,7 +39,7 @@ same-length : tie.Need-same-length
 same-length c = search needs
 
 returns-5 : tie.Need-returns-5
-returns-5 c = let S = c .before .before .before .before .before .before .before .before .before .before .before .before .before .before .before .before .args .schema .now in kept (c .before .before .before .before .before .before .before .before .before .before .before .before .before .before .before .before .pre .2) 7 8 BadChain (goodChains S) refl refl (granted (c .before .before .before .before .before .before .before .before .before .before .before .good-chains .ensures) (c .before .before .before .before .before .before .before .before .before .before .if1 .left)) (kept (c .before .before .before .before .before .before .before .before .before .before .before .before .before .before .before .before .pre .2) 8 9 BadUnion (goodUnions S) refl refl (granted (c .before .before .before .before .before .before .before .before .before .good-unions .ensures) (c .before .before .before .before .before .before .before .before .if2 .left)) (kept (c .before .before .before .before .before .before .before .before .before .before .before .before .before .before .before .before .pre .2) 9 10 BadAlternate (goodAlternates) refl refl (granted (c .before .before .before .before .before .before .before .good-alternates .ensures) (c .before .before .before .before .before .before .if3 .left)) (kept (c .before .before .before .before .before .before .before .before .before .before .before .before .before .before .before .before .pre .2) 10 11 BadReturn (goodReturns) refl refl (granted (c .before .before .before .before .before .good-returns .ensures) (c .before .before .before .before .if4 .left)) (c .before .before .hand-over .ensures))))
+returns-5 c = let S = c .before .before .before .before .before .before .before .before .before .before .before .before .before .before .before .before .args .schema .now in kept (c .before .before .before .before .before .before .before .before .before .before .before .before .before .before .before .before .pre .2) 7 8 BadChain (goodChains S) refl refl (granted (c .before .before .before .before .before .before .before .before .before .before .before .good-chains .ensures) (c .before .before .before .before .before .before .before .before .before .before .if1 .left)) (kept (c .before .before .before .before .before .before .before .before .before .before .before .before .before .before .before .before .pre .2) 8 9 BadUnion (goodUnions S) refl refl (granted (c .before .before .before .before .before .before .before .before .before .good-unions .ensures) (c .before .before .before .before .before .before .before .before .if2 .left)) (kept (c .before .before .before .before .before .before .before .before .before .before .before .before .before .before .before .before .pre .2) 9 10 BadAlternate (goodAlternates S) refl refl (granted (c .before .before .before .before .before .before .before .good-alternates .ensures) (c .before .before .before .before .before .before .if3 .left)) (kept (c .before .before .before .before .before .before .before .before .before .before .before .before .before .before .before .before .pre .2) 10 11 BadReturn (goodReturns S) refl refl (granted (c .before .before .before .before .before .good-returns .ensures) (c .before .before .before .before .if4 .left)) (c .before .before .hand-over .ensures))))
 
 pub judge-definitions-spec : {M : Type 1} → statement M
 judge-definitions-spec =
