@@ -28,6 +28,7 @@ use Rattle.rules.specs.Names.{sameName, clash}
 use Rattle.rules.specs.Rows.{rowCount, isCommand, arguments, nameOf, next, walk, past, unnamed, owns, firstChild, childCount, children, pastChildren, members, typeKind}
 use Rattle.rules.specs.Rules.{is, goodNames, distinctNames, goodChains, goodUnions, goodAlternates, goodReturns}
 use Rattle.rules.specs.SchemaTable.{table, allRefer}
+use Rattle.rules.specs.SchemaAnswers.{schemaRefusals}
 use Rattle.rules.specs.Sound.{laidOut, sound}
 use Rattle.rules.specs.Envelope.{Envelope, envelope, mayUse}
 use Rattle.rules.specs.Readings.{Typed, recordsOf}
@@ -42,12 +43,7 @@ abbrev pub isNone : {A : Type 0} → Option A → Bool
 isNone none = true
 isNone (some a) = false
 
--- the refusals in the order of their numbers
-abbrev pub schemaRefusals : List SchemaRefusal
-schemaRefusals =
-    R.TooLong ∷ R.NotText ∷ R.RepeatedKey ∷ R.NotDefinitions ∷ R.BadName ∷ R.RepeatedName ∷ R.UnknownName ∷ R.BadChain ∷ R.BadUnion
-    ∷ R.BadAlternate ∷ R.BadReturn ∷ R.TooManyRows ∷ R.NoRoom ∷ []
-
+-- the refusals of messages in the order of their numbers
 abbrev pub messageRefusals : List MessageRefusal
 messageRefusals =
     M.UnsoundTable ∷ M.TooLong ∷ M.NotText ∷ M.TooDeep ∷ M.RepeatedKey ∷ M.NotEnvelope ∷ M.UnknownCommand ∷ M.NotOutOfBand ∷ M.NoReading
