@@ -5,7 +5,7 @@ use mathlib.Core.Bool.{Bool, true, false, not}
 use mathlib.Core.List.{List}
 use native.Mathlib.Omega.{arith}
 use Rattle.grammar.specs.Notation.{all}
-use Rattle.rules.specs.Rows.{count, next, walk, past, owns, firstChild, childCount, children, pastChildren}
+use Rattle.rules.specs.Rows.{count, next, walk, past, owns, firstChild, children, pastChildren}
 use Rattle.rules.specs.Rules.{any}
 use Rattle.rules.proofs.TableRows.{first-plain, first-owner}
 use Rattle.rows.specs.Rows.{Follows, Room, First, Counted}

@@ -1,7 +1,7 @@
 -- Names looked up in an index of rows: a walk along a chain, a row that comes into the index, and a run of rows from its last to its first.
--- The idea: the rows left of a chain decide what all of them do; rows of equal names have equal marks, so a bucket tells of all rows in the index.
+-- The idea: the rows left of a chain decide what all of them do; names that clash have one mark, so a bucket tells of all rows in the index.
 use Prim.{tt}
-use Prim.Native.Nat.{ℕ, zero, suc, _+_, _-_, _≤_, _<_}
+use Prim.Native.Nat.{ℕ, _-_, _≤_, _<_}
 use mathlib.Core.Path.{_≡_, refl, sym, ap, _∙_, subst}
 use mathlib.Core.Bool.{Bool, true, false, not, _&&_, and-true, and-false}
 use mathlib.Core.List.{List, [], _∷_}
@@ -10,17 +10,18 @@ use lib.ListN.{length, getD, replicate, length-set}
 use borrow.Author.Tests.{not-false}
 use Rattle.grammar.specs.Notation.{all, apart}
 use Rattle.grammar.proofs.Booleans.{clash as contradiction}
-use Rattle.grammar.proofs.Lists.{same-true}
 use Rattle.buckets.specs.Buckets.{buckets, bucketOf, Added, All, Free, Chain, inBucket}
 use Rattle.buckets.proofs.BucketLaws.{chain-end, chain-step, bucket-short, bucket-all, index-empty, index-walk, index-added}
 use Rattle.rules.specs.Names.{clash}
 use Rattle.rules.specs.Rows.{next, walk, past, nameOf}
 use Rattle.rules.specs.Rules.{namesOf}
-use Rattle.rows.specs.Marks.{markOf}
-use Rattle.rows.specs.Index.{itself, rowMark, RowIndex, freshIn, Unlisted, Entered}
+use Rattle.rows.specs.Marks.{markOf, freshIn}
+use Rattle.rows.specs.Index.{itself, rowMark, RowIndex, Unlisted, Entered}
+use Rattle.rules.proofs.Clashes.{clash-sym}
 use Rattle.rules.proofs.TableRows.{next-above, past-above}
+use Rattle.rows.proofs.MarkLaws.{clash-mark}
 use Rattle.rows.specs.Rows.{Follows}
-use Rattle.rows.proofs.ListLaws.{all-map, all-same, all-both, all-true, same-sym}
+use Rattle.rows.proofs.ListLaws.{all-map, all-same, all-both, all-true}
 use Rattle.rows.proofs.LoopLaws.{walk-at, walk-over}
 
 -- a walk along a chain, for what f says of its rows
@@ -121,7 +122,7 @@ module _ {S T heads links : List ℕ} (r : ℕ) {m head : ℕ} {x : List ℕ} {b
       u .told (inBucket (rowMark S T) (bucketOf m) rs) (index-walk itself (rowMark S T) (k .chains) m q) few
       ∙ all-map (nameOf S T) (λ y. not (clash x y)) (inBucket (rowMark S T) (bucketOf m) rs)
       ∙ bucket-all (rowMark S T) (λ i. not (clash x (nameOf S T i))) m
-      (λ i e. ap markOf (sym (same-true x (nameOf S T i) (not-false (clash x (nameOf S T i)) e))) ∙ sym p) rs
+      (λ i e. sym (clash-mark x (nameOf S T i) (not-false (clash x (nameOf S T i)) e)) ∙ sym p) rs
       ∙ sym (all-map (nameOf S T) (λ y. not (clash x y)) rs)
       ∙ ap (λ z. freshIn S T z rs) n
 
@@ -149,7 +150,7 @@ module _ (S T : List ℕ) where
     where
       turned : all (λ d. not (clash (nameOf S T d) (nameOf S T c))) l ≡ freshIn S T (nameOf S T c) l
       turned =
-          all-same (λ d. not (clash (nameOf S T d) (nameOf S T c))) (λ d. not (clash (nameOf S T c) (nameOf S T d))) l (λ d. ap not (same-sym (nameOf S T d) (nameOf S T c)))
+          all-same (λ d. not (clash (nameOf S T d) (nameOf S T c))) (λ d. not (clash (nameOf S T c) (nameOf S T d))) l (λ d. ap not (clash-sym (nameOf S T d) (nameOf S T c)))
           ∙ sym (all-map (nameOf S T) (λ y. not (clash (nameOf S T c) y)) l)
 
       shuffle : (f p q r : Bool) → f && (p && (q && r)) ≡ (q && p) && (f && r)

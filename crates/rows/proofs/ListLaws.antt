@@ -1,14 +1,14 @@
--- Laws of tests and of `all`, `any` and `noClash` of lists: images, appended lists, tests that agree, and that `noClash` may go through either list first.
+-- Laws of tests and of `all` and `any` of lists: images, appended lists, tests that agree.
 -- By induction on the list; a test that decides is taken by its two values.
 use Prim.Native.Nat.{ℕ}
 use mathlib.Core.Path.{_≡_, refl, sym, ap, _∙_}
-use mathlib.Core.Bool.{Bool, true, false, not, _&&_, _||_, and-false, and-assoc, or-assoc}
+use mathlib.Core.Bool.{Bool, true, false, _&&_, _||_, and-false, and-assoc, or-assoc}
 use mathlib.Core.List.{List, [], _∷_, _++_, map, map-append}
 use mathlib.Core.Option.{Option, none, some}
 use lib.Dec.{eqb}
 use borrow.Author.Tests.{eqb-true, eqb-false, eq-eqb, ne-eqb}
 use Rattle.grammar.specs.Notation.{all, same}
-use Rattle.rules.specs.Rules.{any, is, noClash}
+use Rattle.rules.specs.Rules.{any, is}
 
 module _ {A : Type 0} (f : A → Bool) where
   pub all-append : (l k : List A) → all f (l ++ k) ≡ all f l && all f k
@@ -18,23 +18,6 @@ module _ {A : Type 0} (f : A → Bool) where
   pub any-append : (l k : List A) → any f (l ++ k) ≡ any f l || any f k
   any-append [] k = refl
   any-append (x ∷ l) k = ap (λ (t : Bool). f x || t) (any-append l k) ∙ sym (or-assoc (f x) (any f l) (any f k))
-
-  pub not-any : (l : List A) → not (any f l) ≡ all (λ x. not (f x)) l
-  not-any [] = refl
-  not-any (x ∷ l) = go (f x) (not-any l)
-    where
-      go : (t : Bool) → not (any f l) ≡ all (λ x. not (f x)) l → not (t || any f l) ≡ not t && all (λ x. not (f x)) l
-      go true h = refl
-      go false h = h
-
--- what is not so is so
-pub not-not : (b : Bool) → not (not b) ≡ b
-not-not true = refl
-not-not false = refl
-
-pub not-or : (a b : Bool) → not (a || b) ≡ not a && not b
-not-or true b = refl
-not-or false b = refl
 
 -- images
 module _ {A B : Type 0} (f : A → B) (g : B → Bool) where
@@ -48,9 +31,6 @@ module _ {A B : Type 0} (f : A → B) (g : B → Bool) where
 
   pub all-map-append : (l k : List A) → all g (map f (l ++ k)) ≡ all g (map f l) && all g (map f k)
   all-map-append l k = ap (all g) (map-append f l k) ∙ all-append g (map f l) (map f k)
-
-  pub any-map-append : (l k : List A) → any g (map f (l ++ k)) ≡ any g (map f l) || any g (map f k)
-  any-map-append l k = ap (any g) (map-append f l k) ∙ any-append g (map f l) (map f k)
 
 -- tests that agree
 pub all-same : {A : Type 0} (f g : A → Bool) (l : List A) → ((x : A) → f x ≡ g x) → all f l ≡ all g l
@@ -69,7 +49,7 @@ pub any-none : {A : Type 0} (f : A → Bool) (l : List A) → ((x : A) → f x �
 any-none f [] h = refl
 any-none f (x ∷ l) h = rw (h x) (any-none f l h)
 
--- two tests of each element, and the tests of each pair, either way round
+-- two tests of each element
 pub all-both : {A : Type 0} (f g : A → Bool) (l : List A) → all (λ x. f x && g x) l ≡ all f l && all g l
 all-both f g [] = refl
 all-both f g (x ∷ l) = go (f x) (g x) (all-both f g l)
@@ -78,14 +58,6 @@ all-both f g (x ∷ l) = go (f x) (g x) (all-both f g l)
     go true true h = h
     go true false h = sym (and-false (all f l))
     go false t h = refl
-
-all-pass : {A : Type 0} (l : List A) → true ≡ all (λ x. true) l
-all-pass [] = refl
-all-pass (x ∷ l) = all-pass l
-
-pub all-swap : {A B : Type 0} (h : A → B → Bool) (xs : List A) (ys : List B) → all (λ x. all (h x) ys) xs ≡ all (λ y. all (λ x. h x y) xs) ys
-all-swap h [] ys = all-pass ys
-all-swap h (x ∷ xs) ys = ap (λ (t : Bool). all (h x) ys && t) (all-swap h xs ys) ∙ sym (all-both (h x) (λ y. all (λ z. h z y) xs) ys)
 
 pub eqb-sym : (a b : ℕ) → eqb a b ≡ eqb b a
 eqb-sym a b = go (eqb a b) refl
@@ -99,13 +71,6 @@ same-sym [] [] = refl
 same-sym [] (b ∷ y) = refl
 same-sym (a ∷ x) [] = refl
 same-sym (a ∷ x) (b ∷ y) = rw (eqb-sym a b, same-sym x y)
-
--- no name of the second list is one of the first
-pub no-clash-is : (xs ys : List (List ℕ)) → all (λ y. not (any (same y) xs)) ys ≡ noClash xs ys
-no-clash-is xs ys =
-    all-same (λ y. not (any (same y) xs)) (λ y. all (λ x. not (same x y)) xs) ys
-    (λ y. not-any (same y) xs ∙ all-same (λ x. not (same y x)) (λ x. not (same x y)) xs (λ x. ap not (same-sym y x)))
-    ∙ sym (all-swap (λ x y. not (same x y)) xs ys)
 
 -- that there is a value, and then a test that asks the same of it
 pub is-guard : {A : Type 0} (o : Option A) (f : A → Bool) (b : Bool) → ((a : A) → o ≡ some a → b ≡ f a) → is o (λ _. true) && b ≡ is o f

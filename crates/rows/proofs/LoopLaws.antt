@@ -1,24 +1,18 @@
--- Loops over rows: `all f` or `any f` of the rows from b up to e, by what is left of it at each turn.
+-- Loops over rows: `all f` of the rows from b up to e, and what is asked of a walk, by what is left of it at each turn.
 -- What is left stands in a record, so that a need names neither the test nor the rows; each law unfolds one row.
-use Prim.Native.Nat.{ℕ, suc, _+_, _-_, _≤_, _<_, _^_}
+use Prim.Native.Nat.{ℕ, suc, _+_, _-_, _≤_, _<_}
 use mathlib.Core.Path.{_≡_, refl, sym, ap, _∙_}
 use mathlib.Core.Bool.{Bool, true, false, not, _||_}
 use mathlib.Core.List.{List, [], _∷_}
 use native.Mathlib.Omega.{arith}
 use lib.Dec.{eqb}
 use borrow.Author.Tests.{eq-eqb, ne-eqb}
-use mir.Syntax.{w64}
-use mir.Val.{Fits}
 use Rattle.grammar.specs.Notation.{all}
 use Rattle.rules.specs.Rows.{upFrom, rowCount, kind, next, walk, past}
 use Rattle.rules.specs.Rules.{any, everyRow}
 use Rattle.rules.proofs.TableRows.{next-above, walk-none, walk-more, past-none, past-more, past-above}
 use Rattle.rows.specs.Rows.{Follows, Room}
 use Rattle.rows.proofs.Walks.{upFrom-end, upFrom-on}
-
--- the next row's number fits where the end does
-pub next-fits : {b e : ℕ} → b < e → Fits w64 e → Fits w64 (b + 1)
-next-fits h k = omega arith
 
 -- whatever a list is asked, the rows from b up to e are asked it
 pub rows-start : {A : Type 0} (g : List ℕ → A) (b n e : ℕ) → e ≡ b + n → g (upFrom b n) ≡ g (upFrom b (e - b))
@@ -64,20 +58,6 @@ module _ {whole : Bool} {T : List ℕ} {k : ℕ} {fits : ℕ → Bool} {b e : �
 
     pub kind-other : (w ≡ k → ⊥) → KindLeft whole T k fits (b + 1) e
     kind-other n = record { rows = all-on (l .rows) h (rw (← p, ne-eqb w k n)) }
-
--- `whole` is true where f holds of some row from b up to e
-pub record AnyLeft (whole : Bool) (f : ℕ → Bool) (b e : ℕ) : Type 0 where
-  pub left : whole ≡ any f (upFrom b (e - b))
-
-module _ {whole : Bool} {f : ℕ → Bool} {b e : ℕ} (l : AnyLeft whole f b e) where
-  pub any-hit : b < e → f b ≡ true → true ≡ whole
-  any-hit h q = sym (l .left ∙ rw (upFrom-on b e h, q))
-
-  pub any-on : b < e → f b ≡ false → AnyLeft whole f (b + 1) e
-  any-on h q = record { left = l .left ∙ rw (upFrom-on b e h, q) }
-
-  pub any-ends : e ≤ b → false ≡ whole
-  any-ends h = sym (l .left ∙ rw (upFrom-end b e h))
 
 -- A walk from row to row: `whole` is what g says of the n rows from c on.
 pub record WalkLeft {A : Type 0} (g : List ℕ → A) (T : List ℕ) (whole : A) (c n : ℕ) : Type 0 where

@@ -1,6 +1,6 @@
--- Laws of marks: a mark is a function of the name, so names of different marks differ; marks of rows are written one after the other.
+-- Laws of marks: names that clash have one mark, so names of different marks do not clash; marks of rows are written one after the other.
 -- Runs of rows are apart where the name of each row of one is fresh in the other.
-use Prim.Native.Nat.{ℕ, _+_, _-_, _*_, _≤_, _<_}
+use Prim.Native.Nat.{ℕ, _+_, _-_, _≤_, _<_}
 use mathlib.Core.Path.{_≡_, refl, sym, ap, _∙_, subst}
 use mathlib.Core.Bool.{Bool, true, false, not}
 use mathlib.Core.Logic.{⊎-elim}
@@ -9,27 +9,47 @@ use native.Mathlib.Nat.{eq-or-lt-of-le}
 use native.Mathlib.Omega.{arith}
 use lib.ListN.{length, getD, set, length-set}
 use lib.Seq.{getD-set-same, getD-set-other}
-use Rattle.grammar.proofs.Lists.{different}
-use Rattle.grammar.specs.Notation.{same, all, apart}
-use Rattle.rules.specs.Names.{clash}
+use lib.Dec.{eqb}
+use borrow.Author.Tests.{eqb-false, not-true}
+use Rattle.grammar.proofs.Booleans.{clash as contradiction}
+use Rattle.grammar.proofs.Lists.{same-true, different}
+use Rattle.grammar.specs.Notation.{apart}
+use Rattle.rules.specs.Names.{sameName, clash}
 use Rattle.rules.specs.Rows.{walk, nameOf}
-use Rattle.rules.specs.Rules.{namesOf}
+use Rattle.rules.specs.Rules.{namesOf, noClash}
 use Rattle.rows.specs.Rows.{Follows}
-use Rattle.rows.specs.Marks.{markOf, Marks, freshOf, runsApart}
+use Rattle.rows.specs.Marks.{markOf, Marks, Other, freshIn}
 use Rattle.rows.proofs.ListLaws.{all-map}
-use Rattle.rows.proofs.NameFacts.{fresh}
+use Rattle.rules.proofs.First.{decided}
+use Rattle.rules.proofs.Clashes.{fresh}
 use Rattle.rows.proofs.LoopLaws.{WalkLeft, AllWalk, left-at}
 
--- names of different marks
-pub other-mark : (x y : List ℕ) → (markOf y ≡ markOf x → ⊥) → same x y ≡ false
-other-mark x y n = different x y (λ e. n (ap markOf (sym e)))
+-- names that clash have one mark
+pub clash-mark : (x y : List ℕ) → clash x y ≡ true → markOf x ≡ markOf y
+unfolding clash
+clash-mark x y e = ap markOf (same-true x y e)
 
-pub other-row : {S T M : List ℕ} {r m : ℕ} (x : List ℕ) → Marks S T M → r < length M → m ≡ markOf x → (getD M r 0 ≡ m → ⊥) → false ≡ same x (nameOf S T r)
-other-row {S} {T} {M} {r} x k h e n = sym (other-mark x (nameOf S T r) (λ q. n (k .told r h ∙ q ∙ sym e)))
+-- a mark that is not there tells nothing
+pub mark-missing : {M : List ℕ} {r m : ℕ} → Other M r m false
+mark-missing = record { told = λ e. contradiction e refl }
 
--- a row that has the name of row a
-pub named-row : (S T : List ℕ) (a r : ℕ) {x : List ℕ} {b : Bool} → b ≡ same x (nameOf S T r) → x ≡ nameOf S T a → b ≡ clash (nameOf S T a) (nameOf S T r)
-named-row S T a r e q = e ∙ ap (λ y. clash y (nameOf S T r)) q
+pub mark-told : {M : List ℕ} {r m : ℕ} → r < length M → Other M r m (not (eqb (getD M r 0) m))
+mark-told {M} {r} {m} h = record { told = λ e. (h, eqb-false (getD M r 0) m (not-true (eqb (getD M r 0) m) e)) }
+
+-- a row of another mark has another name, and one that does not clash
+module _ {S T M : List ℕ} {r m : ℕ} {b : Bool} (x : List ℕ) (k : Marks S T M) (o : Other M r m b) (t : b ≡ true) (e : m ≡ markOf x) where
+  other-mark : markOf x ≡ markOf (nameOf S T r) → ⊥
+  other-mark q = o .told t .1 (k .told r (o .told t .0) ∙ sym q ∙ sym e)
+
+  pub other-name : false ≡ sameName x (nameOf S T r)
+  other-name = sym (different x (nameOf S T r) (λ q. other-mark (ap markOf q)))
+
+  pub no-clash : false ≡ clash x (nameOf S T r)
+  no-clash = sym (decided (clash x (nameOf S T r)) (λ q. other-mark (clash-mark x (nameOf S T r) q)))
+
+-- a row whose name is compared with that of row a
+pub with-row : (S T : List ℕ) (a r : ℕ) {x : List ℕ} {b : Bool} → b ≡ clash x (nameOf S T r) → x ≡ nameOf S T a → b ≡ clash (nameOf S T a) (nameOf S T r)
+with-row S T a r e q = e ∙ ap (λ y. clash y (nameOf S T r)) q
 
 -- the marks of the rows below r are written
 pub record MarksTo (S T M : List ℕ) (n r : ℕ) : Type 0 where
@@ -54,12 +74,11 @@ module _ {S T M : List ℕ} {n r : ℕ} where
 
 -- runs of rows, each from its first on
 module _ (S T : List ℕ) where
-  pub fresh-walk : (x : List ℕ) (b n : ℕ) → AllWalk (fresh x (namesOf S T (walk T b n))) T (λ r. not (clash x (nameOf S T r))) b n
+  pub fresh-walk : (x : List ℕ) (b n : ℕ) → AllWalk (freshIn S T x (walk T b n)) T (λ r. not (clash x (nameOf S T r))) b n
   fresh-walk x b n = record { left = all-map (nameOf S T) (λ y. not (clash x y)) (walk T b n) }
 
-  pub runs-walk : (a m b n : ℕ) → AllWalk (runsApart S T a m b n) T (λ r. freshOf S T (nameOf S T r) b n) a m
-  unfolding runsApart
-  runs-walk a m b n = record { left = refl }
+  pub runs-walk : (rs : List ℕ) (a m : ℕ) → AllWalk (noClash (namesOf S T (walk T a m)) (namesOf S T rs)) T (λ r. freshIn S T (nameOf S T r) rs) a m
+  runs-walk rs a m = record { left = all-map (nameOf S T) (λ x. fresh x (namesOf S T rs)) (walk T a m) }
 
   -- the names of n rows from c on are apart
   abbrev pub namesApart : List ℕ → Bool
@@ -68,7 +87,7 @@ module _ (S T : List ℕ) where
   pub pairs-walk : (a n : ℕ) → WalkLeft namesApart T (namesApart (walk T a n)) a n
   pairs-walk a n = record { left = refl }
 
-  module _ {whole : Bool} {c n c′ : ℕ} (l : WalkLeft namesApart T whole c n) (h : 0 < n) (p : Follows T c c′) {b : Bool} (q : b ≡ freshOf S T (nameOf S T c) c′ (n - 1)) where
+  module _ {whole : Bool} {c n c′ : ℕ} (l : WalkLeft namesApart T whole c n) (h : 0 < n) (p : Follows T c c′) {b : Bool} (q : b ≡ freshIn S T (nameOf S T c) (walk T c′ (n - 1))) where
     pub pairs-miss : b ≡ false → false ≡ whole
     pairs-miss t = sym (left-at l h (p .is) ∙ rw (sym q ∙ t))
 

@@ -1,5 +1,5 @@
--- Laws of names: parts of the schema's bytes, equal bytes, good names, and names of rows that do not clash.
--- Equal bytes, fresh names and names apart are tests of every place or row from the first on.
+-- Laws of names: parts of the schema's bytes, equal bytes, good names.
+-- Equal bytes are a test of every place from the first on.
 use Prim.Native.Nat.{ℕ, _+_, _-_, _≤_, _<_}
 use mathlib.Core.Path.{_≡_, refl, sym, ap, _∙_}
 use mathlib.Core.Bool.{Bool, true, false, not, _&&_, _||_, and-true, and-false, or-true, or-false}
@@ -15,8 +15,7 @@ use Rattle.grammar.proofs.Booleans.{within-is, within-below, within-above, Outs
 use Rattle.grammar.proofs.Booleans.Outside.{below, above}
 use Rattle.grammar.specs.Lexis.{blank}
 use Rattle.grammar.specs.Notation.{text, within, same, all}
-use Rattle.rules.specs.Names.{letter, digit, nameByte, goodName, clash}
-use Rattle.rules.specs.Rows.{nameOf}
+use Rattle.rules.specs.Names.{letter, digit, nameByte, goodName}
 use Rattle.strings.proofs.Tables.{entry}
 use Rattle.strings.specs.Classes.{classOf, tabulate}
 use Rattle.rows.proofs.Walks.{upTo, upTo-of}
@@ -129,7 +128,3 @@ module _ (digits : Bool) where
 
     pub name-rest : length x ≤ 63 → starts ≡ true → reserved x ≡ false → all nameByte (drop 1 x) ≡ goodName digits x
     name-rest h p q = rw (good-at, le-leb (length x) 63 h, p, q) (simp and-true)
-
--- a name clashes with none of a list
-abbrev pub fresh : List ℕ → List (List ℕ) → Bool
-fresh x l = all (λ y. not (clash x y)) l

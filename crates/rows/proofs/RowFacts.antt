@@ -1,8 +1,8 @@
 -- Laws of rows in any words: unnamed and inline structs, children as numbers up to an end, and how large the counts are that 32-bit words hold.
 -- Each goes by the tests in the definition.
-use Prim.Native.Nat.{ℕ, zero, suc, _+_, _-_, _*_, _≤_, _<_, _^_}
-use mathlib.Core.Path.{_≡_, refl, _∙_}
-use mathlib.Core.Bool.{Bool, true, false, cond, _&&_, _||_, and-assoc, and-false}
+use Prim.Native.Nat.{ℕ, _+_, _-_, _*_, _<_, _^_}
+use mathlib.Core.Path.{_≡_, _∙_}
+use mathlib.Core.Bool.{Bool, true, false, cond, _||_, and-false}
 use mathlib.Core.Logic.{_⊎_, ⊎-elim}
 use mathlib.Core.List.{List}
 use native.Mathlib.Numerals.{add-one}
@@ -14,7 +14,7 @@ use mir.Val.{Fits}
 use borrow.Author.Tests.{eq-eqb, ne-eqb}
 use Rattle.grammar.specs.Limits.{row-words}
 use Rattle.rules.specs.Kinds.{struct-kind, union-kind, command-kind}
-use Rattle.rules.specs.Rows.{kind, start, size, base, isEnum, isStruct, isUnion, isAlternate, isCommand, count, branchCount, next, unnamed, owns, childCount, ownerLink}
+use Rattle.rules.specs.Rows.{kind, start, size, base, isEnum, isStruct, isUnion, isAlternate, count, branchCount, next, unnamed, owns, childCount, ownerLink}
 use Rattle.rows.specs.Rows.{Follows}
 use Rattle.rows.proofs.Walks.{so}
 

@@ -1,15 +1,12 @@
 -- Serves contracts: an index of rows by the marks of their names, and a name looked up in it.
 use Prim.Native.Nat.{ℕ, _≤_}
 use mathlib.Core.Path.{_≡_}
-use mathlib.Core.Bool.{Bool, true, not}
+use mathlib.Core.Bool.{Bool, true}
 use mathlib.Core.List.{List, _∷_}
 use lib.ListN.{length}
-use Rattle.grammar.specs.Notation.{all}
 use Rattle.buckets.specs.Buckets.{buckets, Free, Chain, Indexed}
-use Rattle.rules.specs.Names.{clash}
 use Rattle.rules.specs.Rows.{nameOf}
-use Rattle.rules.specs.Rules.{namesOf}
-use Rattle.rows.specs.Marks.{markOf}
+use Rattle.rows.specs.Marks.{markOf, freshIn}
 
 -- an item is a row, and its number is its place
 abbrev pub itself : ℕ → ℕ
@@ -22,10 +19,6 @@ rowMark S T r = markOf (nameOf S T r)
 pub record RowIndex (S T heads links rs : List ℕ) : Type 0 where
   pub wide : length heads ≡ buckets
   pub chains : Indexed itself (rowMark S T) heads links rs
-
--- a name clashes with none of the rows rs
-abbrev pub freshIn : List ℕ → List ℕ → List ℕ → List ℕ → Bool
-freshIn S T x rs = all (λ y. not (clash x y)) (namesOf S T rs)
 
 -- b tells whether the name x clashes with none of the rows that follow the word `head`, of which there are no more than links
 pub record Unlisted (S T links : List ℕ) (head : ℕ) (x : List ℕ) (b : Bool) : Type 0 where

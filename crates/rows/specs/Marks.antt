@@ -1,19 +1,19 @@
--- Serves contracts: marks of names, and runs of rows whose names are apart.
+-- Serves contracts: marks of names, and a name that clashes with none of some rows.
 use Prim.Native.Nat.{ℕ, _+_, _-_, _*_, _%_, _<_}
 use mathlib.Core.Path.{_≡_}
-use mathlib.Core.Bool.{Bool, not}
+use mathlib.Core.Bool.{Bool, true, not}
 use mathlib.Core.List.{List}
 use lib.ListN.{length, getD}
 use Rattle.grammar.specs.Notation.{all}
 use Rattle.rules.specs.Names.{clash}
-use Rattle.rules.specs.Rows.{walk, nameOf}
+use Rattle.rules.specs.Rows.{nameOf}
 use Rattle.rules.specs.Rules.{namesOf}
 
 -- the byte that stands k bytes before the end of a name, or the first
 abbrev pub back : List ℕ → ℕ → ℕ
 back x k = getD x (length x - k) 0
 
--- a number that equal names share: of the length and the first byte, and of the last three bytes
+-- a number that names share if they clash: of the length and the first byte, and of the last three bytes
 unfoldable pub markOf : List ℕ → ℕ
 markOf x = (length x + back x (length x)) % 256 + 37 * (back x 1 + 37 * (back x 2 + 37 * back x 3))
 
@@ -21,10 +21,10 @@ markOf x = (length x + back x (length x)) % 256 + 37 * (back x 1 + 37 * (back x 
 pub record Marks (S T marks : List ℕ) : Type 0 where
   pub told : (r : ℕ) → r < length marks → getD marks r 0 ≡ markOf (nameOf S T r)
 
--- a name clashes with none of n rows from b on
-abbrev pub freshOf : List ℕ → List ℕ → List ℕ → ℕ → ℕ → Bool
-freshOf S T x b n = all (λ y. not (clash x y)) (namesOf S T (walk T b n))
+-- b tells of row r that its mark is there, and another than the one given
+pub record Other (marks : List ℕ) (r mark : ℕ) (b : Bool) : Type 0 where
+  pub told : b ≡ true → (r < length marks) × (getD marks r 0 ≡ mark → ⊥)
 
--- none of m rows from a on has the name of one of n rows from b on
-unfoldable pub runsApart : List ℕ → List ℕ → ℕ → ℕ → ℕ → ℕ → Bool
-runsApart S T a m b n = all (λ r. freshOf S T (nameOf S T r) b n) (walk T a m)
+-- a name clashes with none of the rows rs
+abbrev pub freshIn : List ℕ → List ℕ → List ℕ → List ℕ → Bool
+freshIn S T x rs = all (λ y. not (clash x y)) (namesOf S T rs)

@@ -1,5 +1,5 @@
 // An index of rows by the marks of their names: a name is looked up among the rows that were added before.
-use crate::marks::is_named;
+use crate::marks::clashes;
 use crate::marks::mark_of;
 use crate::marks::pairs_apart;
 use crate::names::name_of;
@@ -24,7 +24,7 @@ ghost use Rattle.rows.specs.Rows.{Room};
 // A run of that many rows is long.
 const LONG: usize = 32;
 
-// Whether none of the rows that follow the word `head` has a name whose mark is given.
+// Whether a name whose mark is given clashes with none of the rows that follow the word `head`.
 fn is_unlisted(
     schema: &[u8],
     rows: &[u32],
@@ -44,7 +44,7 @@ fn is_unlisted(
             return true;
         }
         let r = word - 1;
-        if is_named(schema, rows, marks, r, name, mark) {
+        if clashes(schema, rows, marks, r, name, mark) {
             return false;
         }
         word = next(links, r);
@@ -53,7 +53,7 @@ fn is_unlisted(
     true
 }
 
-// Adds row r to an index unless a row in it has the same name; tells whether none has.
+// Adds row r to an index unless its name clashes with one in it; tells whether it does with none.
 pub fn add_new(
     schema: &[u8],
     rows: &[u32],

@@ -1,16 +1,16 @@
-// Marks: a number for each row that rows of equal names share, so that few names are compared byte by byte.
+// Marks: a number for each row that rows whose names clash share, so that few names are compared byte by byte.
 use crate::names::name_of;
+use crate::names::names_clash;
 use crate::names::same_bytes;
 use crate::rows::next_row;
 ghost use mathlib.Core.Path.{_≡_};
 ghost use Prim.Native.Nat.{_-_};
-ghost use mathlib.Core.Bool.{not};
 ghost use lib.ListN.{length, getD};
-ghost use Rattle.grammar.specs.Notation.{all, apart};
+ghost use Rattle.grammar.specs.Notation.{apart};
 ghost use Rattle.rules.specs.Names.{sameName, clash};
 ghost use Rattle.rules.specs.Rows.{walk, nameOf};
-ghost use Rattle.rules.specs.Rules.{namesOf};
-ghost use Rattle.rows.specs.Marks.{markOf, Marks, runsApart};
+ghost use Rattle.rules.specs.Rules.{namesOf, noClash};
+ghost use Rattle.rows.specs.Marks.{markOf, Marks, Other, freshIn};
 ghost use Rattle.rows.specs.Rows.{Room};
 
 // The byte that stands k bytes before the end of a name, or the first; 0 of an empty name.
@@ -30,7 +30,7 @@ fn byte_back(name: &[u8], k: usize) -> u8
     name[n - k]
 }
 
-// A number that equal names share: of the length and the first byte, and of the last three bytes.
+// A number that names share if they clash: of the length and the first byte, and of the last three bytes.
 pub fn mark_of(name: &[u8]) -> u32
     ensures { λ r. ⌜ r ≡ markOf (now (name .entry)) ⌝ }
 {
@@ -53,6 +53,16 @@ pub fn put_marks(schema: &[u8], rows: &[u32], marks: &mut [u32])
     }
 }
 
+// Whether the marks tell that row r has another mark than the one given.
+fn is_other(marks: &[u32], r: usize, mark: u32) -> bool
+    ensures { λ b. ⌜ Other (now (marks .entry)) r mark b ⌝ }
+{
+    if marks.len() <= r {
+        return false;
+    }
+    marks[r] != mark
+}
+
 // Whether row r has a name whose mark is given.
 pub fn is_named(
     schema: &[u8],
@@ -65,25 +75,34 @@ pub fn is_named(
     requires { ⌜ Marks (now schema) (now rows) (now marks) × (mark ≡ markOf (now name)) ⌝ }
     ensures { λ b. ⌜ b ≡ sameName (now (name .entry)) (nameOf (now (schema .entry)) (now (rows .entry)) r) ⌝ }
 {
-    if r < marks.len() {
-        if marks[r] != mark {
-            return false;
-        }
+    if is_other(marks, r, mark) {
+        return false;
     }
     same_bytes(name, name_of(schema, rows, r))
+}
+
+// Whether a name whose mark is given clashes with that of row r.
+pub fn clashes(schema: &[u8], rows: &[u32], marks: &[u32], r: usize, name: &[u8], mark: u32) -> bool
+    requires { ⌜ Marks (now schema) (now rows) (now marks) × (mark ≡ markOf (now name)) ⌝ }
+    ensures { λ b. ⌜ b ≡ clash (now (name .entry)) (nameOf (now (schema .entry)) (now (rows .entry)) r) ⌝ }
+{
+    if is_other(marks, r, mark) {
+        return false;
+    }
+    names_clash(name, name_of(schema, rows, r))
 }
 
 // Whether the name of row a clashes with none of n rows from b on.
 pub fn is_fresh(schema: &[u8], rows: &[u32], marks: &[u32], a: usize, b: usize, n: usize) -> bool
     requires { ⌜ Marks (now schema) (now rows) (now marks) × Room b n ⌝ }
-    ensures { λ r. ⌜ r ≡ all (λ y. not (clash (nameOf (now (schema .entry)) (now (rows .entry)) a) y)) (namesOf (now (schema .entry)) (now (rows .entry)) (walk (now (rows .entry)) b n)) ⌝ }
+    ensures { λ r. ⌜ r ≡ freshIn (now (schema .entry)) (now (rows .entry)) (nameOf (now (schema .entry)) (now (rows .entry)) a) (walk (now (rows .entry)) b n) ⌝ }
 {
     let name = name_of(schema, rows, a);
     let mark = mark_of(name);
     let mut i = b;
     let mut left = n;
     while 0 < left {
-        if is_named(schema, rows, marks, i, name, mark) {
+        if clashes(schema, rows, marks, i, name, mark) {
             return false;
         }
         i = next_row(rows, i);
@@ -121,7 +140,7 @@ pub fn runs_apart(
     n: usize,
 ) -> bool
     requires { ⌜ Marks (now schema) (now rows) (now marks) × Room a m × Room b n ⌝ }
-    ensures { λ r. ⌜ r ≡ runsApart (now (schema .entry)) (now (rows .entry)) a m b n ⌝ }
+    ensures { λ r. ⌜ r ≡ noClash (namesOf (now (schema .entry)) (now (rows .entry)) (walk (now (rows .entry)) a m)) (namesOf (now (schema .entry)) (now (rows .entry)) (walk (now (rows .entry)) b n)) ⌝ }
 {
     let mut i = a;
     let mut left = m;

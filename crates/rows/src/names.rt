@@ -6,9 +6,9 @@ use rules::row;
 use strings::classes::class_in;
 ghost use mathlib.Core.Path.{_≡_};
 ghost use lib.ListN.{take, drop};
-ghost use mathlib.Core.Bool.{not, _&&_, _||_};
+ghost use mathlib.Core.Bool.{_&&_, _||_};
 ghost use Rattle.grammar.specs.Notation.{text, same, all};
-ghost use Rattle.rules.specs.Names.{letter, digit, nameByte, goodName};
+ghost use Rattle.rules.specs.Names.{letter, digit, nameByte, goodName, clash};
 ghost use Rattle.rules.specs.Rows.{nameOf};
 ghost use Rattle.strings.specs.Classes.{classOf, tabulate};
 
@@ -49,6 +49,13 @@ pub fn same_bytes(x: &[u8], y: &[u8]) -> bool
         i += 1;
     }
     true
+}
+
+// Whether two names clash.
+pub fn names_clash(x: &[u8], y: &[u8]) -> bool
+    ensures { λ r. ⌜ r ≡ clash (now (x .entry)) (now (y .entry)) ⌝ }
+{
+    same_bytes(x, y)
 }
 
 // The name of row r.

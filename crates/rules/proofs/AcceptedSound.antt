@@ -168,7 +168,7 @@ module _ (S : List ℕ) (ds : List Definition) (spans : EveryName (Spans S) ds) 
 
   -- with the rules that stand in the answers as they stand in `sound`
   sound-rows : length S ≤ schema-bytes → rowCount T ≤ table-rows → goodNames S T ≡ true → distinctNames S T ≡ true → goodChains S T ≡ true → goodUnions S T ≡ true
-      → goodAlternates T ≡ true → goodReturns T ≡ true → sound S T ≡ true
+      → goodAlternates S T ≡ true → goodReturns S T ≡ true → sound S T ≡ true
   unfolding sound
   sound-rows short few names apart chains unions alternates returns =
       let a : eqb (length T % row-words) 0 ≡ true = eq-eqb (length T % row-words) 0 whole in
@@ -188,12 +188,12 @@ unrefused-sound S room ds s none-applies =
     subst
     (λ (W : List ℕ).
     length S ≤ schema-bytes → rowCount W ≤ table-rows → goodNames S W ≡ true → distinctNames S W ≡ true → goodChains S W ≡ true → goodUnions S W ≡ true
-    → goodAlternates W ≡ true → goodReturns W ≡ true → sound S W ≡ true)
+    → goodAlternates S W ≡ true → goodReturns S W ≡ true → sound S W ≡ true)
     (sym (table-words (structLink S ds) (typeNamed S ds) (discriminatorLink S ds) 0 ds))
     (sound-rows S ds (names-within S (s .objects) ds (s .is-text) (s .keeps-keys)) (definitions-formed (s .objects) ds (s .keeps-keys))
     (true-of (allRefer S ds) (λ e. none-applies R.UnknownName (ds, s, e))))
     (not-less (none-applies R.TooLong)) (not-less (λ l. none-applies R.TooManyRows (ds, s, l))) (keeps goodNames (none-applies R.BadName)) (keeps distinctNames (none-applies R.RepeatedName))
-    (keeps goodChains (none-applies R.BadChain)) (keeps goodUnions (none-applies R.BadUnion)) (keeps (λ S W. goodAlternates W) (none-applies R.BadAlternate)) (keeps (λ S W. goodReturns W) (none-applies R.BadReturn))
+    (keeps goodChains (none-applies R.BadChain)) (keeps goodUnions (none-applies R.BadUnion)) (keeps goodAlternates (none-applies R.BadAlternate)) (keeps goodReturns (none-applies R.BadReturn))
   where
     not-less : {a b : ℕ} → (a < b → ⊥) → b ≤ a
     not-less {a} {b} k = elim (decLt a b) [ yes y ↦ absurd (k y) | no y ↦ omega arith ]

@@ -1,6 +1,6 @@
 -- The first element of an ascending list that passes a test is the lowest that does.
 -- The idea: at each element the test decides; what stands later is higher.
-use Prim.Native.Nat.{ℕ, _<_}
+use Prim.Native.Nat.{ℕ, zero, suc, _<_}
 use native.Mathlib.Omega.{arith}
 use mathlib.Core.Path.{_≡_, refl, sym, _∙_}
 use mathlib.Core.Bool.{Bool, true, false, cond, _&&_}
@@ -8,6 +8,7 @@ use mathlib.Core.Logic.{_⊎_, inl, inr, ⊎-elim}
 use mathlib.Core.List.{List, [], _∷_, List·Memᴰ, List·Memᴰ·cases-cons, List·Memᴰ·not-nil}
 use mathlib.Core.Option.{none, some}
 use lib.Dec.{ltb}
+use lib.ListN.{drop, getElem?}
 use borrow.Author.Tests.{ltb-true}
 use Rattle.grammar.specs.Notation.{all}
 use Rattle.rules.specs.Answers.{first}
@@ -18,12 +19,23 @@ pub decided : (b : Bool) → (b ≡ true → ⊥) → b ≡ false
 decided true h = absurd (h refl)
 decided false h = refl
 
+-- an element by its place: it is in the list, and the list from its place on begins with it
+pub nth : {A : Type 0} (l : List A) (i : ℕ) (x : A) → getElem? l i ≡ some x → List·Memᴰ x l
+nth [] i x e = let z : _≡_ {A = ℕ} 0 1 = cc in absurd (omega arith)
+nth (y ∷ l) zero x e = List·Memᴰ.List·Memᴰ·head (let z : x ≡ y = cc in z)
+nth (y ∷ l) (suc i) x e = List·Memᴰ.List·Memᴰ·tail (nth l i x e)
+
+pub drop-nth : {A : Type 0} (l : List A) (i : ℕ) (x : A) → getElem? l i ≡ some x → drop i l ≡ x ∷ drop (suc i) l
+drop-nth [] i x e = let z : _≡_ {A = ℕ} 0 1 = cc in absurd (omega arith)
+drop-nth (y ∷ l) zero x e = let z : y ≡ x = cc in rw z
+drop-nth (y ∷ l) (suc i) x e = drop-nth l i x e
+
 -- each element's number is below those after it
 pub data Ascending {A : Type 0} (number : A → ℕ) : List A → Type 0 where
   empty : Ascending number []
   next : {x : A} {xs : List A} → ((y : A) → List·Memᴰ y xs → number x < number y) → Ascending number xs → Ascending number (x ∷ xs)
 
--- the same as a test
+-- as a test that computes
 abbrev pub ascends : {A : Type 0} → (A → ℕ) → List A → Bool
 ascends number [] = true
 ascends number (x ∷ xs) = all (λ y. ltb (number x) (number y)) xs && ascends number xs

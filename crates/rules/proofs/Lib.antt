@@ -1,5 +1,6 @@
 -- In the order of the argument: general laws; rows as they are written; what a sound table gives; readings; answers; accepted schemas; the P table.
 pub mod Lists
+pub mod Clashes
 pub mod First
 pub mod Refusals
 pub mod Chains

@@ -16,7 +16,7 @@ use Rattle.grammar.specs.Tree.Fields.{no-fields, field}
 use Rattle.grammar.specs.Keys.{keysOf}
 use Rattle.rules.specs.Values.{valueAt, anyOf}
 use Rattle.rules.specs.Rows.{upFrom}
-use Rattle.rules.specs.Rules.{any, those, is, noClash}
+use Rattle.rules.specs.Rules.{any, those, is}
 
 -- tests
 pub and-left : (a b : Bool) → a && b ≡ true → a ≡ true
@@ -140,22 +140,6 @@ apart-only {A} f g (z ∷ l) h x y p q u v =
 module _ (name : ℕ → List ℕ) where
   pub apart-injective : (ms : List ℕ) → apart same (map name ms) ≡ true → (m m′ : ℕ) → List·Memᴰ m ms → List·Memᴰ m′ ms → name m ≡ name m′ → m ≡ m′
   apart-injective ms h m m′ p q e = apart-only name same ms h m m′ p q (same-is (name m) (name m′) e) (same-is (name m′) (name m) (sym e))
-
-  fresh-append : (x : List ℕ) (xs ys : List ℕ) → fresh same x (map name xs) ≡ true → fresh same x (map name ys) ≡ true → fresh same x (map name (xs ++ ys)) ≡ true
-  fresh-append x [] ys h k = k
-  fresh-append x (y ∷ xs) ys h k =
-      and-of (not (same x (name y))) (fresh same x (map name (xs ++ ys))) (and-left (not (same x (name y))) (fresh same x (map name xs)) h)
-      (fresh-append x xs ys (and-right (not (same x (name y))) (fresh same x (map name xs)) h) k)
-
-  pub apart-append : (xs ys : List ℕ) → apart same (map name xs) ≡ true → apart same (map name ys) ≡ true → noClash (map name xs) (map name ys) ≡ true
-      → apart same (map name (xs ++ ys)) ≡ true
-  apart-append [] ys h k c = k
-  apart-append (x ∷ xs) ys h k c =
-      let own : Bool = fresh same (name x) (map name xs) in
-      let others : Bool = fresh same (name x) (map name ys) in
-      and-of (fresh same (name x) (map name (xs ++ ys))) (apart same (map name (xs ++ ys)))
-      (fresh-append (name x) xs ys (and-left own (apart same (map name xs)) h) (and-left others (noClash (map name xs) (map name ys)) c))
-      (apart-append xs ys (and-right own (apart same (map name xs)) h) k (and-right others (noClash (map name xs) (map name ys)) c))
 
 -- a key is there where it has a value
 pub key-there : (fs : Fields) (k : List ℕ) → (anyOf (keysOf fs) k ≡ true) ↔ ((j : Json) × (valueAt k fs ≡ some j))

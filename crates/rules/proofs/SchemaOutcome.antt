@@ -1,14 +1,13 @@
--- The schema answer as a function is the one outcome that the paper's table allows: each test says when its number applies, and the first that passes is the lowest.
+-- The schema answer as a function is the one outcome that the paper's table allows: each test says when its refusal applies, and the first that passes has the lowest rank.
 -- The idea: the bytes decide the text, the text the objects, these the definitions; so a statement on "the definitions of S" is one on the definitions computed.
 use Prim.Native.Nat.{ℕ, zero, suc, _/_, _<_}
 use native.Mathlib.Omega.{arith}
 use mathlib.Core.Path.{_≡_, refl, sym, ap, _∙_}
 use mathlib.Core.Bool.{Bool, true, false, not}
 use mathlib.Core.List.{List, [], _∷_, List·Memᴰ}
-use mathlib.Core.List.List·Memᴰ.{List·Memᴰ·head, List·Memᴰ·tail}
 use mathlib.Core.Option.{Option, none, some}
 use lib.Dec.{ltb}
-use lib.ListN.{length, getElem?}
+use lib.ListN.{length, drop, getElem?}
 use borrow.Author.Tests.{ltb-true, lt-ltb, not-true}
 use Rattle.grammar.specs.Limits.{schema-bytes, table-rows, row-words}
 use Rattle.grammar.specs.Tree.{Items}
@@ -26,11 +25,12 @@ use Rattle.rules.specs.Definitions.{Definition, definitions}
 use Rattle.rules.specs.Rows.{rowCount}
 use Rattle.rules.specs.Rules.{is, goodNames, distinctNames, goodChains, goodUnions, goodAlternates, goodReturns}
 use Rattle.rules.specs.SchemaTable.{table, allRefer}
-use Rattle.rules.specs.SchemaAnswers.{refusalNumber, Says, SchemaApplies, SchemaOutcome}
+use Rattle.rules.specs.SchemaAnswers.{schemaRefusals, rank, Says, SchemaApplies, SchemaOutcome}
 use Rattle.rules.specs.SchemaAnswers.SchemaOutcome.{accepted, refused}
-use Rattle.rules.specs.Answers.{SchemaResult, isNone, first, schemaRefusals, objectsIn, schemaTest, tableIn, schemaAnswered, schemaResult}
+use Rattle.rules.specs.Answers.{SchemaResult, isNone, first, objectsIn, schemaTest, tableIn, schemaAnswered, schemaResult}
 use Rattle.rules.proofs.Lists.{clash, is-true}
-use Rattle.rules.proofs.First.{decided, Ascending, ascending, first-passes, first-none, first-lowest, none-first, lowest-first}
+pub use Rattle.rules.proofs.First.{nth}
+use Rattle.rules.proofs.First.{decided, drop-nth, Ascending, ascending, first-passes, first-none, first-lowest, none-first, lowest-first}
 
 -- what a test on an optional value says
 pub is-of : {A : Type 0} (o : Option A) (f : A → Bool) (a : A) → o ≡ some a → f a ≡ true → is o f ≡ true
@@ -48,28 +48,32 @@ pub bind-some : {A B : Type 0} (o : Option A) (f : A → Option B) (b : B) → (
 bind-some none f b e = let z : _≡_ {A = ℕ} 0 1 = cc in absurd (omega arith)
 bind-some (some a) f b e = (a, refl, e)
 
-pub nth : {A : Type 0} (l : List A) (i : ℕ) (x : A) → getElem? l i ≡ some x → List·Memᴰ x l
-nth [] i x e = let z : _≡_ {A = ℕ} 0 1 = cc in absurd (omega arith)
-nth (y ∷ l) zero x e = List·Memᴰ·head (let z : x ≡ y = cc in z)
-nth (y ∷ l) (suc i) x e = List·Memᴰ·tail (nth l i x e)
+ranked : (x : SchemaRefusal) → getElem? schemaRefusals (rank x) ≡ some x
+unfolding rank
+ranked TooLong = refl
+ranked NotText = refl
+ranked RepeatedKey = refl
+ranked NotDefinitions = refl
+ranked BadName = refl
+ranked RepeatedName = refl
+ranked UnknownName = refl
+ranked BadChain = refl
+ranked BadUnion = refl
+ranked BadAlternate = refl
+ranked BadReturn = refl
+ranked TooManyRows = refl
+ranked NoRoom = refl
 
 listed : (x : SchemaRefusal) → List·Memᴰ x schemaRefusals
-listed TooLong = nth schemaRefusals 0 TooLong refl
-listed NotText = nth schemaRefusals 1 NotText refl
-listed RepeatedKey = nth schemaRefusals 2 RepeatedKey refl
-listed NotDefinitions = nth schemaRefusals 3 NotDefinitions refl
-listed BadName = nth schemaRefusals 4 BadName refl
-listed RepeatedName = nth schemaRefusals 5 RepeatedName refl
-listed UnknownName = nth schemaRefusals 6 UnknownName refl
-listed BadChain = nth schemaRefusals 7 BadChain refl
-listed BadUnion = nth schemaRefusals 8 BadUnion refl
-listed BadAlternate = nth schemaRefusals 9 BadAlternate refl
-listed BadReturn = nth schemaRefusals 10 BadReturn refl
-listed TooManyRows = nth schemaRefusals 11 TooManyRows refl
-listed NoRoom = nth schemaRefusals 12 NoRoom refl
+listed x = nth schemaRefusals (rank x) x (ranked x)
 
-rising : Ascending refusalNumber schemaRefusals
-rising = ascending refusalNumber schemaRefusals refl
+-- the refusals from one on begin with it
+pub from-rank : (x : SchemaRefusal) → drop (rank x) schemaRefusals ≡ x ∷ drop (suc (rank x)) schemaRefusals
+from-rank x = drop-nth schemaRefusals (rank x) x (ranked x)
+
+rising : Ascending rank schemaRefusals
+unfolding rank
+rising = ascending rank schemaRefusals refl
 
 module _ (S : List ℕ) (room : ℕ) where
   objects : Option Items
@@ -142,8 +146,8 @@ module _ (S : List ℕ) (room : ℕ) where
   applies-test UnknownName a = breaks-test (allRefer S) a
   applies-test BadChain a = breaks-test (λ ds. goodChains S (table S ds)) a
   applies-test BadUnion a = breaks-test (λ ds. goodUnions S (table S ds)) a
-  applies-test BadAlternate a = breaks-test (λ ds. goodAlternates (table S ds)) a
-  applies-test BadReturn a = breaks-test (λ ds. goodReturns (table S ds)) a
+  applies-test BadAlternate a = breaks-test (λ ds. goodAlternates S (table S ds)) a
+  applies-test BadReturn a = breaks-test (λ ds. goodReturns S (table S ds)) a
   applies-test TooManyRows a = passes-test (λ ds. rowCount (table S ds)) table-rows a
   applies-test NoRoom a = passes-test (λ ds. rowCount (table S ds)) (room / row-words) a
 
@@ -160,8 +164,8 @@ module _ (S : List ℕ) (room : ℕ) where
   test-applies UnknownName e = test-breaks (allRefer S) e
   test-applies BadChain e = test-breaks (λ ds. goodChains S (table S ds)) e
   test-applies BadUnion e = test-breaks (λ ds. goodUnions S (table S ds)) e
-  test-applies BadAlternate e = test-breaks (λ ds. goodAlternates (table S ds)) e
-  test-applies BadReturn e = test-breaks (λ ds. goodReturns (table S ds)) e
+  test-applies BadAlternate e = test-breaks (λ ds. goodAlternates S (table S ds)) e
+  test-applies BadReturn e = test-breaks (λ ds. goodReturns S (table S ds)) e
   test-applies TooManyRows e = test-passes (λ ds. rowCount (table S ds)) table-rows e
   test-applies NoRoom e = test-passes (λ ds. rowCount (table S ds)) (room / row-words) e
 
@@ -189,23 +193,23 @@ module _ (S : List ℕ) (room : ℕ) where
     where
       go : (o : Option SchemaRefusal) → first test schemaRefusals ≡ o → SchemaOutcome S room (schemaAnswered S room (tableIn S room written) o .answer) (schemaAnswered S room (tableIn S room written) o .words)
       go none e =
-          let no-test : (x : SchemaRefusal) → test x ≡ false = λ x. first-none refusalNumber test schemaRefusals e x (listed x) in
+          let no-test : (x : SchemaRefusal) → test x ≡ false = λ x. first-none rank test schemaRefusals e x (listed x) in
           let ds = there no-test in
           rw (ds .1) (accepted (said (ds .0) (ds .1)) (λ x a. clash (applies-test x a) (no-test x)) refl refl)
       go (some x) e =
-          refused (test-applies x (first-passes refusalNumber test schemaRefusals x e))
-          (λ y h a. clash (applies-test y a) (first-lowest refusalNumber test schemaRefusals rising x e y (listed y) h)) refl refl
+          refused (test-applies x (first-passes rank test schemaRefusals x e))
+          (λ y h a. clash (applies-test y a) (first-lowest rank test schemaRefusals rising x e y (listed y) h)) refl refl
 
   -- and the only one
   only : (a : SchemaAnswer) (w : List ℕ) → SchemaOutcome S room a w → (a ≡ outcome .answer) × (w ≡ outcome .words)
   unfolding outcome decided-by
   only a w (accepted {ds} s h p q) =
       let d = says ds s in
-      let e : first test schemaRefusals ≡ none = none-first refusalNumber test schemaRefusals (λ x m. decided (test x) (λ t. h x (test-applies x t))) in
+      let e : first test schemaRefusals ≡ none = none-first rank test schemaRefusals (λ x m. decided (test x) (λ t. h x (test-applies x t))) in
       rw (e, d) (p, q)
   only a w (refused {x} s h p q) =
       let e : first test schemaRefusals ≡ some x =
-      lowest-first refusalNumber test schemaRefusals rising x (listed x) (applies-test x s) (λ y g. decided (test y) (λ t. h y g (test-applies y t))) in
+      lowest-first rank test schemaRefusals rising x (listed x) (applies-test x s) (λ y g. decided (test y) (λ t. h y g (test-applies y t))) in
       rw e (p, q)
 
   -- The paper's table of schema answers: for every schema and room there is one outcome, the one that schemaResult gives.

@@ -15,11 +15,13 @@ use Rattle.grammar.specs.Notation.{same, all, apart}
 use Rattle.grammar.specs.Tree.{Kind}
 use Rattle.rules.specs.Kinds.{struct-kind, member-kind, union-kind, branch-kind, alternate-kind, command-kind}
 use Rattle.rules.specs.Types.{column, sameKind}
+use Rattle.rules.specs.Names.{clash}
 use Rattle.rules.specs.Rows.{upFrom, rowCount, kind, isEnum, isStruct, isUnion, isAlternate, isCommand, base, typeRef, unionBase, discriminator, branchStruct, arguments, allowOob, returns, returnsArray, next, unnamed, owns, children, members, after, typeKind, nameOf, ownerLink}
-use Rattle.rules.specs.Rules.{everyRow, namesOf, is, sameKinds, kindsOf, noClash, those, isDefinition, distinctNames, goodChains, goodUnions, goodAlternates, chainFits, unionFits, alternateFits, discriminatorFits, branchFits}
+use Rattle.rules.specs.Rules.{everyRow, namesOf, is, sameKinds, kindsOf, noClash, those, isDefinition, definitionNames, distinctNames, goodChains, goodUnions, goodAlternates, chainFits, unionFits, alternateFits, discriminatorFits, branchFits}
 use Rattle.rules.specs.Envelope.{Names}
 use Rattle.rules.specs.Sound.{sound, restZero, referencesFit, isFlag, toStruct, toType}
-use Rattle.rules.proofs.Lists.{none-not-some, and-left, and-right, and-of, or-cases, or-right, or-implies, not-of, all-true, is-true, is-at, in-those, in-upFrom, in-map, apart-only, apart-injective, apart-append}
+use Rattle.rules.proofs.Lists.{none-not-some, and-left, and-right, and-of, or-cases, or-right, or-implies, not-of, all-true, is-true, is-at, in-those, in-upFrom, in-map, apart-only, apart-injective}
+use Rattle.rules.proofs.Clashes.{apart-same, apart-append}
 use Rattle.rules.proofs.TableRows.{no-children, unnamed-struct, owned-struct, fit-child, laid-fit, members-agree}
 
 -- 0, or a link to a struct
@@ -151,12 +153,12 @@ module _ (S T : List ℕ) (h : sound S T ≡ true) where
       (or-implies (eqb (kind T b) branch-kind) (toStruct T (branchStruct T b)) (search (and-left, and-right)) (eq-eqb (kind T b) branch-kind (omega arith)))
 
   -- names
-  own-apart : (r : ℕ) → apart same (namesOf S T (children T r)) ≡ true
+  own-apart : (r : ℕ) → apart clash (namesOf S T (children T r)) ≡ true
   unfolding sound distinctNames
   own-apart r = go (ltb r (rowCount T)) refl
     where
-      go : (b : Bool) → ltb r (rowCount T) ≡ b → apart same (namesOf S T (children T r)) ≡ true
-      go true e = every T (λ x. apart same (namesOf S T (children T x))) (search (and-left, and-right) depth 15) r (ltb-true r (rowCount T) e)
+      go : (b : Bool) → ltb r (rowCount T) ≡ b → apart clash (namesOf S T (children T r)) ≡ true
+      go true e = every T (λ x. apart clash (namesOf S T (children T x))) (search (and-left, and-right) depth 15) r (ltb-true r (rowCount T) e)
       go false e = let z : kind T r ≡ 0 = past-end r (ltb-false r (rowCount T) e) in rw (no-children T r (omega arith))
 
   -- what a struct inherits and what it has of its own do not clash
@@ -164,7 +166,7 @@ module _ (S T : List ℕ) (h : sound S T ≡ true) where
   unfolding sound goodChains
   inherits r k = every-one T (isStruct T) (chainFits S T) (search (and-left, and-right) depth 13) r (there r (omega arith)) (eq-eqb (kind T r) struct-kind k)
 
-  chain-apart : (n l : ℕ) → StructLink T l → (ms : List ℕ) → members T n l ≡ some ms → apart same (namesOf S T ms) ≡ true
+  chain-apart : (n l : ℕ) → StructLink T l → (ms : List ℕ) → members T n l ≡ some ms → apart clash (namesOf S T ms) ≡ true
   unfolding members
   chain-apart zero zero f ms e = let z : ms ≡ [] = cc in rw z
   chain-apart zero (suc r) f ms e = absurd (none-not-some e)
@@ -172,7 +174,7 @@ module _ (S T : List ℕ) (h : sound S T ≡ true) where
   chain-apart (suc n) (suc r) f ms e = go (members T n (base T r)) refl e (chain-apart n (base T r) (base-to r (f r refl)))
     where
       go : (x : Option (List ℕ)) → members T n (base T r) ≡ x → after x (children T r) ≡ some ms
-          → ((xs : List ℕ) → members T n (base T r) ≡ some xs → apart same (namesOf S T xs) ≡ true) → apart same (namesOf S T ms) ≡ true
+          → ((xs : List ℕ) → members T n (base T r) ≡ some xs → apart clash (namesOf S T xs) ≡ true) → apart clash (namesOf S T ms) ≡ true
       go none p e more = absurd (none-not-some e)
       go (some inherited) p e more =
           let y : ms ≡ inherited ++ children T r = cc in
@@ -194,7 +196,7 @@ module _ (S T : List ℕ) (h : sound S T ≡ true) where
       all-true (branchFits S T r ms) (children T r) (and-right (discriminatorFits T r ms) (all (branchFits S T r ms) (children T r)) f) b m
 
   with-branch : (r b : ℕ) (ms bs : List ℕ) → kind T r ≡ union-kind → members T chain-structs (unionBase T r) ≡ some ms → List·Memᴰ b (children T r)
-      → members T chain-structs (branchStruct T b) ≡ some bs → apart same (namesOf S T (ms ++ bs)) ≡ true
+      → members T chain-structs (branchStruct T b) ≡ some bs → apart clash (namesOf S T (ms ++ bs)) ≡ true
   with-branch r b ms bs k e m f =
       let t : branchFits S T r ms b ≡ true = branch-fits r b ms k e m in
       apart-append (nameOf S T) ms bs (chain-apart chain-structs (unionBase T r) (union-to r k) ms e)
@@ -236,7 +238,7 @@ module _ (S T : List ℕ) (h : sound S T ≡ true) where
   of-one-name : (x : List ℕ) (c c′ : ℕ) → Names S T x c → Names S T x c′ → c ≡ c′
   unfolding sound distinctNames definition-rows
   of-one-name x c c′ n n′ =
-      apart-injective (nameOf S T) definition-rows (search (and-left, and-right) depth 15) c c′ (a-definition x c n) (a-definition x c′ n′)
+      apart-injective (nameOf S T) definition-rows (apart-same (definitionNames S T) (search (and-left, and-right) depth 15)) c c′ (a-definition x c n) (a-definition x c′ n′)
       (n .same-name ∙ sym (n′ .same-name))
 
 pub sound-facts : (S T : List ℕ) → sound S T ≡ true → SoundFacts S T
@@ -249,10 +251,10 @@ sound-facts S T h = record {
   command-link = command-to S T h;
   branch-link = branch-to S T h;
   discriminator-link = discriminator-to S T h;
-  children-apart = own-apart S T h;
-  struct-apart = λ r ms k. chain-apart S T h chain-structs (suc r) (λ s e. subst (λ x. kind T x ≡ struct-kind) (let z : r ≡ s = cc in z) k) ms;
-  union-apart = λ r ms k. chain-apart S T h chain-structs (unionBase T r) (union-to S T h r k) ms;
-  branch-apart = with-branch S T h;
+  children-apart = λ r. apart-same (namesOf S T (children T r)) (own-apart S T h r);
+  struct-apart = λ r ms k e. apart-same (namesOf S T ms) (chain-apart S T h chain-structs (suc r) (λ s q. subst (λ x. kind T x ≡ struct-kind) (let z : r ≡ s = cc in z) k) ms e);
+  union-apart = λ r ms k e. apart-same (namesOf S T ms) (chain-apart S T h chain-structs (unionBase T r) (union-to S T h r k) ms e);
+  branch-apart = λ r b ms bs k e m f. apart-same (namesOf S T (ms ++ bs)) (with-branch S T h r b ms bs k e m f);
   has-kind = kind-of S T h;
   one-of-kind = of-one-kind S T h;
   one-command = of-one-name S T h;

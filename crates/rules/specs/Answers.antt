@@ -24,10 +24,11 @@ use Rattle.rules.specs.declared.MessageAnswer.the-variants as MA
 use Rattle.rules.specs.Types.{takes, inRange, builtInTakes}
 use Rattle.rules.specs.Values.{_>>=_}
 use Rattle.rules.specs.Definitions.{Definition, definitions}
-use Rattle.rules.specs.Names.{sameName}
+use Rattle.rules.specs.Names.{sameName, clash}
 use Rattle.rules.specs.Rows.{rowCount, isCommand, nameOf, next, walk, past, unnamed, owns, firstChild, childCount, children, pastChildren, members, typeKind}
 use Rattle.rules.specs.Rules.{is, goodNames, distinctNames, goodChains, goodUnions, goodAlternates, goodReturns}
 use Rattle.rules.specs.SchemaTable.{table, allRefer}
+use Rattle.rules.specs.SchemaAnswers.{schemaRefusals}
 use Rattle.rules.specs.Sound.{laidOut, sound}
 use Rattle.rules.specs.Envelope.{Envelope, envelope, mayUse, Asked, argumentsOf}
 use Rattle.rules.specs.Readings.{Typed, strict, recordsOf}
@@ -42,11 +43,6 @@ abbrev pub isNone : {A : Type 0} → Option A → Bool
 isNone none = true
 isNone (some a) = false
 
--- the refusals in the order of their numbers
-abbrev pub schemaRefusals : List SchemaRefusal
-schemaRefusals =
-    R.TooLong ∷ R.NotText ∷ R.RepeatedKey ∷ R.NotDefinitions ∷ R.BadName ∷ R.RepeatedName ∷ R.UnknownName ∷ R.BadChain ∷ R.BadUnion
-    ∷ R.BadAlternate ∷ R.BadReturn ∷ R.TooManyRows ∷ R.NoRoom ∷ []
 
 -- an outcome: the answer and the lent words
 pub record SchemaResult : Type 0 where
@@ -74,8 +70,8 @@ module _ (S : List ℕ) (room : ℕ) where
   schemaTest js ds R.UnknownName = is ds (λ d. not (allRefer S d))
   schemaTest js ds R.BadChain = is ds (λ d. not (goodChains S (table S d)))
   schemaTest js ds R.BadUnion = is ds (λ d. not (goodUnions S (table S d)))
-  schemaTest js ds R.BadAlternate = is ds (λ d. not (goodAlternates (table S d)))
-  schemaTest js ds R.BadReturn = is ds (λ d. not (goodReturns (table S d)))
+  schemaTest js ds R.BadAlternate = is ds (λ d. not (goodAlternates S (table S d)))
+  schemaTest js ds R.BadReturn = is ds (λ d. not (goodReturns S (table S d)))
   schemaTest js ds R.TooManyRows = is ds (λ d. ltb table-rows (rowCount (table S d)))
   schemaTest js ds R.NoRoom = is ds (λ d. ltb (room / row-words) (rowCount (table S d)))
 
@@ -92,7 +88,7 @@ module _ (S : List ℕ) (room : ℕ) where
   ofDefinitions js ds = schemaAnswered (tableIn ds) (first (schemaTest js ds) schemaRefusals)
 
   unfoldable pub schemaResult : SchemaResult
-  unfolding readSchema definitions table allRefer goodNames distinctNames goodChains goodUnions goodAlternates goodReturns next walk past unnamed owns firstChild childCount children pastChildren members typeKind nameOf
+  unfolding readSchema definitions table allRefer clash goodNames distinctNames goodChains goodUnions goodAlternates goodReturns next walk past unnamed owns firstChild childCount children pastChildren members typeKind nameOf
   schemaResult = let js = objectsIn (readSchema S) in ofDefinitions js (js >>= definitions)
 
 module _ (S T : List ℕ) where
@@ -157,5 +153,5 @@ unfolding readMessage laidOut next walk past unnamed owns firstChild childCount 
 soundResult S T m room = cond (ltb message-bytes (length m)) (refusedBy room M.TooLong) (textResult S T room (readMessage m))
 
 unfoldable pub messageResult : (S T m : List ℕ) → ℕ → MessageResult
-unfolding soundResult sound goodNames distinctNames goodChains goodUnions goodAlternates goodReturns
+unfolding soundResult sound clash goodNames distinctNames goodChains goodUnions goodAlternates goodReturns
 messageResult S T m room = cond (sound S T) (soundResult S T m room) (refusedBy room M.UnsoundTable)

@@ -28,6 +28,6 @@ goodName digits (b ∷ bs) =
 abbrev pub sameName : List ℕ → List ℕ → Bool
 sameName = same
 
--- Schema answers 6, 8 and 9: what two names of one list must not do: be equal
-abbrev pub clash : List ℕ → List ℕ → Bool
-clash = same
+-- Schema answers 6, 8 and 9: what two names of one list must not do: be equal. proofs/Clashes has all that is used of it.
+unfoldable pub clash : List ℕ → List ℕ → Bool
+clash x y = same x y

@@ -22,6 +22,11 @@ abbrev pub those : {A : Type 0} → (A → Bool) → List A → List A
 those f [] = []
 those f (x ∷ xs) = cond (f x) (x ∷ those f xs) (those f xs)
 
+-- how many stand before the first that has it
+abbrev pub before : {A : Type 0} → (A → Bool) → List A → ℕ
+before f [] = 0
+before f (x ∷ xs) = cond (f x) 0 (suc (before f xs))
+
 -- there is a value, and it has the property
 abbrev pub is : {A : Type 0} → Option A → (A → Bool) → Bool
 is none f = false
@@ -101,12 +106,13 @@ module _ (T : List ℕ) where
   abbrev pub alternateFits : ℕ → Bool
   alternateFits r = ltb 0 (count T r) && all (λ k. is k (λ _. true)) (kindsOf (children T r)) && apart sameKinds (kindsOf (children T r))
 
-  unfoldable pub goodAlternates : Bool
-  goodAlternates = everyRow T (λ r. not (isAlternate T r) || alternateFits r)
-
   -- 11: a command returns nothing, or a struct or a union, or an array of these
   abbrev pub returnFits : ℕ → Bool
   returnFits t = eqb t 0 || leb first-row t && (isStruct T (t - first-row) || isUnion T (t - first-row))
 
+module _ (S T : List ℕ) where
+  unfoldable pub goodAlternates : Bool
+  goodAlternates = everyRow T (λ r. not (isAlternate T r) || alternateFits T r)
+
   unfoldable pub goodReturns : Bool
-  goodReturns = everyRow T (λ r. not (isCommand T r) || returnFits (returns T r))
+  goodReturns = everyRow T (λ r. not (isCommand T r) || returnFits T (returns T r))

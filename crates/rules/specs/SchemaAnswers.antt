@@ -1,9 +1,10 @@
--- 01, Schema answers: when each number applies, and the whole outcome: the lowest that applies, the count, and every lent word.
+-- 01, Schema answers: when each refusal applies, in which order they are judged, and the whole outcome: the first that applies, the count, and every lent word.
 use Prim.Native.Nat.{ℕ, _-_, _/_, _<_}
 use mathlib.Core.Path.{_≡_}
 use mathlib.Core.Bool.{Bool, false}
-use mathlib.Core.List.{List, _++_}
+use mathlib.Core.List.{List, [], _∷_, _++_}
 use mathlib.Core.Option.{none, some}
+use lib.Dec.{eqb}
 use lib.ListN.{length, replicate}
 use Rattle.grammar.specs.Limits.{schema-bytes, table-rows, row-words}
 use Rattle.grammar.specs.Tree.{Items}
@@ -15,10 +16,10 @@ use Rattle.rules.specs.declared.SchemaAnswer.{SchemaAnswer}
 use Rattle.rules.specs.declared.SchemaAnswer.the-variants.{Accepted, Refused}
 use Rattle.rules.specs.Definitions.{Definition, definitions}
 use Rattle.rules.specs.Rows.{rowCount}
-use Rattle.rules.specs.Rules.{goodNames, distinctNames, goodChains, goodUnions, goodAlternates, goodReturns}
+use Rattle.rules.specs.Rules.{before, goodNames, distinctNames, goodChains, goodUnions, goodAlternates, goodReturns}
 use Rattle.rules.specs.SchemaTable.{table, allRefer}
 
--- the paper's numbers
+-- the paper's numbers, as they are shown
 abbrev pub refusalNumber : SchemaRefusal → ℕ
 refusalNumber TooLong = 1
 refusalNumber NotText = 2
@@ -33,6 +34,15 @@ refusalNumber BadAlternate = 10
 refusalNumber BadReturn = 11
 refusalNumber TooManyRows = 12
 refusalNumber NoRoom = 13
+
+-- the order in which a schema is judged
+abbrev pub schemaRefusals : List SchemaRefusal
+schemaRefusals =
+    TooLong ∷ NotText ∷ RepeatedKey ∷ NotDefinitions ∷ BadName ∷ RepeatedName ∷ UnknownName ∷ BadChain ∷ BadUnion ∷ BadAlternate ∷ BadReturn ∷ TooManyRows ∷ NoRoom ∷ []
+
+-- how many refusals come before one in that order
+unfoldable pub rank : SchemaRefusal → ℕ
+rank x = before (λ y. eqb (refusalNumber y) (refusalNumber x)) schemaRefusals
 
 -- the two numbers of an answer: accepted 0 and the row count, refused the number and 0
 abbrev pub answerNumber : SchemaAnswer → ℕ
@@ -64,14 +74,14 @@ SchemaApplies RepeatedName S room = Breaks distinctNames S
 SchemaApplies UnknownName S room = (ds : List Definition) × Says S ds × (allRefer S ds ≡ false)
 SchemaApplies BadChain S room = Breaks goodChains S
 SchemaApplies BadUnion S room = Breaks goodUnions S
-SchemaApplies BadAlternate S room = Breaks (λ S T. goodAlternates T) S
-SchemaApplies BadReturn S room = Breaks (λ S T. goodReturns T) S
+SchemaApplies BadAlternate S room = Breaks goodAlternates S
+SchemaApplies BadReturn S room = Breaks goodReturns S
 SchemaApplies TooManyRows S room = (ds : List Definition) × Says S ds × (table-rows < rowCount (table S ds))
 SchemaApplies NoRoom S room = (ds : List Definition) × Says S ds × (room / row-words < rowCount (table S ds))
 
--- The outcome: the answer, and the lent words after the call. The lowest number that applies, and all words 0; or no number, the table, and 0 after it.
+-- The outcome: the answer, and the lent words after the call. The first refusal that applies, and all words 0; or none, the table, and 0 after it.
 pub data SchemaOutcome (S : List ℕ) (room : ℕ) (answer : SchemaAnswer) (words : List ℕ) : Type 0 where
   accepted : {ds : List Definition} → Says S ds → ((x : SchemaRefusal) → SchemaApplies x S room → ⊥) → answer ≡ Accepted (rowCount (table S ds))
       → words ≡ table S ds ++ replicate (room - length (table S ds)) 0 → SchemaOutcome S room answer words
-  refused : {x : SchemaRefusal} → SchemaApplies x S room → ((y : SchemaRefusal) → refusalNumber y < refusalNumber x → SchemaApplies y S room → ⊥) → answer ≡ Refused x
+  refused : {x : SchemaRefusal} → SchemaApplies x S room → ((y : SchemaRefusal) → rank y < rank x → SchemaApplies y S room → ⊥) → answer ≡ Refused x
       → words ≡ replicate room 0 → SchemaOutcome S room answer words

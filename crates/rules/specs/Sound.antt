@@ -66,4 +66,4 @@ sound S T =
     eqb (length T % row-words) 0 && leb (rowCount T) table-rows && leb (length S) schema-bytes
     && everyRow T (λ r. leb (start T r + size T r) (length S))
     && laidOut T (rowCount T) 0 && everyRow T (λ r. restZero T r && referencesFit T r)
-    && goodNames S T && distinctNames S T && goodChains S T && goodUnions S T && goodAlternates T && goodReturns T
+    && goodNames S T && distinctNames S T && goodChains S T && goodUnions S T && goodAlternates S T && goodReturns S T

@@ -1,7 +1,7 @@
 -- Demand 2 of the running call: whatever comes as schema S and lent words `old`, of the answer r and the words `new` that `compile_schema` gives.
 -- The contract of the call is the answer's definition; of that the rules crate has proved each part.
 use Prim.Native.Nat.{ℕ, _*_}
-use mathlib.Core.Path.{_≡_, sym, ap, _∙_, subst, subst₂}
+use mathlib.Core.Path.{_≡_, ap, _∙_, subst, subst₂}
 use mathlib.Core.Bool.{true}
 use mathlib.Core.List.{List}
 use lib.ListN.{length, take}
@@ -10,7 +10,7 @@ use Rattle.rules.specs.declared.SchemaAnswer.{SchemaAnswer}
 use Rattle.rules.specs.declared.SchemaAnswer.the-variants.{Accepted}
 use Rattle.rules.specs.Sound.{sound}
 use Rattle.rules.specs.SchemaAnswers.{SchemaOutcome}
-use Rattle.rules.specs.Answers.{SchemaResult, schemaResult}
+use Rattle.rules.specs.Answers.{SchemaResult}
 use Rattle.rules.proofs.SchemaOutcome.{schema-outcome}
 use Rattle.rules.proofs.AcceptedSound.{accepted-rows}
 use Rattle.schema.specs.Stages.{Compiles}

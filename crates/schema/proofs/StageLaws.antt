@@ -1,24 +1,24 @@
--- From one number to the next: a test that passes gives the refusal, one that fails leaves the outcome to the numbers after it.
+-- From one refusal to the next: a test that passes gives the refusal, one that fails leaves the outcome to those after it.
+-- A stage begins with the refusal that its contract names; that another one is the next is told by their ranks.
 use Prim.Native.Nat.{ℕ, zero, suc, _-_, _/_, _≤_, _<_}
 use native.Mathlib.Omega.{arith}
 use mathlib.Core.Path.{_≡_, refl, sym, ap, _∙_, subst}
 use mathlib.Core.Bool.{Bool, true, false, not}
 use mathlib.Core.List.{List, [], _∷_, _++_}
-use mathlib.Core.Option.{Option, some}
 use lib.Dec.{ltb}
 use lib.ListN.{length, drop, replicate}
 use borrow.Author.Tests.{lt-ltb, le-ltb}
 use Rattle.grammar.specs.Limits.{table-rows, row-words}
-use Rattle.grammar.specs.Tree.{Items}
 use Rattle.rules.specs.declared.SchemaRefusal.{SchemaRefusal}
-use Rattle.rules.specs.declared.SchemaRefusal.the-variants.{UnknownName, TooManyRows, NoRoom}
+use Rattle.rules.specs.declared.SchemaRefusal.the-variants.{UnknownName, BadChain, TooManyRows, NoRoom}
 use Rattle.rules.specs.declared.SchemaAnswer.{SchemaAnswer}
 use Rattle.rules.specs.declared.SchemaAnswer.the-variants.{Accepted, Refused}
-use Rattle.rules.specs.Definitions.{Definition}
 use Rattle.rules.specs.Rows.{rowCount}
 use Rattle.rules.specs.Rules.{is}
 use Rattle.rules.specs.SchemaTable.{table}
-use Rattle.rules.specs.Answers.{SchemaResult, schemaRefusals, first, schemaTest, tableIn, schemaAnswered}
+use Rattle.rules.specs.SchemaAnswers.{schemaRefusals, rank}
+use Rattle.rules.specs.Answers.{schemaTest}
+use Rattle.rules.proofs.SchemaOutcome.{from-rank}
 use Rattle.schema.specs.Stages.{objects, written, resultBy, Answered, Zero, IsTable, Refers}
 
 abbrev pub test : List ℕ → ℕ → SchemaRefusal → Bool
@@ -34,60 +34,63 @@ zeros-left zero (suc m) = let e : zero ≡ zero - suc m = omega arith in ap (λ 
 zeros-left (suc n) zero = let e : suc n ≡ suc n - zero = omega arith in ap (λ (i : ℕ). replicate i 0) e
 zeros-left (suc n) (suc m) = let e : n - m ≡ suc n - suc m = omega arith in zeros-left n m ∙ ap (λ (i : ℕ). replicate i 0) e
 
--- 7 is told by whether every name found its row
+-- an unknown name is told by whether every name found its row
 known : {S T : List ℕ} (room : ℕ) → IsTable S T → {found : Bool} → Refers S found → test S room UnknownName ≡ not found
 known room h f = rw (h .are) (ap not (sym (f .told (h .ds) (h .are))))
 
 module _ {S old : List ℕ} where
-  -- the number x is the next one; its test passes
-  pub stop : (k : ℕ) (x : SchemaRefusal) (xs : List SchemaRefusal) → drop k schemaRefusals ≡ x ∷ xs → test S (length old) x ≡ true → Zero old → Answered S k old old (Refused x)
+  -- the test of a refusal passes
+  pub stop : (x : SchemaRefusal) → test S (length old) x ≡ true → Zero old → Answered S x old old (Refused x)
   unfolding resultBy
-  stop k x xs p t z = record { told = rw p (rw t (ap (λ (w : List ℕ). record { answer = Refused x; words = w }) (sym (z .told)))) }
+  stop x t z = record { told = rw (from-rank x) (rw t (ap (λ (w : List ℕ). record { answer = Refused x; words = w }) (sym (z .told)))) }
 
-  -- its test fails
-  pub on : {new : List ℕ} {r : SchemaAnswer} (k m : ℕ) (x : SchemaRefusal) → drop k schemaRefusals ≡ x ∷ drop m schemaRefusals → test S (length old) x ≡ false
-      → Answered S m old new r → Answered S k old new r
+  -- it fails, and the outcome is that by the refusals after it
+  past : {new : List ℕ} {r : SchemaAnswer} (x : SchemaRefusal) → test S (length old) x ≡ false
+      → resultBy S (length old) (drop (suc (rank x)) schemaRefusals) ≡ record { answer = r; words = new } → Answered S x old new r
   unfolding resultBy
-  on k m x p t a = record { told = rw p (rw t (a .told)) }
+  past x t e = record { told = rw (from-rank x) (rw t e) }
+
+  pub on : {new : List ℕ} {r : SchemaAnswer} (x : SchemaRefusal) {y : SchemaRefusal} → rank y ≡ suc (rank x) → test S (length old) x ≡ false → Answered S y old new r → Answered S x old new r
+  on x p t a = past x t (rw (← p) (a .told))
 
   module _ {T : List ℕ} (h : IsTable S T) where
     -- a rule is broken, or kept
-    pub broken : (k : ℕ) (x : SchemaRefusal) (xs : List SchemaRefusal) (P : List ℕ → Bool) → drop k schemaRefusals ≡ x ∷ xs
-        → test S (length old) x ≡ is (written S) (λ d. not (P (table S d))) → Zero old → P T ≡ false → Answered S k old old (Refused x)
-    broken k x xs P p q z e = stop k x xs p (q ∙ of-table h (λ T. not (P T)) ∙ rw e) z
+    pub broken : (x : SchemaRefusal) (P : List ℕ → Bool) → test S (length old) x ≡ is (written S) (λ d. not (P (table S d))) → Zero old → P T ≡ false → Answered S x old old (Refused x)
+    broken x P q z e = stop x (q ∙ of-table h (λ T. not (P T)) ∙ rw e) z
 
-    pub kept : {new : List ℕ} {r : SchemaAnswer} (k m : ℕ) (x : SchemaRefusal) (P : List ℕ → Bool) → drop k schemaRefusals ≡ x ∷ drop m schemaRefusals
-        → test S (length old) x ≡ is (written S) (λ d. not (P (table S d))) → P T ≡ true → Answered S m old new r → Answered S k old new r
-    kept k m x P p q e a = on k m x p (q ∙ of-table h (λ T. not (P T)) ∙ rw e) a
+    pub kept : {new : List ℕ} {r : SchemaAnswer} (x : SchemaRefusal) {y : SchemaRefusal} (P : List ℕ → Bool) → rank y ≡ suc (rank x)
+        → test S (length old) x ≡ is (written S) (λ d. not (P (table S d))) → P T ≡ true → Answered S y old new r → Answered S x old new r
+    kept x P p q e a = on x p (q ∙ of-table h (λ T. not (P T)) ∙ rw e) a
 
-    -- 7: whether every name found its row
-    pub unknown : {found : Bool} → Refers S found → Zero old → found ≡ false → Answered S 6 old old (Refused UnknownName)
-    unknown f z e = stop 6 UnknownName _ refl (known (length old) h f ∙ ap not e) z
+    -- whether every name found its row
+    pub unknown : {found : Bool} → Refers S found → Zero old → found ≡ false → Answered S UnknownName old old (Refused UnknownName)
+    unknown f z e = stop UnknownName (known (length old) h f ∙ ap not e) z
 
-    pub all-known : {new : List ℕ} {r : SchemaAnswer} {found : Bool} → Refers S found → found ≡ true → Answered S 7 old new r → Answered S 6 old new r
-    all-known f e a = on 6 7 UnknownName refl (known (length old) h f ∙ ap not e) a
+    pub all-known : {new : List ℕ} {r : SchemaAnswer} {found : Bool} → Refers S found → found ≡ true → Answered S BadChain old new r → Answered S UnknownName old new r
+    unfolding rank
+    all-known f e a = on UnknownName refl (known (length old) h f ∙ ap not e) a
 
-    -- 12 and 13
-    pub too-many : Zero old → table-rows < rowCount T → Answered S 11 old old (Refused TooManyRows)
-    too-many z e = stop 11 TooManyRows _ refl (of-table h (λ T. ltb table-rows (rowCount T)) ∙ lt-ltb table-rows (rowCount T) e) z
+    -- whether there are too many rows, and whether there is room
+    pub too-many : Zero old → table-rows < rowCount T → Answered S TooManyRows old old (Refused TooManyRows)
+    too-many z e = stop TooManyRows (of-table h (λ T. ltb table-rows (rowCount T)) ∙ lt-ltb table-rows (rowCount T) e) z
 
-    not-many : {new : List ℕ} {r : SchemaAnswer} → rowCount T ≤ table-rows → Answered S 12 old new r → Answered S 11 old new r
-    not-many e a = on 11 12 TooManyRows refl (of-table h (λ T. ltb table-rows (rowCount T)) ∙ le-ltb table-rows (rowCount T) e) a
+    not-many : {new : List ℕ} {r : SchemaAnswer} → rowCount T ≤ table-rows → Answered S NoRoom old new r → Answered S TooManyRows old new r
+    unfolding rank
+    not-many e a = on TooManyRows refl (of-table h (λ T. ltb table-rows (rowCount T)) ∙ le-ltb table-rows (rowCount T) e) a
 
-    pub no-room : Zero old → rowCount T ≤ table-rows → length old / row-words < rowCount T → Answered S 11 old old (Refused NoRoom)
-    no-room z e f = not-many e (stop 12 NoRoom _ refl (of-table h (λ T. ltb (length old / row-words) (rowCount T)) ∙ lt-ltb (length old / row-words) (rowCount T) f) z)
+    pub no-room : Zero old → rowCount T ≤ table-rows → length old / row-words < rowCount T → Answered S TooManyRows old old (Refused NoRoom)
+    no-room z e f = not-many e (stop NoRoom (of-table h (λ T. ltb (length old / row-words) (rowCount T)) ∙ lt-ltb (length old / row-words) (rowCount T) f) z)
 
-    all-kept : {new : List ℕ} → Zero old → new ≡ T ++ drop (length T) old → Answered S 13 old new (Accepted (rowCount T))
+    -- no refusal is left
+    unrefused : {new : List ℕ} → Zero old → new ≡ T ++ drop (length T) old → resultBy S (length old) [] ≡ record { answer = Accepted (rowCount T); words = new }
     unfolding resultBy
-    all-kept {new} z e =
-        record {
-          told =
-              rw (h .are, sym (h .rows)) (ap (λ (w : List ℕ). record { answer = Accepted (rowCount T); words = w })
-              (ap (λ (w : List ℕ). T ++ w) (sym (ap (drop (length T)) (z .told) ∙ zeros-left (length old) (length T))) ∙ sym e));
-        }
+    unrefused {new} z e =
+        rw (h .are, sym (h .rows)) (ap (λ (w : List ℕ). record { answer = Accepted (rowCount T); words = w })
+        (ap (λ (w : List ℕ). T ++ w) (sym (ap (drop (length T)) (z .told) ∙ zeros-left (length old) (length T))) ∙ sym e))
 
     pub handed : {new : List ℕ} {n : ℕ} → Zero old → rowCount T ≤ table-rows → rowCount T ≤ length old / row-words → n ≡ rowCount T
-        → new ≡ T ++ drop (length T) old → Answered S 11 old new (Accepted n)
+        → new ≡ T ++ drop (length T) old → Answered S TooManyRows old new (Accepted n)
+    unfolding rank
     handed {new} {n} z e f p q =
-        subst (λ (i : ℕ). Answered S 11 old new (Accepted i)) (sym p)
-        (not-many e (on 12 13 NoRoom refl (of-table h (λ T. ltb (length old / row-words) (rowCount T)) ∙ le-ltb (length old / row-words) (rowCount T) f) (all-kept z q)))
+        subst (λ (i : ℕ). Answered S TooManyRows old new (Accepted i)) (sym p)
+        (not-many e (past NoRoom (of-table h (λ T. ltb (length old / row-words) (rowCount T)) ∙ le-ltb (length old / row-words) (rowCount T) f) (unrefused z q)))

@@ -1,4 +1,4 @@
--- Numbers 1 to 4: the bytes, the text, its keys, its definitions.
+-- The first refusals: the length, the text, its keys, its definitions.
 use Prim.Native.Nat.{ℕ, _-_, _*_, _≤_, _<_, _^_}
 use native.Mathlib.Omega.{arith}
 use mathlib.Core.Path.{_≡_, refl, sym, ap, _∙_, subst}
@@ -11,18 +11,18 @@ use borrow.Author.Tests.{lt-ltb, le-ltb}
 use Rattle.grammar.specs.Limits.{schema-bytes, row-words}
 use Rattle.text.specs.Nodes.{node-words}
 use Rattle.grammar.specs.Tree.{Items}
-use Rattle.grammar.specs.Keys.{keysOnceI}
 use Rattle.grammar.specs.SchemaText.{SchemaText}
-use Rattle.grammar.specs.Machine.Out.{whole, fault, deep}
-use Rattle.grammar.specs.Machine.Schema.{schema, readSchema}
+use Rattle.grammar.specs.Machine.Out.{whole}
+use Rattle.grammar.specs.Machine.Schema.{schema}
 use Rattle.grammar.proofs.Texts.{schema-complete, schema-broken, schema-too-deep}
-use Rattle.rules.specs.declared.SchemaRefusal.the-variants.{TooLong, NotText, RepeatedKey, NotDefinitions}
+use Rattle.rules.specs.declared.SchemaRefusal.the-variants.{TooLong, NotText, RepeatedKey, NotDefinitions, BadName}
 use Rattle.rules.specs.declared.SchemaAnswer.{SchemaAnswer}
 use Rattle.rules.specs.declared.SchemaAnswer.the-variants.{Refused}
 use Rattle.rules.specs.Definitions.{Definition, definitions}
 use Rattle.rules.specs.SchemaTable.{table, allRefer}
 use Rattle.rules.specs.RawTable.{rawFrom}
-use Rattle.rules.specs.Answers.{schemaRefusals, schemaResult}
+use Rattle.rules.specs.SchemaAnswers.{rank}
+use Rattle.rules.specs.Answers.{schemaResult}
 use Rattle.rules.proofs.NameSpans.{names-within}
 use Rattle.rules.proofs.CellBases.{named-bases}
 use Rattle.definitions.specs.declared.rows.Put.{Put}
@@ -55,50 +55,54 @@ module _ {S : List ℕ} where
   keys-test room t k = rw (text-objects (t .text)) (ap not (sym (k .told (t .js) _ (t .holds))))
 
   -- the lent words are cleared first
-  pub compiled : {old mid new : List ℕ} {r : SchemaAnswer} → length mid ≡ length old → Answered S 0 mid new r → Compiles S old new r
-  unfolding resultBy written objects schemaResult
+  pub compiled : {old mid new : List ℕ} {r : SchemaAnswer} → length mid ≡ length old → Answered S TooLong mid new r → Compiles S old new r
+  unfolding resultBy written objects schemaResult rank
   compiled {old} {mid} {new} {r} e a = record { told = subst (λ (n : ℕ). schemaResult S n ≡ record { answer = r; words = new }) e (a .told) }
 
   module _ {old : List ℕ} where
-    -- 1
-    pub too-long : Zero old → schema-bytes < length S → Answered S 0 old old (Refused TooLong)
-    too-long z h = stop 0 TooLong _ refl (lt-ltb schema-bytes (length S) h) z
+    -- the length
+    pub too-long : Zero old → schema-bytes < length S → Answered S TooLong old old (Refused TooLong)
+    too-long z h = stop TooLong (lt-ltb schema-bytes (length S) h) z
 
-    pub length-on : {new : List ℕ} {r : SchemaAnswer} → length S ≤ schema-bytes → Answered S 1 old new r → Answered S 0 old new r
-    length-on h a = on 0 1 TooLong refl (le-ltb schema-bytes (length S) h) a
+    pub length-on : {new : List ℕ} {r : SchemaAnswer} → length S ≤ schema-bytes → Answered S NotText old new r → Answered S TooLong old new r
+    unfolding rank
+    length-on h a = on TooLong refl (le-ltb schema-bytes (length S) h) a
 
-    -- 2
-    no-objects : Zero old → objects S ≡ none → Answered S 1 old old (Refused NotText)
-    no-objects z e = stop 1 NotText _ refl (rw e) z
+    -- the text
+    no-objects : Zero old → objects S ≡ none → Answered S NotText old old (Refused NotText)
+    no-objects z e = stop NotText (rw e) z
 
-    pub faulty : {v w : List ℕ} {x : Text} {e : ℕ} → Zero old → ReadsSchema S v w x → x ≡ Texts.Fault e → Answered S 1 old old (Refused NotText)
+    pub faulty : {v w : List ℕ} {x : Text} {e : ℕ} → Zero old → ReadsSchema S v w x → x ≡ Texts.Fault e → Answered S NotText old old (Refused NotText)
     unfolding objects
     faulty {w = w} z h p = no-objects z (rw (schema-broken (subst (λ (y : Text). SchemaTold S w y) p (h .told))) refl)
 
-    pub deeper : {v w : List ℕ} {x : Text} {e : ℕ} → Zero old → ReadsSchema S v w x → x ≡ Texts.Deep e → Answered S 1 old old (Refused NotText)
+    pub deeper : {v w : List ℕ} {x : Text} {e : ℕ} → Zero old → ReadsSchema S v w x → x ≡ Texts.Deep e → Answered S NotText old old (Refused NotText)
     unfolding objects
     deeper {w = w} z h p = no-objects z (rw (schema-too-deep (subst (λ (y : Text). SchemaTold S w y) p (h .told))) refl)
 
-    pub never : {v w : List ℕ} {x : Text} {r : SchemaAnswer} → length S ≤ schema-bytes → ReadsSchema S v w x → x ≡ Texts.TooLong → Answered S 1 old old r
+    pub never : {v w : List ℕ} {x : Text} {r : SchemaAnswer} → length S ≤ schema-bytes → ReadsSchema S v w x → x ≡ Texts.TooLong → Answered S NotText old old r
     never {w = w} h t p = let z : 2 ^ 31 ≤ length S = subst (λ (y : Text). SchemaTold S w y) p (t .told) in absurd (omega arith)
 
     module _ {w : List ℕ} {count : ℕ} (t : TextRead S w count) where
-      pub text-on : {new : List ℕ} {r : SchemaAnswer} → Answered S 2 old new r → Answered S 1 old new r
-      text-on a = on 1 2 NotText refl (rw (text-objects (t .text))) a
+      pub text-on : {new : List ℕ} {r : SchemaAnswer} → Answered S RepeatedKey old new r → Answered S NotText old new r
+      unfolding rank
+      text-on a = on NotText refl (rw (text-objects (t .text))) a
 
-      -- 3
-      pub repeated : {b : Bool} → Zero old → KeysOnce schema S w count b → b ≡ false → Answered S 2 old old (Refused RepeatedKey)
-      repeated z k e = stop 2 RepeatedKey _ refl (keys-test (length old) t k ∙ ap not e) z
+      -- its keys
+      pub repeated : {b : Bool} → Zero old → KeysOnce schema S w count b → b ≡ false → Answered S RepeatedKey old old (Refused RepeatedKey)
+      repeated z k e = stop RepeatedKey (keys-test (length old) t k ∙ ap not e) z
 
-      pub keys-on : {b : Bool} {new : List ℕ} {r : SchemaAnswer} → KeysOnce schema S w count b → b ≡ true → Answered S 3 old new r → Answered S 2 old new r
-      keys-on k e a = on 2 3 RepeatedKey refl (keys-test (length old) t k ∙ ap not e) a
+      pub keys-on : {b : Bool} {new : List ℕ} {r : SchemaAnswer} → KeysOnce schema S w count b → b ≡ true → Answered S NotDefinitions old new r → Answered S RepeatedKey old new r
+      unfolding rank
+      keys-on k e a = on RepeatedKey refl (keys-test (length old) t k ∙ ap not e) a
 
-      -- 4
-      pub no-definitions : Zero old → definitions (t .js) ≡ none → Answered S 3 old old (Refused NotDefinitions)
-      no-definitions z e = stop 3 NotDefinitions _ refl (rw (text-objects (t .text), text-written (t .text) ∙ e)) z
+      -- its definitions
+      pub no-definitions : Zero old → definitions (t .js) ≡ none → Answered S NotDefinitions old old (Refused NotDefinitions)
+      no-definitions z e = stop NotDefinitions (rw (text-objects (t .text), text-written (t .text) ∙ e)) z
 
-      pub definitions-on : {ds : List Definition} {new : List ℕ} {r : SchemaAnswer} → definitions (t .js) ≡ some ds → Answered S 4 old new r → Answered S 3 old new r
-      definitions-on e a = on 3 4 NotDefinitions refl (rw (text-objects (t .text), text-written (t .text) ∙ e)) a
+      pub definitions-on : {ds : List Definition} {new : List ℕ} {r : SchemaAnswer} → definitions (t .js) ≡ some ds → Answered S BadName old new r → Answered S NotDefinitions old new r
+      unfolding rank
+      definitions-on e a = on NotDefinitions refl (rw (text-objects (t .text), text-written (t .text) ∙ e)) a
 
 -- resolved rows are the table
 module _ {S raw new : List ℕ} {found : Bool} (w : RawRows S raw) (r : Resolves S raw new found) where

@@ -1,4 +1,4 @@
--- Serves contracts: the outcome of a schema from one of the paper's numbers on, where no lower one applies.
+-- Serves contracts: the outcome of a schema from one refusal on, where none before it applies.
 use Prim.Native.Nat.{ℕ, _*_, _/_, _≤_}
 use mathlib.Core.Path.{_≡_}
 use mathlib.Core.Bool.{Bool}
@@ -15,7 +15,8 @@ use Rattle.rules.specs.Values.{_>>=_}
 use Rattle.rules.specs.Definitions.{Definition, definitions}
 use Rattle.rules.specs.SchemaTable.{table, allRefer}
 use Rattle.rules.specs.RawTable.{rawFrom}
-use Rattle.rules.specs.Answers.{SchemaResult, schemaRefusals, first, objectsIn, schemaTest, tableIn, schemaAnswered, schemaResult}
+use Rattle.rules.specs.SchemaAnswers.{schemaRefusals, rank}
+use Rattle.rules.specs.Answers.{SchemaResult, first, objectsIn, schemaTest, tableIn, schemaAnswered, schemaResult}
 use Rattle.text.specs.Nodes.{HoldsItems}
 
 -- A node takes at least two bytes of the schema, and a row a node of its own.
@@ -32,13 +33,13 @@ objects S = objectsIn (readSchema S)
 unfoldable pub written : List ℕ → Option (List Definition)
 written S = objects S >>= definitions
 
--- the outcome by the numbers xs alone
+-- the outcome by the refusals xs alone
 unfoldable pub resultBy : List ℕ → ℕ → List SchemaRefusal → SchemaResult
 resultBy S room xs = schemaAnswered S room (tableIn S room (written S)) (first (schemaTest S room (objects S) (written S)) xs)
 
--- the answer and the lent words are the outcome by the numbers after the first k
-pub record Answered (S : List ℕ) (k : ℕ) (old new : List ℕ) (r : SchemaAnswer) : Type 0 where
-  pub told : resultBy S (length old) (drop k schemaRefusals) ≡ record { answer = r; words = new }
+-- the answer and the lent words are the outcome by the refusals from x on
+pub record Answered (S : List ℕ) (x : SchemaRefusal) (old new : List ℕ) (r : SchemaAnswer) : Type 0 where
+  pub told : resultBy S (length old) (drop (rank x) schemaRefusals) ≡ record { answer = r; words = new }
 
 -- words that are all zero
 pub record Zero (w : List ℕ) : Type 0 where

@@ -1,4 +1,4 @@
-// The stages of the compile call, from the table on: each number is judged over the whole schema before the next.
+// The stages of the compile call, from the table on: each rule is judged over the whole schema before the next.
 use rows::marks::put_marks;
 use rules::ROW_WORDS;
 use rules::SchemaAnswer;
@@ -15,12 +15,13 @@ ghost use Prim.Native.Nat.{_*_, _≤_, _<_, _^_};
 ghost use lib.ListN.{length};
 ghost use Rattle.grammar.specs.Limits.{row-words};
 ghost use Rattle.rows.specs.Marks.{Marks};
+ghost use Rattle.rules.specs.declared.SchemaRefusal.the-variants.{BadName, BadChain, TooManyRows};
 ghost use Rattle.schema.specs.Stages.{Answered, Zero, IsTable, Refers};
 
-// Numbers 12 and 13, and the lent rows.
-fn hand_over(table: &[u32], rows: &mut [u32], schema: &[u8]) -> SchemaAnswer
+// Whether the rows are not too many and fit the lent ones, which then get the table.
+fn judge_room(table: &[u32], rows: &mut [u32], schema: &[u8]) -> SchemaAnswer
     requires { ⌜ (length (now table) < 2 ^ 32) × Zero (now rows) × IsTable (now schema) (now table) ⌝ }
-    ensures { λ r. ⌜ Answered (now (schema .entry)) 11 (now (rows .entry)) (now (rows .exit)) r ⌝ }
+    ensures { λ r. ⌜ Answered (now (schema .entry)) TooManyRows (now (rows .entry)) (now (rows .exit)) r ⌝ }
 {
     let n = table.len() / ROW_WORDS;
     if TABLE_ROWS < n {
@@ -33,10 +34,10 @@ fn hand_over(table: &[u32], rows: &mut [u32], schema: &[u8]) -> SchemaAnswer
     SchemaAnswer::Accepted(n)
 }
 
-// Numbers 8 to 11.
+// The rules on chains, unions, alternates and returns.
 fn judge_definitions(schema: &[u8], table: &[u32], marks: &[u32], rows: &mut [u32]) -> SchemaAnswer
     requires { ⌜ (length (now table) < 2 ^ 32) × Zero (now rows) × IsTable (now schema) (now table) × Marks (now schema) (now table) (now marks) ⌝ }
-    ensures { λ r. ⌜ Answered (now (schema .entry)) 7 (now (rows .entry)) (now (rows .exit)) r ⌝ }
+    ensures { λ r. ⌜ Answered (now (schema .entry)) BadChain (now (rows .entry)) (now (rows .exit)) r ⌝ }
 {
     if !good_chains(schema, table, marks) {
         return SchemaAnswer::Refused(SchemaRefusal::BadChain);
@@ -44,17 +45,17 @@ fn judge_definitions(schema: &[u8], table: &[u32], marks: &[u32], rows: &mut [u3
     if !good_unions(schema, table, marks) {
         return SchemaAnswer::Refused(SchemaRefusal::BadUnion);
     }
-    if !good_alternates(table) {
+    if !good_alternates(schema, table) {
         return SchemaAnswer::Refused(SchemaRefusal::BadAlternate);
     }
-    if !good_returns(table) {
+    if !good_returns(schema, table) {
         return SchemaAnswer::Refused(SchemaRefusal::BadReturn);
     }
-    hand_over(table, rows, schema)
+    judge_room(table, rows, schema)
 }
 
-// Numbers 5 to 7; `found` says whether every name that refers found its row. The marks and the links lend a word for each row.
-pub fn judge(
+// The rules on names: good, distinct, and known, which `found` tells of those that refer. The marks and the links lend a word for each row.
+pub fn judge_names(
     schema: &[u8],
     table: &[u32],
     marks: &mut [u32],
@@ -63,7 +64,7 @@ pub fn judge(
     rows: &mut [u32],
 ) -> SchemaAnswer
     requires { ⌜ (length (now table) < 2 ^ 32) × (length (now table) ≤ row-words * length (now links)) × (length (now links) < 2 ^ 32) × Zero (now rows) × IsTable (now schema) (now table) × Refers (now schema) found ⌝ }
-    ensures { λ r. ⌜ Answered (now (schema .entry)) 4 (now (rows .entry)) (now (rows .exit)) r ⌝ }
+    ensures { λ r. ⌜ Answered (now (schema .entry)) BadName (now (rows .entry)) (now (rows .exit)) r ⌝ }
 {
     if !good_names(schema, table) {
         return SchemaAnswer::Refused(SchemaRefusal::BadName);

@@ -9,16 +9,19 @@ use mathlib.Core.Option.{Option, none, some}
 use native.Mathlib.Omega.{arith}
 use lib.Dec.{eqb}
 use Rattle.grammar.specs.Limits.{chain-structs}
-use Rattle.grammar.specs.Notation.{all, same}
-use Rattle.rules.specs.Names.{sameName}
+use Rattle.grammar.specs.Notation.{all}
+use Rattle.rules.specs.Names.{sameName, clash}
 use Rattle.rules.specs.Rows.{base, walk, children, members, after, nameOf}
 use Rattle.rules.specs.Rules.{any, is, namesOf, noClash, base-structs, chainFits}
 use Rattle.rules.proofs.Lists.{none-not-some, is-true}
+use Rattle.rules.proofs.Clashes.{fresh}
 use Rattle.rows.specs.Rows.{First, Counted}
-use Rattle.rows.specs.Marks.{freshOf, runsApart}
-use Rattle.table.specs.Chains.{chainEnds, hasChild, hasMember, isMember, listsApart, childrenNew, membersNew}
-use Rattle.rows.proofs.ListLaws.{all-map, all-map-append, any-map-append, any-append, all-same, all-true, all-both, not-any, not-not, not-or, no-clash-is, is-guard}
-use Rattle.rows.proofs.ChildLaws.{children-walk}
+use Rattle.table.specs.declared.chains.Against.{Against}
+use Rattle.table.specs.declared.chains.Against.the-variants.{Children, Members}
+use Rattle.table.specs.Chains.{chainEnds, hasChild, isMember, listsApart, everyStruct, ownApart, membersApart}
+use Rattle.rows.proofs.ListLaws.{any-map, all-map-append, any-append, all-same, all-true, all-both, is-guard}
+use Rattle.rows.proofs.LoopLaws.{AnyWalk}
+use Rattle.rows.proofs.ChildLaws.{children-walk, any-children}
 
 -- a walk by structs left and link: `none` at link 0, `out` where no struct is left, and `on` of the walk from the base and the struct's row
 pub record Walk (T : List ℕ) (f : ℕ → ℕ → Bool) (none out : Bool) (on : Bool → ℕ → Bool) : Type 0 where
@@ -41,10 +44,15 @@ module _ {T : List ℕ} {f : ℕ → ℕ → Bool} {none out : Bool} {on : Bool 
       let m : n ≡ suc (n - 1) = omega arith in
       sym (ap₂ f m s ∙ w .at-struct (n - 1) (l - 1) ∙ ap (λ (t : Bool). on t (l - 1)) (ap (f (n - 1)) (sym e) ∙ sym p))
 
--- where the members are found, a walk that joins what is asked of each struct's own children asks it of the members
-module _ {T : List ℕ} {f : ℕ → ℕ → Bool} {start out : Bool} (ask : List ℕ → Bool) (join : Bool → Bool → Bool)
-    (ask-none : ask [] ≡ start) (ask-append : (a b : List ℕ) → ask (a ++ b) ≡ join (ask a) (ask b)) where
-  pub walk-members : Walk T f start out (λ b r. join b (ask (children T r))) → (n l : ℕ) (ms : List ℕ) → members T n l ≡ some ms → f n l ≡ ask ms
+-- how many structs one struct is judged against, up a chain
+abbrev pub structsOf : Against → ℕ
+structsOf (Children r) = 0
+structsOf (Members link) = chain-structs
+
+-- where the members are found, a walk that joins what is told of each struct, which is what is asked of its own children, asks it of the members
+module _ {T : List ℕ} {f : ℕ → ℕ → Bool} {start out : Bool} {told : ℕ → Bool} (ask : List ℕ → Bool) (join : Bool → Bool → Bool)
+    (ask-none : ask [] ≡ start) (ask-append : (a b : List ℕ) → ask (a ++ b) ≡ join (ask a) (ask b)) (own : (r : ℕ) → told r ≡ ask (children T r)) where
+  pub walk-members : Walk T f start out (λ b r. join b (told r)) → (n l : ℕ) (ms : List ℕ) → members T n l ≡ some ms → f n l ≡ ask ms
   unfolding members
   walk-members w zero zero ms e = let z : ms ≡ [] = cc in rw z (w .at-none 0 ∙ sym ask-none)
   walk-members w zero (suc r) ms e = none-not-some e
@@ -52,9 +60,9 @@ module _ {T : List ℕ} {f : ℕ → ℕ → Bool} {start out : Bool} (ask : Lis
   walk-members w (suc n) (suc r) ms e = w .at-struct n r ∙ go (members T n (base T r)) refl e (walk-members w n (base T r))
     where
       go : (o : Option (List ℕ)) → members T n (base T r) ≡ o → after o (children T r) ≡ some ms
-          → ((ns : List ℕ) → members T n (base T r) ≡ some ns → f n (base T r) ≡ ask ns) → join (f n (base T r)) (ask (children T r)) ≡ ask ms
+          → ((ns : List ℕ) → members T n (base T r) ≡ some ns → f n (base T r) ≡ ask ns) → join (f n (base T r)) (told r) ≡ ask ms
       go none p q k = none-not-some q
-      go (some ns) p q k = let z : ms ≡ ns ++ children T r = cc in rw (z, k ns p) (sym (ask-append ns (children T r)))
+      go (some ns) p q k = let z : ms ≡ ns ++ children T r = cc in rw (z, k ns p, own r) (sym (ask-append ns (children T r)))
 
 -- the chain ends exactly where there are members
 module _ (T : List ℕ) where
@@ -79,85 +87,63 @@ module _ (T : List ℕ) where
     λ m. ends-is n l ∙ ap (λ (o : Option (List ℕ)). is o (λ _. true)) (m .1),
   )
 
--- children and members by name
+-- names of children and of members
 module _ (S T : List ℕ) where
-  -- the children of row r are the n rows from a on
-  module _ {r a n : ℕ} (p : First T r a) (q : Counted T r n) where
-    fresh-child : (x : List ℕ) → freshOf S T x a n ≡ not (hasChild S T r x)
-    unfolding hasChild
-    fresh-child x = rw (children-walk p q) (sym (not-any (sameName x) (namesOf S T (walk T a n))))
-
-    pub has-child-of : {b : Bool} (c : ℕ) → b ≡ freshOf S T (nameOf S T c) a n → not b ≡ hasChild S T r (nameOf S T c)
-    has-child-of c e = rw (e, fresh-child (nameOf S T c)) (not-not (hasChild S T r (nameOf S T c)))
-
-    -- and those of row s the m rows from b on
-    pub lists-apart-of : {s b m : ℕ} {v : Bool} → First T s b → Counted T s m → v ≡ runsApart S T b m a n → v ≡ listsApart S T r s
-    unfolding listsApart runsApart
-    lists-apart-of {s} x y e =
-        e ∙ rw (← children-walk x y)
-        (all-same (λ i. freshOf S T (nameOf S T i) a n) (λ i. not (hasChild S T r (nameOf S T i))) (children T s) (λ i. fresh-child (nameOf S T i))
-        ∙ sym (all-map (nameOf S T) (λ y. not (hasChild S T r y)) (children T s)))
-
-  pub has-member-walk : (x : List ℕ) → Walk T (λ n l. hasMember S T n l x) false false (λ b r. b || hasChild S T r x)
-  unfolding hasMember
-  has-member-walk x = record { at-none = elim [ zero ↦ refl | suc n ↦ refl ]; at-out = λ r. refl; at-struct = λ n r. refl }
-
-  pub has-member-is : (n l : ℕ) (x : List ℕ) (ms : List ℕ) → members T n l ≡ some ms → hasMember S T n l x ≡ any (sameName x) (namesOf S T ms)
+  -- a loop over the children of row r, which are the n rows from a on, for the name of row c
+  pub has-child-walk : {r a n : ℕ} → First T r a → Counted T r n → (x : List ℕ) → AnyWalk (hasChild S T r x) T (λ i. sameName x (nameOf S T i)) a n
   unfolding hasChild
-  has-member-is n l x ms e = walk-members (λ rs. any (sameName x) (namesOf S T rs)) _||_ refl (any-map-append (nameOf S T) (sameName x)) (has-member-walk x) n l ms e
+  has-child-walk {r} p q x = any-children p q (λ i. sameName x (nameOf S T i)) (any-map (nameOf S T) (sameName x) (children T r))
 
-  -- children that are new, and members
-  pub children-new-walk : (r : ℕ) → Walk T (λ n l. childrenNew S T n l r) true true (λ b s. b && listsApart S T s r)
-  unfolding childrenNew listsApart hasMember
-  children-new-walk r = record {
-    at-none = elim [ zero ↦ none | suc n ↦ none ];
-    at-out = λ _. none;
-    at-struct = λ n s.
-        all-same (λ x. not (hasMember S T n (base T s) x || hasChild S T s x)) (λ x. not (hasMember S T n (base T s) x) && not (hasChild S T s x)) names
-        (λ x. not-or (hasMember S T n (base T s) x) (hasChild S T s x))
-        ∙ all-both (λ x. not (hasMember S T n (base T s) x)) (λ x. not (hasChild S T s x)) names;
-  }
-    where
-      names : List (List ℕ)
-      names = namesOf S T (children T r)
+  pub named-child : (c i : ℕ) {x : List ℕ} {b : Bool} → b ≡ sameName x (nameOf S T i) → x ≡ nameOf S T c → b ≡ sameName (nameOf S T c) (nameOf S T i)
+  named-child c i e q = e ∙ ap (λ y. sameName y (nameOf S T i)) q
 
-      none : all (λ x. true) (namesOf S T (children T r)) ≡ true
-      none = all-true (λ x. true) (namesOf S T (children T r)) (λ x. refl)
+  -- two lists of children as runs of rows
+  pub lists-apart-of : {s r a m b n : ℕ} {v : Bool} → First T s a → Counted T s m → First T r b → Counted T r n
+      → v ≡ noClash (namesOf S T (walk T a m)) (namesOf S T (walk T b n)) → v ≡ listsApart S T s r
+  lists-apart-of p q p′ q′ e = e ∙ rw (← children-walk p q, ← children-walk p′ q′)
 
-  pub members-new-walk : (other : ℕ) → Walk T (λ n l. membersNew S T n l other) true true (λ b r. b && childrenNew S T chain-structs other r)
-  unfolding membersNew
-  members-new-walk other = record { at-none = elim [ zero ↦ refl | suc n ↦ refl ]; at-out = λ r. refl; at-struct = λ n r. refl }
+  pub members-apart-walk : (others : Against) → Walk T (membersApart S T others) true true (λ b s. b && ownApart S T others s)
+  unfolding membersApart everyStruct
+  members-apart-walk others = record { at-none = elim [ zero ↦ refl | suc n ↦ refl ]; at-out = λ r. refl; at-struct = λ n r. refl }
 
-  -- where the other struct's members are found
-  module _ (n other : ℕ) (ms : List ℕ) (e : members T n other ≡ some ms) where
-    names-new : (xs : List (List ℕ)) → all (λ x. not (hasMember S T n other x)) xs ≡ noClash (namesOf S T ms) xs
-    names-new xs =
-        all-same (λ x. not (hasMember S T n other x)) (λ x. not (any (same x) (namesOf S T ms))) xs (λ x. ap not (has-member-is n other x ms e))
-        ∙ no-clash-is (namesOf S T ms) xs
+  -- where the members of both sides are found
+  pub children-apart-is : (r n l : ℕ) (ms : List ℕ) → members T n l ≡ some ms → membersApart S T (Children r) n l ≡ noClash (namesOf S T ms) (namesOf S T (children T r))
+  children-apart-is r n l ms e =
+      let clear : List ℕ → Bool = λ x. fresh x (namesOf S T (children T r)) in
+      walk-members (λ rs. all clear (namesOf S T rs)) _&&_ refl (all-map-append (nameOf S T) clear) (λ s. refl) (members-apart-walk (Children r)) n l ms e
 
-    pub children-new-is : (r : ℕ) → childrenNew S T n other r ≡ noClash (namesOf S T ms) (namesOf S T (children T r))
-    unfolding childrenNew
-    children-new-is r = names-new (namesOf S T (children T r))
+  no-clash-append : (xs : List (List ℕ)) (a b : List ℕ) → noClash xs (namesOf S T (a ++ b)) ≡ noClash xs (namesOf S T a) && noClash xs (namesOf S T b)
+  no-clash-append xs a b =
+      all-same (λ x. fresh x (namesOf S T (a ++ b))) (λ x. fresh x (namesOf S T a) && fresh x (namesOf S T b)) xs (λ x. all-map-append (nameOf S T) (λ y. not (clash x y)) a b)
+      ∙ all-both (λ x. fresh x (namesOf S T a)) (λ x. fresh x (namesOf S T b)) xs
 
-  pub members-new-is : (n l other : ℕ) (ms bs : List ℕ) → members T chain-structs other ≡ some ms → members T n l ≡ some bs
-      → membersNew S T n l other ≡ noClash (namesOf S T ms) (namesOf S T bs)
-  unfolding childrenNew
-  members-new-is n l other ms bs e q =
-      let new : List ℕ → Bool = λ x. not (hasMember S T chain-structs other x) in
-      walk-members (λ rs. all new (namesOf S T rs)) _&&_ refl (all-map-append (nameOf S T) new) (members-new-walk other) n l bs q
-      ∙ names-new chain-structs other ms e (namesOf S T bs)
+  pub members-apart-is : (other n l : ℕ) (ms bs : List ℕ) → members T chain-structs other ≡ some ms → members T n l ≡ some bs
+      → membersApart S T (Members other) n l ≡ noClash (namesOf S T ms) (namesOf S T bs)
+  unfolding membersApart
+  members-apart-is other n l ms bs e q =
+      walk-members (λ rs. noClash (namesOf S T ms) (namesOf S T rs)) _&&_ (all-true (λ x. true) (namesOf S T ms) (λ x. refl)) (no-clash-append (namesOf S T ms))
+      (λ s. children-apart-is s chain-structs other ms e) (members-apart-walk (Members other)) n l bs q
+
+  -- one struct of a walk, by what it is judged against
+  module _ (s : ℕ) {others : Against} {v : Bool} where
+    pub own-children : {r : ℕ} → others ≡ Children r → v ≡ listsApart S T s r → v ≡ ownApart S T others s
+    own-children p e = rw p e
+
+    pub own-members : {link : ℕ} → others ≡ Members link → v ≡ membersApart S T (Children s) chain-structs link → v ≡ ownApart S T others s
+    unfolding membersApart
+    own-members p e = rw p e
 
   -- rule 8 of a row: the chain of its base ends, and no child repeats a member of it
-  pub chain-fits-is : (r : ℕ) → chainFits S T r ≡ chainEnds T base-structs (base T r) && childrenNew S T base-structs (base T r) r
+  pub chain-fits-is : (r : ℕ) → chainFits S T r ≡ chainEnds T base-structs (base T r) && membersApart S T (Children r) base-structs (base T r)
   chain-fits-is r =
       sym (rw (ends-is T base-structs (base T r))
-      (is-guard (members T base-structs (base T r)) _ (childrenNew S T base-structs (base T r) r) (λ ms e. children-new-is base-structs (base T r) ms e r)))
+      (is-guard (members T base-structs (base T r)) _ (membersApart S T (Children r) base-structs (base T r)) (λ ms e. children-apart-is r base-structs (base T r) ms e)))
 
   module _ (r : ℕ) {b : ℕ} (p : b ≡ base T r) where
     pub chain-fails : chainEnds T base-structs b ≡ false → false ≡ chainFits S T r
     chain-fails e = sym (chain-fits-is r ∙ rw (← p, e))
 
-    pub chain-holds : chainEnds T base-structs b ≡ true → {a : Bool} → a ≡ childrenNew S T base-structs b r → a ≡ chainFits S T r
+    pub chain-holds : chainEnds T base-structs b ≡ true → {a : Bool} → a ≡ membersApart S T (Children r) base-structs b → a ≡ chainFits S T r
     chain-holds e f = f ∙ sym (chain-fits-is r ∙ rw (← p, e))
 
 -- members by row
@@ -167,4 +153,4 @@ module _ (T : List ℕ) (m : ℕ) where
   is-member-walk = record { at-none = elim [ zero ↦ refl | suc n ↦ refl ]; at-out = λ r. refl; at-struct = λ n r. refl }
 
   pub is-member-is : (n l : ℕ) (ms : List ℕ) → members T n l ≡ some ms → isMember T n l m ≡ any (eqb m) ms
-  is-member-is n l ms e = walk-members (any (eqb m)) _||_ refl (any-append (eqb m)) is-member-walk n l ms e
+  is-member-is n l ms e = walk-members (any (eqb m)) _||_ refl (any-append (eqb m)) (λ r. refl) is-member-walk n l ms e

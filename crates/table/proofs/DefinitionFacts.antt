@@ -9,16 +9,17 @@ use native.Mathlib.Omega.{arith}
 use lib.Dec.{eqb}
 use lib.ListN.{length}
 use borrow.Author.Tests.{ne-eqb}
-use Rattle.grammar.specs.Notation.{same}
+use Rattle.grammar.specs.Notation.{same, all}
 use Rattle.rules.specs.Kinds.{enum-kind, value-kind, struct-kind, union-kind, branch-kind, alternate-kind, command-kind}
 use Rattle.rules.proofs.TableRows.{unnamed-struct}
-use Rattle.rules.specs.Names.{goodName}
+use Rattle.rules.specs.Types.{built-ins}
+use Rattle.rules.specs.Names.{goodName, sameName}
+use Rattle.rules.proofs.Clashes.{fresh, built-in-fresh}
 use Rattle.rules.specs.Rows.{rowCount, kind, unnamed, nameOf}
 use Rattle.rules.specs.Rules.{isDefinition, goodNames}
 use Rattle.rules.specs.SchemaTable.{placeIn, later}
 use Rattle.table.specs.Definitions.{nameFits, placeFrom}
 use Rattle.rows.proofs.Walks.{upTo, upTo-rows}
-use Rattle.rows.proofs.NameFacts.{fresh}
 use Rattle.table.proofs.LayoutFacts.{ofDefinition}
 
 -- rule 5
@@ -89,23 +90,33 @@ module _ (x : List ℕ) where
       go true r more = absurd (omega arith)
       go false r more = more r
 
-  -- a name that is none of a list clashes with none of it
-  pub fresh-of-place : (ys : List (List ℕ)) → placeIn ys x ≡ 0 → fresh x ys ≡ true
-  fresh-of-place [] e = refl
-  fresh-of-place (y ∷ ys) e = go (same x y) (placeIn ys x) refl e (fresh-of-place ys)
+  -- a name that is none of a list, or one of it
+  abbrev none-of : List (List ℕ) → Bool
+  none-of ys = all (λ y. not (sameName x y)) ys
+
+  none-by-place : (ys : List (List ℕ)) → placeIn ys x ≡ 0 → none-of ys ≡ true
+  none-by-place [] e = refl
+  none-by-place (y ∷ ys) e = go (sameName x y) (placeIn ys x) refl e (none-by-place ys)
     where
-      go : (b : Bool) (p : ℕ) → placeIn ys x ≡ p → cond b 1 (later p) ≡ 0 → (placeIn ys x ≡ 0 → fresh x ys ≡ true) → (not b && fresh x ys) ≡ true
+      go : (b : Bool) (p : ℕ) → placeIn ys x ≡ p → cond b 1 (later p) ≡ 0 → (placeIn ys x ≡ 0 → none-of ys ≡ true) → (not b && none-of ys) ≡ true
       go true p q r more = absurd (omega arith)
       go false zero q r more = more q
       go false (suc p) q r more = absurd (omega arith)
 
-  pub taken-of-place : (ys : List (List ℕ)) → (placeIn ys x ≡ 0 → ⊥) → fresh x ys ≡ false
-  taken-of-place [] h = absurd (h refl)
-  taken-of-place (y ∷ ys) h = go (same x y) h (taken-of-place ys)
+  some-by-place : (ys : List (List ℕ)) → (placeIn ys x ≡ 0 → ⊥) → none-of ys ≡ false
+  some-by-place [] h = absurd (h refl)
+  some-by-place (y ∷ ys) h = go (sameName x y) h (some-by-place ys)
     where
-      go : (b : Bool) → (cond b 1 (later (placeIn ys x)) ≡ 0 → ⊥) → ((placeIn ys x ≡ 0 → ⊥) → fresh x ys ≡ false) → (not b && fresh x ys) ≡ false
+      go : (b : Bool) → (cond b 1 (later (placeIn ys x)) ≡ 0 → ⊥) → ((placeIn ys x ≡ 0 → ⊥) → none-of ys ≡ false) → (not b && none-of ys) ≡ false
       go true k more = refl
       go false k more = more (λ e. k (ap later e))
+
+  -- built-ins clash with their own names only
+  pub new-by-place : placeIn built-ins x ≡ 0 → fresh x built-ins ≡ true
+  new-by-place e = built-in-fresh x ∙ none-by-place built-ins e
+
+  pub taken-by-place : (placeIn built-ins x ≡ 0 → ⊥) → fresh x built-ins ≡ false
+  taken-by-place h = built-in-fresh x ∙ some-by-place built-ins h
 
 -- kinds of definitions
 module _ (T : List ℕ) (r k : ℕ) (e : k ≡ kind T r) where

@@ -16,14 +16,14 @@ use Rattle.rules.specs.Names.{clash}
 use Rattle.rules.specs.Rows.{upFrom, rowCount, walk, children, nameOf}
 use Rattle.rules.specs.Rules.{those, isDefinition, namesOf, noClash, distinctNames}
 use Rattle.rules.specs.SchemaTable.{placeIn}
-use Rattle.rows.specs.Marks.{markOf}
-use Rattle.rows.specs.Index.{itself, RowIndex, freshIn, Entered}
+use Rattle.rows.specs.Marks.{markOf, freshIn}
+use Rattle.rows.specs.Index.{itself, RowIndex, Entered}
 use Rattle.table.specs.Definitions.{definitionRows, withRow, DefinitionIndex, RowEntered, clearIn, DefinitionEntered, definitionsClear, childrenApart}
 use Rattle.rows.proofs.Walks.{upFrom-on, upFrom-end, upTo, upTo-of, upTo-back, upTo-none, upTo-miss}
 use Rattle.rows.specs.Rows.{First, Counted}
 use Rattle.rows.proofs.ChildLaws.{children-walk}
-use Rattle.rows.proofs.NameFacts.{fresh}
-use Rattle.table.proofs.DefinitionFacts.{taken-of-place, fresh-of-place}
+use Rattle.rules.proofs.Clashes.{fresh}
+use Rattle.table.proofs.DefinitionFacts.{taken-by-place, new-by-place}
 use Rattle.rows.proofs.IndexLaws.{index-none, index-more}
 
 -- rows that pass a test
@@ -114,14 +114,14 @@ module _ {S T heads links : List ℕ} (r : ℕ) {d : Bool} (p : d ≡ isDefiniti
   module _ (t : d ≡ true) {x : List ℕ} {i : ℕ} (n : x ≡ nameOf S T r) (q : i ≡ placeIn built-ins x) where
     pub named-built-in : (i ≡ 0 → ⊥) → DefinitionEntered S T heads links r heads links false
     named-built-in z = record {
-      told = λ rs k f h. (rw (sym p ∙ t, taken-of-place (nameOf S T r) built-ins (λ e. z (q ∙ ap (placeIn built-ins) n ∙ e))), λ e. contradiction e refl);
+      told = λ rs k f h. (rw (sym p ∙ t, taken-by-place (nameOf S T r) (λ e. z (q ∙ ap (placeIn built-ins) n ∙ e))), λ e. contradiction e refl);
     }
 
     pub named-new : i ≡ 0 → {heads′ links′ : List ℕ} {b : Bool} → Entered S T heads links r heads′ links′ b → DefinitionEntered S T heads links r heads′ links′ b
     named-new z g = record {
       told = λ rs k f h.
           let u = g .told rs k f h in
-          (rw (sym p ∙ t, fresh-of-place (nameOf S T r) built-ins (sym (q ∙ ap (placeIn built-ins) n) ∙ z)) (u .0), λ e. rw (sym p ∙ t) (u .1 e));
+          (rw (sym p ∙ t, new-by-place (nameOf S T r) (sym (q ∙ ap (placeIn built-ins) n) ∙ z)) (u .0), λ e. rw (sym p ∙ t) (u .1 e));
     }
 
 -- rule 6 of the definitions, row by row

@@ -1,7 +1,7 @@
 -- Laws of the layout: children of the right kind, where a definition begins, what is left to lay out, and words that a kind does not use.
 -- A table falls into at most as many definitions as it has rows; each takes one row at least, so what is left always suffices.
 use Prim.Native.Nat.{ℕ, zero, suc, _+_, _-_, _*_, _≤_, _<_}
-use mathlib.Core.Path.{_≡_, refl, sym, ap, _∙_}
+use mathlib.Core.Path.{_≡_, refl, sym, _∙_}
 use mathlib.Core.Bool.{Bool, true, false, not, _&&_, _||_, and-false}
 use mathlib.Core.Logic.{⊎-elim}
 use mathlib.Core.List.{List, [], _∷_}

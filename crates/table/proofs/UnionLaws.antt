@@ -13,10 +13,11 @@ use Rattle.grammar.specs.Notation.{all}
 use Rattle.rules.specs.Rows.{kind, typeRef, arrayMark, optional, unionBase, branchCount, discriminator, branchStruct, children, members, nameOf}
 use Rattle.rules.specs.Rules.{any, is, namesOf, noClash, discriminatorRow, discriminatorEnum, discriminatorFits, branchFits, unionFits}
 use Rattle.rules.proofs.Lists.{and-left, and-right}
-use Rattle.table.specs.Chains.{chainEnds, hasChild, isMember, membersNew}
+use Rattle.table.specs.Chains.{chainEnds, hasChild, isMember, membersApart}
+use Rattle.table.specs.declared.chains.Against.the-variants.{Members}
 use Rattle.table.specs.RuleParts.{isTag, tagFits, branchNew}
 use Rattle.rows.proofs.ListLaws.{all-same, any-same, any-none, is-guard}
-use Rattle.table.proofs.ChainLaws.{ends-is, is-member-is, members-new-is}
+use Rattle.table.proofs.ChainLaws.{ends-is, is-member-is, members-apart-is}
 
 -- a tag: mandatory, no array, of an enum type
 module _ (T : List ℕ) (d : ℕ) {o : ℕ} (p : o ≡ optional T d) where
@@ -87,21 +88,21 @@ module _ (S T : List ℕ) where
       unfolding branchNew
       branch-endless f = rw (t, ← p, f)
 
-      pub branch-is : chainEnds T chain-structs l ≡ true → {a : Bool} → a ≡ membersNew S T chain-structs l base → a ≡ branchNew S T e base b
+      pub branch-is : chainEnds T chain-structs l ≡ true → {a : Bool} → a ≡ membersApart S T (Members base) chain-structs l → a ≡ branchNew S T e base b
       unfolding branchNew
       branch-is f m = rw (t, ← p, f) m
 
   -- of a union whose base has members
   module _ (r base : ℕ) (ms : List ℕ) (m : members T chain-structs base ≡ some ms) where
-    struct-new : (l : ℕ) → chainEnds T chain-structs l && membersNew S T chain-structs l base
+    struct-apart : (l : ℕ) → chainEnds T chain-structs l && membersApart S T (Members base) chain-structs l
         ≡ is (members T chain-structs l) (λ bs. noClash (namesOf S T ms) (namesOf S T bs))
-    struct-new l =
+    struct-apart l =
         rw (ends-is T chain-structs l)
-        (is-guard (members T chain-structs l) _ (membersNew S T chain-structs l base) (λ bs q. members-new-is S T chain-structs l base ms bs m q))
+        (is-guard (members T chain-structs l) _ (membersApart S T (Members base) chain-structs l) (λ bs q. members-apart-is S T base chain-structs l ms bs m q))
 
     branch-fits-is : (b : ℕ) → branchNew S T (discriminatorEnum T r) base b ≡ branchFits S T r ms b
     unfolding branchNew hasChild
-    branch-fits-is b = rw (and-assoc, struct-new (branchStruct T b))
+    branch-fits-is b = rw (and-assoc, struct-apart (branchStruct T b))
 
   -- a union: some branch, a chain that ends, a discriminator that fits and branches that fit
   pub union-fits-is : (r : ℕ) → unionFits S T r ≡ ltb 0 (branchCount T r) && (chainEnds T chain-structs (unionBase T r)

@@ -15,7 +15,8 @@ use Rattle.rules.specs.Rows.{rowCount, kind, start, size, isEnum, typeRef, arra
 use Rattle.rules.specs.Rows.{arguments, allowOob, returns, returnsArray, owns, typeKind, nameOf}
 use Rattle.rules.specs.Rules.{is, everyRow, sameKinds, kindsOf, discriminatorRow, goodNames, distinctNames, goodChains, goodUnions, goodAlternates, goodReturns}
 use Rattle.rules.specs.Sound.{laidOut, restZero, isFlag, toStruct, toType, referencesFit}
-use Rattle.table.specs.Chains.{chainEnds, hasChild, isMember, membersNew}
+use Rattle.table.specs.Chains.{chainEnds, hasChild, isMember, membersApart}
+use Rattle.table.specs.declared.chains.Against.the-variants.{Members}
 
 -- the grid's column of a JSON kind, 6 for none
 abbrev pub columnOr6 : Option Kind → ℕ
@@ -64,7 +65,7 @@ module _ (T : List ℕ) where
 module _ (S T : List ℕ) where
   -- branch b is named by a value of the enum at row e, and its struct repeats no member of the one with the link `base`
   unfoldable pub branchNew : ℕ → ℕ → ℕ → Bool
-  branchNew e base b = hasChild S T e (nameOf S T b) && chainEnds T chain-structs (branchStruct T b) && membersNew S T chain-structs (branchStruct T b) base
+  branchNew e base b = hasChild S T e (nameOf S T b) && chainEnds T chain-structs (branchStruct T b) && membersApart S T (Members base) chain-structs (branchStruct T b)
 
   unfoldable pub namesWithin : Bool
   namesWithin = everyRow T (λ r. leb (start T r + size T r) (length S))
@@ -74,7 +75,7 @@ module _ (S T : List ℕ) where
   shaped = namesWithin && laidOut T (rowCount T) 0 && rowsFit T
 
   unfoldable pub definitionsFit : Bool
-  definitionsFit = goodChains S T && goodUnions S T && goodAlternates T && goodReturns T
+  definitionsFit = goodChains S T && goodUnions S T && goodAlternates S T && goodReturns S T
 
   unfoldable pub keepsRules : Bool
   keepsRules = goodNames S T && distinctNames S T && definitionsFit

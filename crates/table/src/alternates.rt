@@ -92,9 +92,9 @@ fn alternate_fits(rows: &[u32], r: usize) -> bool
     kinds_apart(rows, first_child(rows, r), child_count(rows, r))
 }
 
-pub fn good_alternates(rows: &[u32]) -> bool
+pub fn good_alternates(schema: &[u8], rows: &[u32]) -> bool
     requires { ⌜ length (now rows) < 2 ^ 32 ⌝ }
-    ensures { λ b. ⌜ b ≡ goodAlternates (now (rows .entry)) ⌝ }
+    ensures { λ b. ⌜ b ≡ goodAlternates (now (schema .entry)) (now (rows .entry)) ⌝ }
 {
     let n = rows.len() / ROW_WORDS;
     let mut r = 0;

@@ -1,6 +1,8 @@
 // Chains of bases and inherited members, by recursion over base links, the structs left falling: rule 8.
-use rows::marks::is_fresh;
+use rows::marks::is_named;
+use rows::marks::mark_of;
 use rows::marks::runs_apart;
+use rows::names::name_of;
 use rows::rows::child_count;
 use rows::rows::first_child;
 use rows::rows::next_row;
@@ -17,7 +19,7 @@ ghost use lib.ListN.{length};
 ghost use Rattle.rules.specs.Rows.{children, nameOf};
 ghost use Rattle.rules.specs.Rules.{any, chainFits, goodChains};
 ghost use Rattle.rows.specs.Marks.{Marks};
-ghost use Rattle.table.specs.Chains.{chainEnds, hasChild, isMember, listsApart, childrenNew, membersNew};
+ghost use Rattle.table.specs.Chains.{chainEnds, hasChild, isMember, listsApart, numberOf, membersApart};
 
 // The most structs on the chain of a base: the struct that has it is the first one counted.
 const BASE_STRUCTS: usize = CHAIN_STRUCTS - 1;
@@ -40,25 +42,29 @@ pub fn has_child(schema: &[u8], rows: &[u32], marks: &[u32], r: usize, c: usize)
     requires { ⌜ (r < 2 ^ 39) × Marks (now schema) (now rows) (now marks) ⌝ }
     ensures { λ b. ⌜ b ≡ hasChild (now (schema .entry)) (now (rows .entry)) r (nameOf (now (schema .entry)) (now (rows .entry)) c) ⌝ }
 {
-    !is_fresh(
-        schema,
-        rows,
-        marks,
-        c,
-        first_child(rows, r),
-        child_count(rows, r),
-    )
+    let name = name_of(schema, rows, c);
+    let mark = mark_of(name);
+    let mut i = first_child(rows, r);
+    let mut left = child_count(rows, r);
+    while 0 < left {
+        if is_named(schema, rows, marks, i, name, mark) {
+            return true;
+        }
+        i = next_row(rows, i);
+        left -= 1;
+    }
+    false
 }
 
-// Whether no child of row r has the name of a child of row s.
-fn lists_apart(schema: &[u8], rows: &[u32], marks: &[u32], r: usize, s: usize) -> bool
-    requires { ⌜ (r < 2 ^ 39) × (s < 2 ^ 39) × Marks (now schema) (now rows) (now marks) ⌝ }
+// Whether no child of row s clashes with one of row r.
+fn lists_apart(schema: &[u8], rows: &[u32], marks: &[u32], s: usize, r: usize) -> bool
+    requires { ⌜ (s < 2 ^ 39) × (r < 2 ^ 39) × Marks (now schema) (now rows) (now marks) ⌝ }
     ensures { λ b. ⌜ b ≡ listsApart (now (schema .entry)) (now (rows .entry)) s r ⌝ }
 {
-    let a = first_child(rows, r);
-    let m = child_count(rows, r);
-    let b = first_child(rows, s);
-    let n = child_count(rows, s);
+    let a = first_child(rows, s);
+    let m = child_count(rows, s);
+    let b = first_child(rows, r);
+    let n = child_count(rows, r);
     runs_apart(schema, rows, marks, a, m, b, n)
 }
 
@@ -97,49 +103,23 @@ pub fn is_member(rows: &[u32], link: usize, left: usize, m: usize) -> bool
     is_child(rows, s, m)
 }
 
-// Whether no child of row r has the name of a member of the struct with the link `other`, its own or inherited.
-pub fn children_new(
-    schema: &[u8],
-    rows: &[u32],
-    marks: &[u32],
-    r: usize,
-    other: usize,
-    left: usize,
-) -> bool
-    requires { ⌜ (r < 2 ^ 39) × (other < 2 ^ 39) × Marks (now schema) (now rows) (now marks) ⌝ }
-    ensures { λ b. ⌜ b ≡ childrenNew (now (schema .entry)) (now (rows .entry)) left other r ⌝ }
-{
-    if other == 0 {
-        return true;
-    }
-    if left == 0 {
-        return true;
-    }
-    let s = other - 1;
-    if !children_new(
-        schema,
-        rows,
-        marks,
-        r,
-        wide(word(rows, s, row::BASE)),
-        left - 1,
-    ) {
-        return false;
-    }
-    lists_apart(schema, rows, marks, r, s)
+// What the members of a struct are judged against: the children of a row, or the members of the struct with a link.
+pub enum Against {
+    Children(usize),
+    Members(usize),
 }
 
-// Whether no member of the struct with that link, its own or inherited, has the name of a member of the one with the link `other`.
-pub fn members_new(
+// Whether no member of the struct with that link, its own or inherited, at most `left` structs up, clashes with one of the others.
+pub fn members_apart(
     schema: &[u8],
     rows: &[u32],
     marks: &[u32],
     link: usize,
     left: usize,
-    other: usize,
+    others: Against,
 ) -> bool
-    requires { ⌜ (link < 2 ^ 39) × (other < 2 ^ 39) × Marks (now schema) (now rows) (now marks) ⌝ }
-    ensures { λ b. ⌜ b ≡ membersNew (now (schema .entry)) (now (rows .entry)) left link other ⌝ }
+    requires { ⌜ (link < 2 ^ 39) × (numberOf others < 2 ^ 39) × Marks (now schema) (now rows) (now marks) ⌝ }
+    ensures { λ b. ⌜ b ≡ membersApart (now (schema .entry)) (now (rows .entry)) others left link ⌝ }
 {
     if link == 0 {
         return true;
@@ -148,17 +128,21 @@ pub fn members_new(
         return true;
     }
     let s = link - 1;
-    if !members_new(
-        schema,
-        rows,
-        marks,
-        wide(word(rows, s, row::BASE)),
-        left - 1,
-        other,
-    ) {
+    let base = wide(word(rows, s, row::BASE));
+    if !members_apart(schema, rows, marks, base, left - 1, others) {
         return false;
     }
-    children_new(schema, rows, marks, s, other, CHAIN_STRUCTS)
+    match others {
+        Against::Children(r) => lists_apart(schema, rows, marks, s, r),
+        Against::Members(other) => members_apart(
+            schema,
+            rows,
+            marks,
+            other,
+            CHAIN_STRUCTS,
+            Against::Children(s),
+        ),
+    }
 }
 
 // Whether the chain of struct r fits, and it repeats no inherited member.
@@ -170,7 +154,8 @@ fn chain_fits(schema: &[u8], rows: &[u32], marks: &[u32], r: usize) -> bool
     if !chain_ends(rows, base, BASE_STRUCTS) {
         return false;
     }
-    children_new(schema, rows, marks, r, base, BASE_STRUCTS)
+    let own = Against::Children(r);
+    members_apart(schema, rows, marks, base, BASE_STRUCTS, own)
 }
 
 pub fn good_chains(schema: &[u8], rows: &[u32], marks: &[u32]) -> bool

@@ -27,9 +27,9 @@ fn return_fits(rows: &[u32], t: usize) -> bool
     }
 }
 
-pub fn good_returns(rows: &[u32]) -> bool
+pub fn good_returns(schema: &[u8], rows: &[u32]) -> bool
     requires { ⌜ length (now rows) < 2 ^ 32 ⌝ }
-    ensures { λ b. ⌜ b ≡ goodReturns (now (rows .entry)) ⌝ }
+    ensures { λ b. ⌜ b ≡ goodReturns (now (schema .entry)) (now (rows .entry)) ⌝ }
 {
     let n = rows.len() / ROW_WORDS;
     let mut r = 0;

@@ -85,10 +85,10 @@ fn definitions_fit(schema: &[u8], rows: &[u32], marks: &[u32]) -> bool
     if !good_unions(schema, rows, marks) {
         return false;
     }
-    if !good_alternates(rows) {
+    if !good_alternates(schema, rows) {
         return false;
     }
-    good_returns(rows)
+    good_returns(schema, rows)
 }
 
 // Rules 5 to 11, of which 7 is that references fit; with room for a mark and a link of each row lent.

@@ -1,8 +1,9 @@
 // Unions: rule 9.
+use crate::chains::Against;
 use crate::chains::chain_ends;
 use crate::chains::has_child;
 use crate::chains::is_member;
-use crate::chains::members_new;
+use crate::chains::members_apart;
 use rows::rows::child_count;
 use rows::rows::first_child;
 use rows::rows::next_row;
@@ -70,7 +71,8 @@ fn branch_fits(schema: &[u8], rows: &[u32], marks: &[u32], b: usize, e: usize, b
     if !chain_ends(rows, link, CHAIN_STRUCTS) {
         return false;
     }
-    members_new(schema, rows, marks, link, CHAIN_STRUCTS, base)
+    let inherited = Against::Members(base);
+    members_apart(schema, rows, marks, link, CHAIN_STRUCTS, inherited)
 }
 
 // Whether every branch of union r fits.

@@ -1,4 +1,4 @@
--- `table::index::is_unlisted` says whether none of the rows of a chain has a name.
+-- `rows::index::is_unlisted` says whether none of the rows of a chain has a name.
 -- The rows left of the chain decide what all do; the measure is the count that falls.
 use Rattle.rows.proofs.IndexLaws.{NameWalk, name-start, listed-hit, listed-on, listed-end, listed-out}
 use borrow.Author.Needs.{needs}
@@ -20,11 +20,11 @@ returns c = listed-end (c .before .before .loop .inv) (c .if1 .taken)
 sub-r : tie.Need-sub-r Inv-loop μ-loop
 sub-r c = search needs
 
-is-named-requires : tie.Need-is-named-requires Inv-loop μ-loop
-is-named-requires c κs = search needs
+clashes-requires : tie.Need-clashes-requires Inv-loop μ-loop
+clashes-requires c κs = search needs
 
 returns-2 : tie.Need-returns-2 Inv-loop μ-loop
-returns-2 c = listed-hit (c .before .before .before .before .loop .inv) (search needs) (c .before .is-named .ensures) (c .if2 .taken)
+returns-2 c = listed-hit (c .before .before .before .before .loop .inv) (search needs) (c .before .clashes .ensures) (c .if2 .taken)
 
 next-requires : tie.Need-next-requires Inv-loop μ-loop
 next-requires c κs = search needs
@@ -36,7 +36,7 @@ loop-less : tie.Need-loop-less Inv-loop μ-loop
 loop-less c = search needs
 
 loop-again : tie.Need-loop-again Inv-loop μ-loop
-loop-again c = listed-on (c .before .before .before .before .before .loop .inv) (search needs) (c .before .before .is-named .ensures) (c .before .if2 .left) (c .next .ensures)
+loop-again c = listed-on (c .before .before .before .before .before .loop .inv) (search needs) (c .before .before .clashes .ensures) (c .before .if2 .left) (c .next .ensures)
 
 returns-3 : tie.Need-returns-3 Inv-loop μ-loop
 returns-3 c = listed-out (c .before .loop .inv) (search needs)
@@ -50,7 +50,7 @@ is-unlisted-spec =
     loop-holds
     returns
     sub-r
-    is-named-requires
+    clashes-requires
     returns-2
     next-requires
     sub-left

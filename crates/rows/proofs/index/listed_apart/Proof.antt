@@ -1,7 +1,7 @@
 -- `rows::index::listed_apart` says whether no two names of a walk clash.
 -- The rows before the loop's row are in the index, and what is left decides.
 use Prim.Native.Nat.{_≤_}
-use mathlib.Core.Path.{_≡_, refl, sym, _∙_}
+use mathlib.Core.Path.{_≡_, refl}
 use native.Mathlib.Omega.{arith}
 use lib.ListN.{length}
 use borrow.Author.Tests.{not-true, not-false}

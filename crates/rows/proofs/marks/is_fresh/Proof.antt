@@ -5,19 +5,18 @@ use mathlib.Core.Bool.{not}
 use native.Mathlib.Omega.{arith}
 use Rattle.rules.specs.Names.{clash}
 use Rattle.rules.specs.Rows.{walk, nameOf}
-use Rattle.rules.specs.Rules.{namesOf}
+use Rattle.rows.specs.Marks.{freshIn}
 use Rattle.rows.specs.Rows.{Room}
 use Rattle.rows.proofs.Walks.{so}
-use Rattle.rows.proofs.NameFacts.{fresh}
 use Rattle.rows.proofs.LoopLaws.{AllWalk, all-miss, all-next, all-over, room-next}
-use Rattle.rows.proofs.MarkLaws.{named-row, fresh-walk}
+use Rattle.rows.proofs.MarkLaws.{with-row, fresh-walk}
 use borrow.Author.Needs.{needs}
 use Rattle.rows.proofs.marks.is_fresh.Statement.{statement}
 use Rattle.rows.proofs.marks.is_fresh.Tie as tie
 
 abbrev Inv-loop : tie.InvT-loop
 Inv-loop schema rows marks a b n name mark i₀ left₀ i left =
-    Room i left × AllWalk (fresh (nameOf schema rows a) (namesOf schema rows (walk rows b n))) rows (λ r. not (clash (nameOf schema rows a) (nameOf schema rows r))) i left
+    Room i left × AllWalk (freshIn schema rows (nameOf schema rows a) (walk rows b n)) rows (λ r. not (clash (nameOf schema rows a) (nameOf schema rows r))) i left
 
 abbrev μ-loop : tie.MeasureT-loop
 μ-loop schema rows marks a b n name mark i₀ left₀ i left = left
@@ -31,11 +30,11 @@ mark-of-requires c κs = search needs
 loop-holds : tie.Need-loop-holds Inv-loop μ-loop
 loop-holds c = let a = c .before .before .before .before .before .args in (c .before .before .before .before .before .pre .1, fresh-walk (a .schema .now) (a .rows .now) (nameOf (a .schema .now) (a .rows .now) (a .a)) (a .b) (a .n))
 
-is-named-requires : tie.Need-is-named-requires Inv-loop μ-loop
-is-named-requires c κs = (c .before .before .before .before .before .before .before .pre .0, c .before .before .mark-of .ensures)
+clashes-requires : tie.Need-clashes-requires Inv-loop μ-loop
+clashes-requires c κs = (c .before .before .before .before .before .before .before .pre .0, c .before .before .mark-of .ensures)
 
 returns : tie.Need-returns Inv-loop μ-loop
-returns c = let e = named-row _ _ _ _ (c .before .is-named .ensures) (c .before .before .before .before .before .name-of .ensures) in all-miss (c .before .before .before .loop .inv .1) (c .before .before .loop-test .taken) (ap not (so e (c .if1 .taken)))
+returns c = let e = with-row _ _ _ _ (c .before .clashes .ensures) (c .before .before .before .before .before .name-of .ensures) in all-miss (c .before .before .before .loop .inv .1) (c .before .before .loop-test .taken) (ap not (so e (c .if1 .taken)))
 
 next-row-requires : tie.Need-next-row-requires Inv-loop μ-loop
 next-row-requires c κs = omega (arith, c .before .before .before .loop .inv .0 .low)
@@ -48,7 +47,7 @@ loop-less c = search needs
 
 loop-again : tie.Need-loop-again Inv-loop μ-loop
 loop-again c =
-    let e = named-row _ _ _ _ (c .before .before .is-named .ensures) (c .before .before .before .before .before .before .name-of .ensures) in
+    let e = with-row _ _ _ _ (c .before .before .clashes .ensures) (c .before .before .before .before .before .before .name-of .ensures) in
     (room-next (c .before .before .before .before .loop .inv .0) (c .before .before .before .loop-test .taken) (c .next-row .ensures), all-next (c .before .before .before .before .loop .inv .1) (c .before .before .before .loop-test .taken) (ap not (so e (c .before .if1 .left))) (c .next-row .ensures))
 
 returns-2 : tie.Need-returns-2 Inv-loop μ-loop
@@ -63,7 +62,7 @@ is-fresh-spec =
     name-of-requires
     mark-of-requires
     loop-holds
-    is-named-requires
+    clashes-requires
     returns
     next-row-requires
     sub-left

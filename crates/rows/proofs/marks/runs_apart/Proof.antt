@@ -1,9 +1,10 @@
 -- `rows::marks::runs_apart` says whether no row of one walk has the name of a row of another.
 -- The loop tests of every row of the first that its name is fresh in the second.
 use native.Mathlib.Omega.{arith}
-use Rattle.rules.specs.Rows.{nameOf}
+use Rattle.rules.specs.Rows.{walk, nameOf}
+use Rattle.rules.specs.Rules.{namesOf, noClash}
 use Rattle.rows.specs.Rows.{Room}
-use Rattle.rows.specs.Marks.{freshOf, runsApart}
+use Rattle.rows.specs.Marks.{freshIn}
 use Rattle.rows.proofs.Walks.{granted, denied}
 use Rattle.rows.proofs.LoopLaws.{AllWalk, all-miss, all-next, all-over, room-next}
 use Rattle.rows.proofs.MarkLaws.{runs-walk}
@@ -12,13 +13,13 @@ use Rattle.rows.proofs.marks.runs_apart.Statement.{statement}
 use Rattle.rows.proofs.marks.runs_apart.Tie as tie
 
 abbrev Inv-loop : tie.InvT-loop
-Inv-loop schema rows marks a m b n i₀ left₀ i left = Room i left × AllWalk (runsApart schema rows a m b n) rows (λ r. freshOf schema rows (nameOf schema rows r) b n) i left
+Inv-loop schema rows marks a m b n i₀ left₀ i left = Room i left × AllWalk (noClash (namesOf schema rows (walk rows a m)) (namesOf schema rows (walk rows b n))) rows (λ r. freshIn schema rows (nameOf schema rows r) (walk rows b n)) i left
 
 abbrev μ-loop : tie.MeasureT-loop
 μ-loop schema rows marks a m b n i₀ left₀ i left = left
 
 loop-holds : tie.Need-loop-holds Inv-loop μ-loop
-loop-holds c = let x = c .before .before .before .args in (c .before .before .before .pre .1, runs-walk (x .schema .now) (x .rows .now) (x .a) (x .m) (x .b) (x .n))
+loop-holds c = let x = c .before .before .before .args in (c .before .before .before .pre .1, runs-walk (x .schema .now) (x .rows .now) (walk (x .rows .now) (x .b) (x .n)) (x .a) (x .m))
 
 is-fresh-requires : tie.Need-is-fresh-requires Inv-loop μ-loop
 is-fresh-requires c κs = (c .before .before .before .before .before .pre .0, c .before .before .before .before .before .pre .2)

@@ -12,14 +12,14 @@ use Rattle.table.proofs.alternates.good_alternates.Statement.{statement
 use Rattle.table.proofs.alternates.good_alternates.Tie as tie
 
 abbrev Inv-loop : tie.InvT-loop
-Inv-loop rows n r₀ r = KindLeft (goodAlternates rows) rows 7 (alternateFits rows) r n
+Inv-loop schema rows n r₀ r = KindLeft (goodAlternates schema rows) rows 7 (alternateFits rows) r n
 
 abbrev μ-loop : tie.MeasureT-loop
-μ-loop rows n r₀ r = n - r
+μ-loop schema rows n r₀ r = n - r
 
 loop-holds : tie.Need-loop-holds Inv-loop μ-loop
 unfolding goodAlternates
-loop-holds c = kind-starts (c .before .args .rows .now) 7 _ refl
+loop-holds c = kind-starts (c .before .before .args .rows .now) 7 _ refl
 
 word-requires : tie.Need-word-requires Inv-loop μ-loop
 word-requires c κs = search needs

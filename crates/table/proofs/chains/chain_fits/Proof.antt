@@ -1,9 +1,9 @@
--- `chain_fits` meets its contract: the chain of the base ends, and then the children are new.
+-- `chain_fits` meets its contract: the chain of the base ends, and then no inherited member clashes with a child.
 -- What the walks say of the list of inherited members.
 use mathlib.Core.Path.{_∙_}
-use borrow.Author.Needs.{needs}
 use Rattle.rows.proofs.Walks.{denied, granted}
 use Rattle.table.proofs.ChainLaws.{chain-fails, chain-holds}
+use borrow.Author.Needs.{needs}
 use Rattle.table.proofs.chains.chain_fits.Statement.{statement}
 use Rattle.table.proofs.chains.chain_fits.Tie as tie
 
@@ -18,16 +18,14 @@ chain-ends-requires c κs = search needs
 
 returns : tie.Need-returns
 returns c =
-    chain-fails _ _ _ (c .before .before .wide .ensures ∙ c .before .before .before .word .ensures)
-    (denied (c .before .chain-ends .ensures) (c .if1 .taken))
+    chain-fails _ _ _ (c .before .before .wide .ensures ∙ c .before .before .before .word .ensures) (denied (c .before .chain-ends .ensures) (c .if1 .taken))
 
-children-new-requires : tie.Need-children-new-requires
-children-new-requires c κs = search needs
+members-apart-requires : tie.Need-members-apart-requires
+members-apart-requires c κs = search needs
 
 returns-2 : tie.Need-returns-2
 returns-2 c =
-    chain-holds _ _ _ (c .before .before .before .wide .ensures ∙ c .before .before .before .before .word .ensures)
-    (granted (c .before .before .chain-ends .ensures) (c .before .if1 .left)) (c .children-new .ensures)
+    chain-holds _ _ _ (c .before .before .before .wide .ensures ∙ c .before .before .before .before .word .ensures) (granted (c .before .before .chain-ends .ensures) (c .before .if1 .left)) (c .members-apart .ensures)
 
 pub chain-fits-spec : {M : Type 1} → statement M
 chain-fits-spec =
@@ -37,5 +35,5 @@ chain-fits-spec =
     wide-requires
     chain-ends-requires
     returns
-    children-new-requires
+    members-apart-requires
     returns-2)

@@ -20,7 +20,9 @@ runs-apart-requires : tie.Need-runs-apart-requires
 runs-apart-requires c κs = search needs
 
 returns : tie.Need-returns
-returns c = lists-apart-of _ _ (c .before .before .first-child2 .ensures) (c .before .child-count2 .ensures) (c .before .before .before .before .first-child .ensures) (c .before .before .before .child-count .ensures) (c .runs-apart .ensures)
+returns c =
+    lists-apart-of _ _ (c .before .before .before .before .first-child .ensures) (c .before .before .before .child-count .ensures) (c .before .before .first-child2 .ensures) (c .before .child-count2 .ensures)
+    (c .runs-apart .ensures)
 
 pub lists-apart-spec : {M : Type 1} → statement M
 lists-apart-spec =

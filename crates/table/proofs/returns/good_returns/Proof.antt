@@ -14,14 +14,14 @@ use Rattle.table.proofs.returns.good_returns.Statement.{statement}
 use Rattle.table.proofs.returns.good_returns.Tie as tie
 
 abbrev Inv-loop : tie.InvT-loop
-Inv-loop rows n r₀ r = KindLeft (goodReturns rows) rows 9 (λ x. returnFits rows (Rows.returns rows x)) r n
+Inv-loop schema rows n r₀ r = KindLeft (goodReturns schema rows) rows 9 (λ x. returnFits rows (Rows.returns rows x)) r n
 
 abbrev μ-loop : tie.MeasureT-loop
-μ-loop rows n r₀ r = n - r
+μ-loop schema rows n r₀ r = n - r
 
 loop-holds : tie.Need-loop-holds Inv-loop μ-loop
 unfolding goodReturns
-loop-holds c = kind-starts (c .before .args .rows .now) 9 _ refl
+loop-holds c = kind-starts (c .before .before .args .rows .now) 9 _ refl
 
 word-requires : tie.Need-word-requires Inv-loop μ-loop
 word-requires c κs = search needs
@@ -39,7 +39,7 @@ returns : tie.Need-returns Inv-loop μ-loop
 returns c =
     kind-fails (c .before .before .before .before .before .before .before .loop .inv) (omega arith)
     (c .before .before .before .before .before .word .ensures) (c .before .before .before .before .if1 .taken)
-    (return-at (c .before .before .before .before .before .before .before .before .before .args .rows .now)
+    (return-at (c .before .before .before .before .before .before .before .before .before .before .args .rows .now)
     (c .before .before .before .before .before .before .before .loop .r)
     (c .before .before .wide .ensures ∙ c .before .before .before .word2 .ensures) (denied (c .before .return-fits .ensures) (c .if2 .taken)))
 
@@ -53,7 +53,7 @@ loop-again : tie.Need-loop-again Inv-loop μ-loop
 loop-again c =
     ⊎-elim
     (λ w. kind-on (c .before .before .before .loop .inv) (omega arith) (c .before .word .ensures) (w .0 .taken)
-    (return-at (c .before .before .before .before .before .args .rows .now) (c .before .before .before .loop .r) (w .2 .ensures ∙ w .1 .ensures)
+    (return-at (c .before .before .before .before .before .before .args .rows .now) (c .before .before .before .loop .r) (w .2 .ensures ∙ w .1 .ensures)
     (granted (w .3 .ensures) (w .4 .left))))
     (λ w. kind-other (c .before .before .before .loop .inv) (omega arith) (c .before .word .ensures) (w .left))
     (c .if1 .came)

@@ -1,9 +1,9 @@
 -- `branch_fits` meets its contract.
--- A law for each return: no such value, a chain that does not end, or whether the members are new.
+-- A law for each return: no such value, a chain that does not end, or whether the members are apart from the base's.
 use mathlib.Core.Path.{_∙_}
-use borrow.Author.Needs.{needs}
 use Rattle.rows.proofs.Walks.{denied, granted}
 use Rattle.table.proofs.UnionLaws.{branch-unnamed, branch-endless, branch-is}
+use borrow.Author.Needs.{needs}
 use Rattle.table.proofs.unions.branch_fits.Statement.{statement}
 use Rattle.table.proofs.unions.branch_fits.Tie as tie
 
@@ -25,21 +25,16 @@ chain-ends-requires c κs = search needs
 
 returns-2 : tie.Need-returns-2
 returns-2 c =
-    branch-endless _ _ _ _ _
-    (granted
-    (c .before .before .before .before .before .has-child .ensures) (c .before .before .before .before .if1 .left))
-    (c .before .before .wide .ensures ∙ c .before .before .before .word .ensures) (denied (c .before .chain-ends .ensures) (c .if2 .taken))
+    branch-endless _ _ _ _ _ (granted (c .before .before .before .before .before .has-child .ensures) (c .before .before .before .before .if1 .left)) (c .before .before .wide .ensures ∙ c .before .before .before .word .ensures)
+    (denied (c .before .chain-ends .ensures) (c .if2 .taken))
 
-members-new-requires : tie.Need-members-new-requires
-members-new-requires c κs = search needs
+members-apart-requires : tie.Need-members-apart-requires
+members-apart-requires c κs = search needs
 
 returns-3 : tie.Need-returns-3
 returns-3 c =
-    branch-is _ _ _ _ _
-    (granted
-    (c .before .before .before .before .before .before .has-child .ensures) (c .before .before .before .before .before .if1 .left))
-    (c .before .before .before .wide .ensures ∙ c .before .before .before .before .word .ensures)
-    (granted (c .before .before .chain-ends .ensures) (c .before .if2 .left)) (c .members-new .ensures)
+    branch-is _ _ _ _ _ (granted (c .before .before .before .before .before .before .has-child .ensures) (c .before .before .before .before .before .if1 .left)) (c .before .before .before .wide .ensures ∙ c .before .before .before .before .word .ensures)
+    (granted (c .before .before .chain-ends .ensures) (c .before .if2 .left)) (c .members-apart .ensures)
 
 pub branch-fits-spec : {M : Type 1} → statement M
 branch-fits-spec =
@@ -51,5 +46,5 @@ branch-fits-spec =
     wide-requires
     chain-ends-requires
     returns-2
-    members-new-requires
+    members-apart-requires
     returns-3)

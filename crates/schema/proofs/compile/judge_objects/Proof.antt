@@ -1,11 +1,9 @@
--- `compile::with_nodes` meets its contract: numbers 3 and 4, then the raw rows.
-use native.Mathlib.Omega.{arith}
-use mathlib.Core.Path.{refl}
+-- `compile::judge_objects` meets its contract: keys and definitions, then the raw rows.
 use borrow.Author.Tests.{not-true, not-false}
 use Rattle.schema.proofs.TextLaws.{repeated, keys-on, no-definitions, definitions-on, put-refused, put-rows, put-few, raw-length, raw-rows}
 use borrow.Author.Needs.{needs}
-use Rattle.schema.proofs.compile.with_nodes.Statement.{statement}
-use Rattle.schema.proofs.compile.with_nodes.Tie as tie
+use Rattle.schema.proofs.compile.judge_objects.Statement.{statement}
+use Rattle.schema.proofs.compile.judge_objects.Tie as tie
 
 keys-once-requires : tie.Need-keys-once-requires
 keys-once-requires c κs = search needs
@@ -31,11 +29,11 @@ mul-end c = let h = put-few (c .before .before .before .before .before .before .
 array-borrow-prefix-table : tie.Need-array-borrow-prefix-table
 array-borrow-prefix-table c = let h = put-few (c .before .before .before .before .before .before .before .before .before .before .before .pre .0) (c .before .before .before .before .put-definitions .ensures) (c .before .n .given .1) in search needs
 
-slice-aggregate-with-rows : tie.Need-slice-aggregate-with-rows
-slice-aggregate-with-rows c = raw-length (c .before .before .before .before .before .before .before .before .before .before .before .before .pre .0) (c .before .before .before .before .before .put-definitions .ensures) (c .before .before .n .given .1) (search needs)
+slice-aggregate-judge-table : tie.Need-slice-aggregate-judge-table
+slice-aggregate-judge-table c = raw-length (c .before .before .before .before .before .before .before .before .before .before .before .before .pre .0) (c .before .before .before .before .before .put-definitions .ensures) (c .before .before .n .given .1) (search needs)
 
-with-rows-requires : tie.Need-with-rows-requires
-with-rows-requires c κs = (raw-rows (c .before .before .before .before .before .before .before .before .before .before .before .before .before .pre .0) (c .before .before .before .before .before .before .put-definitions .ensures) (c .before .before .before .n .given .1) (search needs), c .before .before .before .before .before .before .before .before .before .before .before .before .before .pre .1)
+judge-table-requires : tie.Need-judge-table-requires
+judge-table-requires c κs = (raw-rows (c .before .before .before .before .before .before .before .before .before .before .before .before .before .pre .0) (c .before .before .before .before .before .before .put-definitions .ensures) (c .before .before .before .n .given .1) (search needs), c .before .before .before .before .before .before .before .before .before .before .before .before .before .pre .1)
 
 returns-2 : tie.Need-returns-2
 returns-2 c = keys-on (c .before .before .before .before .before .before .before .before .before .before .pre .0) (c .before .before .before .before .before .before .keys-once .ensures) (not-false _ (c .before .before .before .before .before .if1 .left)) (no-definitions (c .before .before .before .before .before .before .before .before .before .before .pre .0) (c .before .before .before .before .before .before .before .before .before .before .pre .1) (put-refused (c .before .before .before .before .before .before .before .before .before .before .pre .0) (c .before .before .before .put-definitions .ensures) (c .enum-told .given .1)))
@@ -44,10 +42,10 @@ same-length : tie.Need-same-length
 same-length c = search needs
 
 returns-3 : tie.Need-returns-3
-returns-3 c = keys-on (c .before .before .before .before .before .before .before .before .before .before .before .before .before .before .before .before .before .pre .0) (c .before .before .before .before .before .before .before .before .before .before .before .before .before .keys-once .ensures) (not-false _ (c .before .before .before .before .before .before .before .before .before .before .before .before .if1 .left)) (definitions-on (c .before .before .before .before .before .before .before .before .before .before .before .before .before .before .before .before .before .pre .0) (put-rows (c .before .before .before .before .before .before .before .before .before .before .before .before .before .before .before .before .before .pre .0) (c .before .before .before .before .before .before .before .before .before .before .put-definitions .ensures) (c .before .before .before .before .before .before .before .n .given .1) .are) (c .before .before .before .with-rows .ensures))
+returns-3 c = keys-on (c .before .before .before .before .before .before .before .before .before .before .before .before .before .before .before .before .before .pre .0) (c .before .before .before .before .before .before .before .before .before .before .before .before .before .keys-once .ensures) (not-false _ (c .before .before .before .before .before .before .before .before .before .before .before .before .if1 .left)) (definitions-on (c .before .before .before .before .before .before .before .before .before .before .before .before .before .before .before .before .before .pre .0) (put-rows (c .before .before .before .before .before .before .before .before .before .before .before .before .before .before .before .before .before .pre .0) (c .before .before .before .before .before .before .before .before .before .before .put-definitions .ensures) (c .before .before .before .before .before .before .before .n .given .1) .are) (c .before .before .before .judge-table .ensures))
 
-pub with-nodes-spec : {M : Type 1} → statement M
-with-nodes-spec =
+pub judge-objects-spec : {M : Type 1} → statement M
+judge-objects-spec =
     tie.close
     (tie.spec
     keys-once-requires
@@ -58,8 +56,8 @@ with-nodes-spec =
     enum-known-n
     mul-end
     array-borrow-prefix-table
-    slice-aggregate-with-rows
-    with-rows-requires
+    slice-aggregate-judge-table
+    judge-table-requires
     returns-2
     same-length
     returns-3)

@@ -1,0 +1,48 @@
+-- `compile::judge_table` meets its contract: the resolved rows are the table.
+use mathlib.Core.Path.{sym}
+use lib.Seq.{length-take-le}
+use Rattle.schema.proofs.TextLaws.{is-table, refers}
+use borrow.Author.Needs.{needs}
+use Rattle.schema.proofs.compile.judge_table.Statement.{statement}
+use Rattle.schema.proofs.compile.judge_table.Tie as tie
+
+slice-aggregate-resolve : tie.Need-slice-aggregate-resolve
+slice-aggregate-resolve c = search needs
+
+resolve-requires : tie.Need-resolve-requires
+resolve-requires c κs = search needs
+
+array-borrow-prefix-marks : tie.Need-array-borrow-prefix-marks
+array-borrow-prefix-marks c = search needs
+
+slice-aggregate-judge-names : tie.Need-slice-aggregate-judge-names
+slice-aggregate-judge-names c = sym (length-take-le _ _ (search needs))
+
+slice-aggregate-judge-names-2 : tie.Need-slice-aggregate-judge-names-2
+slice-aggregate-judge-names-2 c = search needs
+
+judge-names-requires : tie.Need-judge-names-requires
+judge-names-requires c κs = (search needs, search needs, search needs, search needs, is-table (c .before .before .before .before .before .before .before .before .before .before .before .before .before .pre .0) (c .before .before .before .before .before .before .before .resolve .ensures), refers (c .before .before .before .before .before .before .before .before .before .before .before .before .before .pre .0) (c .before .before .before .before .before .before .before .resolve .ensures))
+
+same-length : tie.Need-same-length
+same-length c = search needs
+
+same-length-2 : tie.Need-same-length-2
+same-length-2 c = search needs
+
+returns : tie.Need-returns
+returns c = search needs
+
+pub judge-table-spec : {M : Type 1} → statement M
+judge-table-spec =
+    tie.close
+    (tie.spec
+    slice-aggregate-resolve
+    resolve-requires
+    array-borrow-prefix-marks
+    slice-aggregate-judge-names
+    slice-aggregate-judge-names-2
+    judge-names-requires
+    same-length
+    same-length-2
+    returns)
