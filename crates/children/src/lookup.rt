@@ -12,6 +12,7 @@ use rows::rows::first_child;
 use rows::rows::past_children;
 use rows::rows::wide;
 use rules::TABLE_ROWS;
+use strings::dialects::Dialect;
 ghost use mathlib.Core.Path.{_≡_};
 ghost use Prim.Native.Nat.{_<_, _^_};
 ghost use lib.ListN.{getD};
@@ -37,7 +38,7 @@ fn is_meant(
     if e <= c {
         return false;
     }
-    node_means(m, false, nodes, k, name_of(schema, rows, c))
+    node_means(m, Dialect::Message, nodes, k, name_of(schema, rows, c))
 }
 
 // The link of the first such row that follows the word `head`; 0 if there is none.

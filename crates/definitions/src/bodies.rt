@@ -16,6 +16,7 @@ use crate::values::name_word;
 use lookups::values::is_string;
 use lookups::values::value_at;
 use rules::kind;
+use strings::dialects::Dialect;
 ghost use Prim.Native.Nat.{_^_, _<_};
 ghost use Rattle.rules.specs.Definitions.{structBody, unionBody, commandBody};
 ghost use Rattle.definitions.specs.Written.{PutsRows};
@@ -35,7 +36,7 @@ pub fn put_list(
     requires { ⌜ (n < 2 ^ 31) × (kind < 8) ⌝ }
     ensures { λ r. ⌜ PutsRows (ListAt (now (s .entry)) (now (nodes .entry)) kind link k v) (now (rows .entry)) (now (rows .exit)) n (2 ^ 34) r ⌝ }
 {
-    let d = value_at(s, true, nodes, k, b"data");
+    let d = value_at(s, Dialect::Schema, nodes, k, b"data");
     let start = name_start(nodes, v, 0);
     let size = name_size(nodes, v, 0);
     put_counted(s, nodes, d, rows, n, kind, start, size, link)
@@ -45,7 +46,7 @@ pub fn put_struct(s: &[u8], nodes: &[u32], k: usize, v: usize, rows: &mut [u32],
     requires { ⌜ n < 2 ^ 31 ⌝ }
     ensures { λ r. ⌜ PutsRows (BodyAt (now (s .entry)) (now (nodes .entry)) structBody k v n) (now (rows .entry)) (now (rows .exit)) n (2 ^ 34) r ⌝ }
 {
-    let b = value_at(s, true, nodes, k, b"base");
+    let b = value_at(s, Dialect::Schema, nodes, k, b"base");
     if !base_fits(nodes, b) {
         return Put::Refused;
     }
@@ -86,18 +87,18 @@ pub fn put_union(s: &[u8], nodes: &[u32], k: usize, v: usize, rows: &mut [u32], 
     requires { ⌜ n < 2 ^ 31 ⌝ }
     ensures { λ r. ⌜ PutsRows (BodyAt (now (s .entry)) (now (nodes .entry)) unionBody k v n) (now (rows .entry)) (now (rows .exit)) n (2 ^ 34) r ⌝ }
 {
-    let b = value_at(s, true, nodes, k, b"base");
+    let b = value_at(s, Dialect::Schema, nodes, k, b"base");
     if b == 0 {
         return Put::Refused;
     }
-    let t = value_at(s, true, nodes, k, b"discriminator");
+    let t = value_at(s, Dialect::Schema, nodes, k, b"discriminator");
     if t == 0 {
         return Put::Refused;
     }
     if !is_string(nodes, t) {
         return Put::Refused;
     }
-    let d = value_at(s, true, nodes, k, b"data");
+    let d = value_at(s, Dialect::Schema, nodes, k, b"data");
     put_union_rows(s, nodes, v, b, t, d, rows, n)
 }
 
@@ -129,13 +130,13 @@ pub fn put_command(s: &[u8], nodes: &[u32], k: usize, v: usize, rows: &mut [u32]
     requires { ⌜ n < 2 ^ 31 ⌝ }
     ensures { λ r. ⌜ PutsRows (BodyAt (now (s .entry)) (now (nodes .entry)) commandBody k v n) (now (rows .entry)) (now (rows .exit)) n (2 ^ 34) r ⌝ }
 {
-    let d = value_at(s, true, nodes, k, b"data");
-    let returns = value_at(s, true, nodes, k, b"returns");
+    let d = value_at(s, Dialect::Schema, nodes, k, b"data");
+    let returns = value_at(s, Dialect::Schema, nodes, k, b"returns");
     let t = take_return(nodes, returns);
     let TypeRead::Taken(place, list) = t else {
         return Put::Refused;
     };
-    let flag = value_at(s, true, nodes, k, b"allow-oob");
+    let flag = value_at(s, Dialect::Schema, nodes, k, b"allow-oob");
     let f = take_flag(nodes, flag);
     let FlagRead::Flag(oob) = f else {
         return Put::Refused;

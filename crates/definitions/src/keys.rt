@@ -1,6 +1,7 @@
 // The keys that each kind of definition may have.
 use lookups::values::node_means;
 use rules::kind;
+use strings::dialects::Dialect;
 use text::nodes::NODE_NEXT;
 use text::nodes::node_number;
 ghost use mathlib.Core.List.{_∷_, []};
@@ -10,10 +11,10 @@ ghost use Rattle.definitions.specs.Parts.{keysFor, KeyIn, OnlyKeys};
 fn is_either(s: &[u8], nodes: &[u32], a: usize, x: &[u8], y: &[u8]) -> bool
     ensures { λ r. ⌜ KeyIn (now (s .entry)) (now (nodes .entry)) (now (x .entry) ∷ now (y .entry) ∷ []) a r ⌝ }
 {
-    if node_means(s, true, nodes, a, x) {
+    if node_means(s, Dialect::Schema, nodes, a, x) {
         return true;
     }
-    node_means(s, true, nodes, a, y)
+    node_means(s, Dialect::Schema, nodes, a, y)
 }
 
 // Whether it means one of four.
@@ -29,7 +30,7 @@ fn is_one_of_four(s: &[u8], nodes: &[u32], a: usize, x: &[u8], y: &[u8], z: &[u8
 fn struct_key(s: &[u8], nodes: &[u32], a: usize) -> bool
     ensures { λ r. ⌜ KeyIn (now (s .entry)) (now (nodes .entry)) (keysFor 3) a r ⌝ }
 {
-    if node_means(s, true, nodes, a, b"struct") {
+    if node_means(s, Dialect::Schema, nodes, a, b"struct") {
         return true;
     }
     is_either(s, nodes, a, b"data", b"base")

@@ -13,6 +13,7 @@ use rules::MessageAnswer;
 use rules::MessageRefusal;
 use rules::RECORD_WORDS;
 use rules::row;
+use strings::dialects::Dialect;
 use table::sound::is_sound;
 use text::keys::keys_once;
 use text::nodes::NODE_WORDS;
@@ -130,7 +131,7 @@ fn with_nodes(
     requires { ⌜ TextRead (now schema) (now rows) (now m) (now nodes) count ⌝ }
     ensures { λ r. ⌜ Judged (now (schema .entry)) (now (rows .entry)) (now (m .entry)) 4 (now (records .entry)) (now (records .exit)) r ⌝ }
 {
-    if !keys_once(m, false, nodes, count) {
+    if !keys_once(m, Dialect::Message, nodes, count) {
         return MessageAnswer::Refused(MessageRefusal::RepeatedKey);
     }
     match read_envelope(m, nodes) {
