@@ -74,7 +74,7 @@ fn put_body(
     }
 }
 
-// The same, if the value at node v is a name and there is no key but those of the kind.
+// The definition of that row kind, refused unless the value at node v is a name and there is no key but those of the kind.
 fn put_kind(
     s: &[u8],
     nodes: &[u32],

@@ -54,3 +54,19 @@ pub fn two_keys(s: &[u8], dialect: Dialect, nodes: &[u32], k: usize, x: &[u8], y
 {
     one_key(s, dialect, nodes, k, x) + one_key(s, dialect, nodes, k, y)
 }
+
+// How many of four names are keys of the object at node k.
+pub fn four_keys(
+    s: &[u8],
+    dialect: Dialect,
+    nodes: &[u32],
+    k: usize,
+    x: &[u8],
+    y: &[u8],
+    z: &[u8],
+    u: &[u8],
+) -> usize
+    ensures { λ r. ⌜ FindsKeys (grammarOf dialect) (now (s .entry)) (now (nodes .entry)) k (now (x .entry) ∷ now (y .entry) ∷ now (z .entry) ∷ now (u .entry) ∷ []) r ⌝ }
+{
+    two_keys(s, dialect, nodes, k, x, y) + two_keys(s, dialect, nodes, k, z, u)
+}

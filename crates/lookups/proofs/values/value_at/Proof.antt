@@ -1,8 +1,6 @@
 -- `values::value_at` meets its contract: the fields left decide what all do.
 -- The measure is the nodes left.
 use Prim.Native.Nat.{suc, _-_}
-use native.Mathlib.Omega.{arith}
-use mathlib.Core.Path.{_≡_}
 use borrow.Author.Needs.{needs}
 use Rattle.rules.specs.Values.{valueAt}
 use Rattle.strings.specs.Strings.{grammarOf}

@@ -7,7 +7,6 @@ use lib.ListN.{length}
 use mathlib.Core.Logic.{⊎-elim}
 use Rattle.strings.specs.declared.dialects.Dialect.the-variants.{Message}
 use Rattle.strings.proofs.StringReads.{moves, CodedTo, plain-string, coded-starts, coded-more, coded-string, coded-fault, coded-ends}
-use mathlib.Core.Bool.{false}
 use Rattle.strings.proofs.strings.message_string.Statement.{statement}
 use Rattle.strings.proofs.strings.message_string.Tie as tie
 

@@ -4,7 +4,6 @@ use Prim.Native.Nat.{_-_}
 use native.Mathlib.Omega.{arith}
 use borrow.Author.Needs.{needs}
 use lib.ListN.{length}
-use mathlib.Core.Bool.{true}
 use Rattle.strings.specs.declared.dialects.Dialect.the-variants.{Schema}
 use Rattle.strings.proofs.StringReads.{moves, SchemaTo, schema-starts, schema-plain, schema-coded, schema-plain-string, schema-coded-string, schema-fault, schema-ends}
 use Rattle.strings.proofs.strings.schema_string.Statement.{statement}
