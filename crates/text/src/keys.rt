@@ -10,6 +10,8 @@ use buckets::BUCKETS;
 use buckets::add;
 use buckets::first;
 use buckets::next;
+use grammar::MESSAGE_BYTES;
+use grammar::SCHEMA_BYTES;
 use strings::dialects::Dialect;
 use strings::marks::mark_of;
 use strings::meanings::same_meaning;
@@ -22,14 +24,17 @@ ghost use Rattle.buckets.specs.Buckets.{buckets};
 ghost use Rattle.strings.specs.Strings.{grammarOf};
 ghost use Rattle.text.specs.Keys.{SameKeys, NewKey, KeyMark, Unlisted, KeysApart, KeysOnce};
 
-// In an object of fewer nodes an index costs more than it saves.
+// In an object of fewer nodes an index costs more than it saves, by measurement.
 const LARGE: usize = 24;
 
-// Links of an index, one for each node of a text: enough for most messages.
-const FEW_LINKS: usize = 1024;
+// An index has a link for each node of a text, and a node takes at least two bytes. A schema may be the longest text.
+const LINKS: usize = SCHEMA_BYTES / 2;
 
-// Enough for any text that the gateway reads.
-const LINKS: usize = 16384;
+// Enough for a message of an eighth of what one may have, which most are shorter than.
+const FEW_LINKS: usize = MESSAGE_BYTES / 8 / 2;
+
+// A text of fewer nodes than a large object has no index; an array has at least one word.
+const NO_LINKS: usize = 1;
 
 // Whether the keys at nodes a and b mean the same.
 fn same_key(s: &[u8], dialect: Dialect, nodes: &[u32], a: usize, b: usize) -> bool
@@ -203,7 +208,7 @@ pub fn keys_once(s: &[u8], dialect: Dialect, nodes: &[u32], count: usize) -> boo
     ensures { λ r. ⌜ KeysOnce (grammarOf dialect) (now (s .entry)) (now (nodes .entry)) count r ⌝ }
 {
     if count < LARGE {
-        let mut links = [0u32; 1];
+        let mut links = [0u32; NO_LINKS];
         return objects_once(s, dialect, nodes, count, &mut links);
     }
     if count <= FEW_LINKS {
