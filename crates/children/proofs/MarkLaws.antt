@@ -8,6 +8,7 @@ use lib.ListN.{length, getD, take, drop, drop-of-length-le}
 use lib.Seq.{drop-cons}
 use Rattle.grammar.specs.Tree.Scalar.{str}
 use Rattle.grammar.specs.Machine.Message.{message}
+use Rattle.strings.specs.declared.dialects.Dialect.the-variants.{Message}
 use Rattle.strings.specs.Strings.{plainString, Means}
 use Rattle.strings.specs.Meanings.{inside}
 use Rattle.strings.proofs.Comparisons.{plain-means}
@@ -66,5 +67,5 @@ module _ {m w : List ℕ} {k a e : ℕ} (pa : a ≡ nodeStart w k) (pe : e ≡ n
   pub token-bytes : {n i : ℕ} {bytes : List ℕ} → i ≡ a + 1 → n ≡ e - a - 2 → bytes ≡ take n (drop i m) → InnerBytes m w k bytes
   token-bytes q p h = record {
     told = λ cs u t. let v = token u in
-        h ∙ ap₂ (λ (y z : ℕ). take y (drop z m)) p q ∙ ap₂ (λ (y z : ℕ). inside m y z) pa pe ∙ sym (plain-means false (v .means) (v .plain t));
+        h ∙ ap₂ (λ (y z : ℕ). take y (drop z m)) p q ∙ ap₂ (λ (y z : ℕ). inside m y z) pa pe ∙ sym (plain-means Message (v .means) (v .plain t));
   }

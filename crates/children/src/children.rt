@@ -13,6 +13,7 @@ use rows::rows::next_row;
 use rows::rows::wide;
 use rows::rows::word;
 use rules::row;
+use strings::dialects::Dialect;
 use text::nodes::NODE_END;
 use text::nodes::NODE_KIND;
 use text::nodes::NODE_START;
@@ -33,7 +34,7 @@ fn scanned_child(schema: &[u8], rows: &[u32], m: &[u8], nodes: &[u32], r: usize,
     let mut c = first_child(rows, r);
     let mut left = child_count(rows, r);
     while 0 < left {
-        if node_means(m, false, nodes, k, name_of(schema, rows, c)) {
+        if node_means(m, Dialect::Message, nodes, k, name_of(schema, rows, c)) {
             return c + 1;
         }
         c = next_row(rows, c);

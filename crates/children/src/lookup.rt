@@ -10,6 +10,7 @@ use lookups::values::node_means;
 use rows::names::name_of;
 use rows::rows::wide;
 use rules::TABLE_ROWS;
+use strings::dialects::Dialect;
 ghost use mathlib.Core.Path.{_≡_};
 ghost use Prim.Native.Nat.{_≤_, _<_, _^_};
 ghost use lib.ListN.{length, getD};
@@ -42,7 +43,7 @@ fn is_meant(
     if number_at(owners, c) != r {
         return false;
     }
-    node_means(m, false, nodes, k, name_of(schema, rows, c))
+    node_means(m, Dialect::Message, nodes, k, name_of(schema, rows, c))
 }
 
 // The link of the first such row that follows the word `head`; 0 if there is none.

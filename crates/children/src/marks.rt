@@ -1,6 +1,7 @@
 // Marks of names, and of what keys and strings mean.
 use lookups::values::plain_kind;
 use strings::chars::wide;
+use strings::dialects::Dialect;
 use strings::marks::mark_of;
 use strings::marks::mix;
 use text::nodes::NODE_END;
@@ -38,5 +39,5 @@ pub fn meaning_mark(m: &[u8], nodes: &[u32], k: usize) -> u32
     let a = node_number(nodes, k, NODE_START);
     let e = node_number(nodes, k, NODE_END);
     let plain = plain_kind(node_word(nodes, k, NODE_KIND));
-    mark_of(m, false, a, e, plain)
+    mark_of(m, Dialect::Message, a, e, plain)
 }

@@ -7,7 +7,7 @@ use mathlib.Core.Bool.{Bool, true, false}
 use mathlib.Core.List.{List}
 use mathlib.Core.Option.{Option, some}
 use Rattle.grammar.specs.Tree.{Json}
-use Rattle.text.specs.Nodes.{node, nodeKind}
+use Rattle.text.specs.Nodes.{nodeKind}
 use Rattle.lookups.specs.Lookups.{stringKind}
 use Rattle.rules.specs.Kinds.{value-kind, member-kind}
 use Rattle.rules.specs.Definitions.{Name, TypeText, quoted, starred, memberOf, asType}

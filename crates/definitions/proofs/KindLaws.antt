@@ -5,19 +5,21 @@ use mathlib.Core.Bool.{Bool, true, false}
 use mathlib.Core.List.{List}
 use mathlib.Core.Option.{Option, none, some}
 use borrow.Author.Tests.{ne-eqb}
-use Rattle.grammar.specs.Notation.{text, all}
+use Rattle.grammar.specs.Notation.{text, same, all, apart}
 use Rattle.grammar.specs.Tree.{Json, Fields}
-use Rattle.grammar.specs.Keys.{keysOf}
+use Rattle.grammar.specs.Tree.Json.{leaf, arr, obj}
+use Rattle.grammar.proofs.Booleans.{both, none-not-some}
+use Rattle.grammar.specs.Keys.{keysOf, keysOnce, keysOnceF}
 use Rattle.grammar.specs.Machine.Schema.{schema}
 use Rattle.text.specs.Nodes.{nodeKind}
-use Rattle.lookups.specs.Lookups.{stringKind, FindsValue}
+use Rattle.lookups.specs.Lookups.{stringKind, FindsValue, NoOtherKeys}
 use Rattle.rules.specs.Kinds.{enum-kind, struct-kind, union-kind, alternate-kind}
 use Rattle.rules.specs.Definitions.{Name, Body, Definition, only, commandBody, asDefinition}
-use Rattle.rules.specs.Values.{_>>=_, anyOf, valueAt}
+use Rattle.rules.specs.Values.{_>>=_, asFields, anyOf, valueAt}
 use Rattle.definitions.specs.declared.definitions.KindKey.{KindKey}
 use Rattle.definitions.specs.declared.definitions.KindKey.the-variants.{Key, NoKey}
 use Rattle.definitions.specs.Places.{Held, Found}
-use Rattle.definitions.specs.Parts.{FieldsAt, BodyAt, keysFor, bodyFor, bodyRows, rowsAt, OnlyKeys, kindOnly, KindAt, KindTold, FindsKind, DefinitionAt}
+use Rattle.definitions.specs.Parts.{FieldsAt, BodyAt, keysFor, bodyFor, bodyRows, rowsAt, kindOnly, KindAt, KindTold, FindsKind, DefinitionAt}
 use Rattle.definitions.proofs.NameLaws.{is-name, no-name}
 use Rattle.definitions.proofs.ShapeLaws.{held-there, as-object, no-object}
 use Rattle.definitions.proofs.BodyLaws.{found-at, nowhere}
@@ -51,11 +53,11 @@ module _ {s w : List ℕ} (kind : ℕ) {k v n : ℕ} {r : Bool} (q : r ≡ strin
   pub kind-no-name : r ≡ false → (o : Option (List ℕ)) → KindAt s w kind k v n o → o ≡ none
   kind-no-name e o h = h .are ∙ rw (no-name (h .held) q e)
 
-  module _ {t : Bool} (u : r ≡ true) (g : OnlyKeys s w (keysFor kind) k t) where
+  module _ {t : Bool} (u : r ≡ true) (g : NoOtherKeys schema s w k (keysFor kind) t) where
     pub kind-other-key : t ≡ false → (o : Option (List ℕ)) → KindAt s w kind k v n o → o ≡ none
     kind-other-key e o h =
         let x = is-name (h .held) q u in
-        h .are ∙ rw (x .is) (ap (λ (i : Option Definition). i >>= rowsAt n) (only-none (keysFor kind) (h .fs) (x .name) (bodyFor kind (h .fs)) (sym (g .told (h .fs) (h .fields)) ∙ e)))
+        h .are ∙ rw (x .is) (ap (λ (i : Option Definition). i >>= rowsAt n) (only-none (keysFor kind) (h .fs) (x .name) (bodyFor kind (h .fs)) (sym (g .told (h .fs) _ (h .fields .holds) (h .once)) ∙ e)))
 
     pub kind-handed : t ≡ true → (o : Option (List ℕ)) → KindAt s w kind k v n o → BodyAt s w (bodyFor kind) k v n o
     kind-handed e o h =
@@ -65,7 +67,7 @@ module _ {s w : List ℕ} (kind : ℕ) {k v n : ℕ} {r : Bool} (q : r ≡ strin
           fields = h .fields;
           name = x .name;
           named = x .named;
-          are = h .are ∙ rw (x .is) (only-body n (keysFor kind) (h .fs) (x .name) (bodyFor kind (h .fs)) (sym (g .told (h .fs) (h .fields)) ∙ e));
+          are = h .are ∙ rw (x .is) (only-body n (keysFor kind) (h .fs) (x .name) (bodyFor kind (h .fs)) (sym (g .told (h .fs) _ (h .fields .holds) (h .once)) ∙ e));
         }
 
 -- the kind key
@@ -129,6 +131,11 @@ module _ {s w : List ℕ} {k e : ℕ} (f : FindsValue schema s w k (text "enum")
           kind-none z = record { told = λ fs h. rw (absent-at h f a, absent-at h g b, absent-at h l c, absent-at h m d, absent-at h p z) }
 
 -- a top-level value
+fields-once : (j : Json) {fs : Fields} → asFields j ≡ some fs → keysOnce j ≡ true → apart same (keysOf fs) ≡ true
+fields-once (leaf a e v) h o = none-not-some h
+fields-once (arr a e js) h o = none-not-some h
+fields-once (obj a e gs) {fs} h o = let q : gs ≡ fs = cc in rw (← q) (both (apart same (keysOf gs)) (keysOnceF gs) o .0)
+
 module _ {s w : List ℕ} {k n x : ℕ} (e : x ≡ nodeKind w k) where
   pub definition-no-object : (x ≡ object-node → ⊥) → (o : Option (List ℕ)) → DefinitionAt s w k n o → o ≡ none
   definition-no-object z o h = h .are ∙ rw (no-object (h .value) (h .held) (λ q. z (e ∙ q)))
@@ -144,4 +151,4 @@ module _ {s w : List ℕ} {k n x : ℕ} (e : x ≡ nodeKind w k) where
     definition-handed {kind} {p} q o h =
         let v = as-object (h .value) (h .held) (sym e ∙ t) in
         let y : KindTold s w (v .fs) (Key kind p) = subst (λ (i : KindKey). KindTold s w (v .fs) i) q (g .told (v .fs) (v .fields)) in
-        record { fs = v .fs; fields = v .fields; value = y .0; held = y .1; are = h .are ∙ rw (v .is) (ap (λ (i : Option Definition). i >>= rowsAt n) (y .2)) }
+        record { fs = v .fs; fields = v .fields; once = fields-once (h .value) (v .is) (h .once); value = y .0; held = y .1; are = h .are ∙ rw (v .is) (ap (λ (i : Option Definition). i >>= rowsAt n) (y .2)) }

@@ -15,7 +15,7 @@ use Rattle.grammar.specs.Tree.{Json, Items, Fields}
 use Rattle.grammar.specs.Tree.Items.{no-items, item}
 use Rattle.grammar.specs.Tree.Fields.{no-fields, field}
 use Rattle.grammar.specs.Machine.Schema.{schema}
-use Rattle.text.specs.Nodes.{node, next, HoldsItems, HoldsFields, nodeKind}
+use Rattle.text.specs.Nodes.{next, HoldsItems, HoldsFields, nodeKind}
 use Rattle.text.proofs.KeyLaws.{goes-on}
 use Rattle.rules.specs.Kinds.{value-kind, member-kind}
 use Rattle.rules.specs.Definitions.{Name, TypeText, quoted, starred, memberOf, asName, asType, names, members, pairs, asNames, asMembers, asPairs, must}

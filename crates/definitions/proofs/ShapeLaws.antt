@@ -20,7 +20,7 @@ use Rattle.grammar.proofs.Booleans.{none-not-some, some-is}
 use Rattle.strings.specs.Strings.{plainString}
 use Rattle.tokens.specs.NodeKinds.{false-node, true-node, plain-string-node, other-string-node, array-node, object-node}
 use Rattle.tokens.specs.Tokens.{scalarNode}
-use Rattle.text.specs.Nodes.{node, next, Holds, HoldsItems, nodeKind}
+use Rattle.text.specs.Nodes.{next, Holds, HoldsItems, nodeKind}
 use Rattle.text.proofs.KeyLaws.{goes-on}
 use Rattle.lookups.specs.Lookups.{stringKind}
 use Rattle.rules.specs.Definitions.{Name, TypeText, Member, Data, quoted, listType, asType, asMembers, asData, asStructName, may}

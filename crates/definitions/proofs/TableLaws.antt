@@ -3,16 +3,18 @@
 use Prim.Native.Nat.{ℕ, _+_, _*_, _≤_, _<_}
 use native.Mathlib.Omega.{arith}
 use mathlib.Core.Path.{_≡_, refl, sym, ap, _∙_, subst}
+use mathlib.Core.Bool.{true}
 use mathlib.Core.List.{List, [], _∷_, _++_, map, append-nil}
 use mathlib.Core.Option.{Option, none, some}
 use lib.ListN.{length, take, drop, length-append, length-map}
 use lib.Seq.{sets-eq, take-append-seam}
-use Rattle.grammar.specs.Limits.{schema-bytes, row-words}
+use Rattle.grammar.specs.Limits.{row-words}
 use Rattle.grammar.specs.Tree.{Json, Items, Fields}
 use Rattle.grammar.specs.Tree.Json.{leaf, arr, obj}
 use Rattle.grammar.specs.Tree.Items.{no-items, item}
+use Rattle.grammar.specs.Keys.{keysOnce, keysOnceI}
 use Rattle.grammar.specs.Machine.Schema.{schema}
-use Rattle.grammar.proofs.Booleans.{none-not-some}
+use Rattle.grammar.proofs.Booleans.{both, none-not-some}
 use Rattle.text.specs.Nodes.{next, Holds, HoldsItems}
 use Rattle.text.proofs.KeyLaws.{goes-on}
 use Rattle.rules.specs.Kinds.{union-kind, branch-kind, alternative-kind}
@@ -27,7 +29,7 @@ use Rattle.definitions.specs.declared.rows.Put.the-variants.{Rows, Refus
 use Rattle.definitions.specs.Places.{Held}
 use Rattle.definitions.specs.Written.{RowPut, RowsAre, PutsRows}
 use Rattle.definitions.specs.Parts.{valueRow, memberRow, pairRow, bodyRows, rowsAt, DefinitionAt}
-use Rattle.definitions.specs.Puts.{RowsPut}
+use Rattle.definitions.specs.Puts.{RowsPut, Fit}
 use Rattle.definitions.proofs.Options.{came-of, none-of}
 use Rattle.definitions.proofs.Stores.{put-none, put-after, came, failed}
 use Rattle.definitions.proofs.ListLaws.{ahead, ahead-none, ahead-more}
@@ -94,18 +96,19 @@ pub record DefinitionsPassed (s w old now : List ℕ) (count k n : ℕ) (js : It
   pub size : row-words * n ≡ length xs
   pub put : RowPut old now 0 xs
   pub holds : HoldsItems schema s w rest l k count
+  pub once : keysOnceI rest ≡ true
 
 pub record DefinitionsLeft (s w old now : List ℕ) (count k n : ℕ) : Type 0 where
   pub same-length : length now ≡ length old
   pub few : n ≤ k
-  pub passed : (js : Items) (l : ℕ) → length s ≤ schema-bytes → HoldsItems schema s w js l 0 count → DefinitionsPassed s w old now count k n js l
+  pub passed : (js : Items) (l : ℕ) → Fit s js → HoldsItems schema s w js l 0 count → DefinitionsPassed s w old now count k n js l
 
 pub definitions-begin : (s w old : List ℕ) (count : ℕ) → DefinitionsLeft s w old old count 0 0
 definitions-begin s w old count =
     record {
       same-length = refl;
       few = omega arith;
-      passed = λ js l z h. record { xs = []; rest = js; is = ahead-none (definitionRows 0 js); size = refl; put = put-none old 0; holds = h };
+      passed = λ js l z h. record { xs = []; rest = js; is = ahead-none (definitionRows 0 js); size = refl; put = put-none old 0; holds = h; once = z .once };
     }
 
 -- the first value that is left
@@ -115,17 +118,20 @@ record FirstValue (s w : List ℕ) (count k l : ℕ) (js : Items) : Type 0 where
   pub is : js ≡ item value rest
   pub here : Holds schema s w value l k
   pub after : HoldsItems schema s w rest l (next w k) count
+  pub once : keysOnce value ≡ true
+  pub rest-once : keysOnceI rest ≡ true
 
-first-value : (s w : List ℕ) (count k l : ℕ) (js : Items) → k < count → HoldsItems schema s w js l k count → FirstValue s w count k l js
-first-value s w count k l no-items h x = absurd (omega (arith, x))
-first-value s w count k l (item j js) h x = record { value = j; rest = js; is = refl; here = x .1; after = x .2 }
+first-value : (s w : List ℕ) (count k l : ℕ) (js : Items) → k < count → HoldsItems schema s w js l k count → keysOnceI js ≡ true → FirstValue s w count k l js
+first-value s w count k l no-items h x o = absurd (omega (arith, x))
+first-value s w count k l (item j js) h x o =
+    let p = both (keysOnce j) (keysOnceI js) o in record { value = j; rest = js; is = refl; here = x .1; after = x .2; once = p .0; rest-once = p .1 }
 
 module _ {s w old now : List ℕ} {count k n : ℕ} (v : DefinitionsLeft s w old now count k n) where
   module _ {new : List ℕ} {most : ℕ} {r : Put} (h : k < count) (g : PutsRows (DefinitionAt s w k n) now new n most r) where
     -- the definition that was put, and how many rows it took
-    module _ {m : ℕ} (t : r ≡ Rows m) (j : Json) (u : Held s w j k) where
+    module _ {m : ℕ} (t : r ≡ Rows m) (j : Json) (u : Held s w j k) (o : keysOnce j ≡ true) where
       here : RowsAre (asFields j >>= asDefinition >>= rowsAt n) now new n m
-      here = came g t (asFields j >>= asDefinition >>= rowsAt n) (record { value = j; held = u; are = refl })
+      here = came g t (asFields j >>= asDefinition >>= rowsAt n) (record { value = j; held = u; once = o; are = refl })
 
       definition : (d : Definition) × ((asFields j >>= asDefinition) ≡ some d) × (here .xs ≡ bodyRows n (d .name) (d .body))
       definition = came-of (λ (d : Definition). bodyRows n (d .name) (d .body)) (asFields j >>= asDefinition) (here .are)
@@ -140,15 +146,15 @@ module _ {s w old now : List ℕ} {count k n : ℕ} (v : DefinitionsLeft s w old
           few = o;
           passed = λ js l z x.
               let p = v .passed js l z x in
-              let f = first-value s w count k l (p .rest) h (p .holds) in
-              let u : Held s w (f .value) k = record { small = z; level = l; holds = f .here } in
-              let c = here t (f .value) u in
-              let d = definition t (f .value) u in
+              let f = first-value s w count k l (p .rest) h (p .holds) (p .once) in
+              let u : Held s w (f .value) k = record { small = z .small; level = l; holds = f .here } in
+              let c = here t (f .value) u (f .once) in
+              let d = definition t (f .value) u (f .once) in
               let q : definitionRows n (p .rest) ≡ ahead (c .xs) (definitionRows m (f .rest)) =
               ap (definitionRows n) (f .is) ∙ rows-first n (f .value) (f .rest)
               ∙ ap (λ (a : Option Definition). a >>= λ b. ahead (bodyRows n (b .name) (b .body)) (definitionRows (n + rowsTaken (b .body)) (f .rest))) (d .1)
               ∙ ap (λ (a : List ℕ). ahead a (definitionRows (n + rowsTaken (d .0 .body)) (f .rest))) (sym (d .2))
-              ∙ ap (λ (a : ℕ). ahead (c .xs) (definitionRows a (f .rest))) (sym (taken t (f .value) u)) in
+              ∙ ap (λ (a : ℕ). ahead (c .xs) (definitionRows a (f .rest))) (sym (taken t (f .value) u (f .once))) in
               record {
                 xs = p .xs ++ c .xs;
                 rest = f .rest;
@@ -156,15 +162,16 @@ module _ {s w old now : List ℕ} {count k n : ℕ} (v : DefinitionsLeft s w old
                 size = omega (arith, p .size, c .size, length-append (p .xs) (c .xs));
                 put = let a : row-words * n ≡ row-words * 0 + length (p .xs) = omega (arith, p .size) in put-after a (p .put) (c .put);
                 holds = subst (λ (a : ℕ). HoldsItems schema s w (f .rest) l a count) (sym e) (f .after);
+                once = f .rest-once;
               };
         }
 
-    pub definitions-fail : r ≡ Refused → (js : Items) (l : ℕ) → length s ≤ schema-bytes → HoldsItems schema s w js l 0 count → definitions js ≡ none
+    pub definitions-fail : r ≡ Refused → (js : Items) (l : ℕ) → Fit s js → HoldsItems schema s w js l 0 count → definitions js ≡ none
     definitions-fail t js l z x =
         let p = v .passed js l z x in
-        let f = first-value s w count k l (p .rest) h (p .holds) in
-        let u : Held s w (f .value) k = record { small = z; level = l; holds = f .here } in
-        let a = failed g t (asFields (f .value) >>= asDefinition >>= rowsAt n) (record { value = f .value; held = u; are = refl }) in
+        let f = first-value s w count k l (p .rest) h (p .holds) (p .once) in
+        let u : Held s w (f .value) k = record { small = z .small; level = l; holds = f .here } in
+        let a = failed g t (asFields (f .value) >>= asDefinition >>= rowsAt n) (record { value = f .value; held = u; once = f .once; are = refl }) in
         let b = none-of (λ (d : Definition). bodyRows n (d .name) (d .body)) (asFields (f .value) >>= asDefinition) a in
         let q : definitionRows n (p .rest) ≡ none =
         ap (definitionRows n) (f .is) ∙ rows-first n (f .value) (f .rest)
@@ -172,21 +179,21 @@ module _ {s w old now : List ℕ} {count k n : ℕ} (v : DefinitionsLeft s w old
         none-of (rawFrom 0) (definitions js) (p .is ∙ ap (ahead (p .xs)) q)
 
     -- the next node lies behind, and is no less than the rows
-    pub definitions-stuck : {i : ℕ} → i ≡ next w k → i ≤ k → (js : Items) (l : ℕ) → length s ≤ schema-bytes → HoldsItems schema s w js l 0 count → definitions js ≡ none
+    pub definitions-stuck : {i : ℕ} → i ≡ next w k → i ≤ k → (js : Items) (l : ℕ) → Fit s js → HoldsItems schema s w js l 0 count → definitions js ≡ none
     definitions-stuck e o js l z x =
         let p = v .passed js l z x in
-        let f = first-value s w count k l (p .rest) h (p .holds) in
+        let f = first-value s w count k l (p .rest) h (p .holds) (p .once) in
         absurd (omega (arith, goes-on schema s w (f .value) l k (f .here)))
 
-    pub definitions-over : {m i : ℕ} → r ≡ Rows m → i ≡ next w k → i < m → (js : Items) (l : ℕ) → length s ≤ schema-bytes → HoldsItems schema s w js l 0 count → definitions js ≡ none
+    pub definitions-over : {m i : ℕ} → r ≡ Rows m → i ≡ next w k → i < m → (js : Items) (l : ℕ) → Fit s js → HoldsItems schema s w js l 0 count → definitions js ≡ none
     definitions-over t e o js l z x =
         let p = v .passed js l z x in
-        let f = first-value s w count k l (p .rest) h (p .holds) in
-        let u : Held s w (f .value) k = record { small = z; level = l; holds = f .here } in
-        let d = definition t (f .value) u in
-        absurd (omega (arith, taken t (f .value) u, few-rows (f .value) (d .1), value-ends s w (f .value) l k (f .here), v .few))
+        let f = first-value s w count k l (p .rest) h (p .holds) (p .once) in
+        let u : Held s w (f .value) k = record { small = z .small; level = l; holds = f .here } in
+        let d = definition t (f .value) u (f .once) in
+        absurd (omega (arith, taken t (f .value) u (f .once), few-rows (f .value) (d .1), value-ends s w (f .value) l k (f .here), v .few))
 
-  pub definitions-all : count ≤ k → (js : Items) (l : ℕ) → length s ≤ schema-bytes → HoldsItems schema s w js l 0 count → RowsPut old now js count n
+  pub definitions-all : count ≤ k → (js : Items) (l : ℕ) → Fit s js → HoldsItems schema s w js l 0 count → RowsPut old now js count n
   definitions-all o js l z x =
       let p = v .passed js l z x in
       let e = none-left (p .rest) (p .holds) in

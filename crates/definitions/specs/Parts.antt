@@ -1,24 +1,23 @@
 -- Serves contracts: the rows of the parts of a definition, as functions of the trees that the nodes hold; no rows where the table of keys is broken.
 use Prim.Native.Nat.{ℕ, suc, _+_, _≤_}
 use mathlib.Core.Path.{_≡_}
-use mathlib.Core.Bool.{Bool, cond}
+use mathlib.Core.Bool.{true, cond}
 use mathlib.Core.List.{List, [], _∷_, _++_, map}
 use mathlib.Core.Option.{Option, none, some}
 use lib.Dec.{eqb}
 use lib.ListN.{length}
 use Rattle.grammar.specs.Limits.{schema-bytes}
-use Rattle.grammar.specs.Notation.{text, all}
+use Rattle.grammar.specs.Notation.{text, same, apart}
 use Rattle.grammar.specs.Tree.{Json, Fields}
-use Rattle.grammar.specs.Keys.{keysOf}
+use Rattle.grammar.specs.Keys.{keysOf, keysOnce}
 use Rattle.grammar.specs.Machine.Schema.{schema}
 use Rattle.text.specs.Nodes.{next, HoldsFields}
-use Rattle.text.specs.Keys.{KeyAt}
 use Rattle.rules.specs.Kinds.{enum-kind, value-kind, struct-kind, member-kind, union-kind, alternate-kind, command-kind}
 use Rattle.rules.specs.Definitions.{Name, Member, Pair, Body, Definition, quoted, starred, memberOf, asName, asType, asNames, asMembers, asPairs, asData, must, may, only}
 use Rattle.rules.specs.Definitions.{enumBody, structBody, unionBody, alternateBody, commandBody, asDefinition}
 use Rattle.rules.specs.Definitions.Data.{absent}
 use Rattle.rules.specs.Definitions.Body.{union}
-use Rattle.rules.specs.Values.{_>>=_, asFields, anyOf, valueAt}
+use Rattle.rules.specs.Values.{_>>=_, asFields, valueAt}
 use Rattle.rules.specs.SchemaTable.{row, concat, flag, isList, typeOf, dataLink, inlineStruct, rowsOf}
 use Rattle.rules.specs.RawTable.{packed}
 use Rattle.definitions.specs.declared.definitions.KindKey.{KindKey}
@@ -147,14 +146,6 @@ keysFor kind =
 abbrev pub bodyFor : ℕ → Fields → Option Body
 bodyFor kind fs = byKind kind (enumBody fs) (structBody fs) (unionBody fs) (alternateBody fs) (commandBody fs)
 
--- the key at node a is one of these
-pub record KeyIn (s w : List ℕ) (ks : List (List ℕ)) (a : ℕ) (r : Bool) : Type 0 where
-  pub told : (key : List ℕ) → KeyAt schema s w a key → r ≡ anyOf ks key
-
--- all keys of the object at node k are
-pub record OnlyKeys (s w : List ℕ) (ks : List (List ℕ)) (k : ℕ) (r : Bool) : Type 0 where
-  pub told : (fs : Fields) → FieldsAt s w fs k → r ≡ all (anyOf ks) (keysOf fs)
-
 -- a definition whose kind key has the value at node v
 abbrev pub kindOnly : ℕ → Fields → Json → Option Definition
 kindOnly kind fs j = asName j >>= λ n. only (keysFor kind) fs n (bodyFor kind fs)
@@ -162,6 +153,7 @@ kindOnly kind fs j = asName j >>= λ n. only (keysFor kind) fs n (bodyFor kind f
 pub record KindAt (s w : List ℕ) (kind k v n : ℕ) (o : Option (List ℕ)) : Type 0 where
   pub fs : Fields
   pub fields : FieldsAt s w fs k
+  pub once : apart same (keysOf fs) ≡ true
   pub value : Json
   pub held : Held s w value v
   pub are : o ≡ (kindOnly kind fs value >>= rowsAt n)
@@ -174,8 +166,9 @@ KindTold s w fs NoKey = asDefinition fs ≡ none
 pub record FindsKind (s w : List ℕ) (k : ℕ) (r : KindKey) : Type 0 where
   pub told : (fs : Fields) → FieldsAt s w fs k → KindTold s w fs r
 
--- the value at node k as a definition at row n
+-- the value at node k, which repeats no key, as a definition at row n
 pub record DefinitionAt (s w : List ℕ) (k n : ℕ) (o : Option (List ℕ)) : Type 0 where
   pub value : Json
   pub held : Held s w value k
+  pub once : keysOnce value ≡ true
   pub are : o ≡ (asFields value >>= asDefinition >>= rowsAt n)

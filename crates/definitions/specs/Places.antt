@@ -10,7 +10,7 @@ use Rattle.grammar.specs.Tree.{Json}
 use Rattle.grammar.specs.Machine.Schema.{schema}
 use Rattle.strings.specs.Strings.{Means}
 use Rattle.tokens.specs.Tokens.{keyNode}
-use Rattle.text.specs.Nodes.{node, Node, Holds, nodeEnd, nodeStart}
+use Rattle.text.specs.Nodes.{Node, Holds, nodeEnd, nodeStart}
 use Rattle.lookups.specs.Lookups.{ValueFound}
 use Rattle.rules.specs.Definitions.{Name, TypeText, Data, quoted, starred, listType, asType, asData, asStructName, may}
 use Rattle.rules.specs.Definitions.TypeText.{nothing, one, listOf}

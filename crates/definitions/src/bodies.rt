@@ -3,6 +3,7 @@ use crate::children::put_children;
 use crate::children::put_counted;
 use crate::children::put_inline;
 use crate::rows::Put;
+use crate::rows::Row;
 use crate::rows::put_named_row;
 use crate::shapes::FlagRead;
 use crate::shapes::TypeRead;
@@ -16,6 +17,7 @@ use crate::values::name_word;
 use lookups::values::is_string;
 use lookups::values::value_at;
 use rules::kind;
+use strings::dialects::Dialect;
 ghost use Prim.Native.Nat.{_^_, _<_};
 ghost use Rattle.rules.specs.Definitions.{structBody, unionBody, commandBody};
 ghost use Rattle.definitions.specs.Written.{PutsRows};
@@ -35,17 +37,26 @@ pub fn put_list(
     requires { ⌜ (n < 2 ^ 31) × (kind < 8) ⌝ }
     ensures { λ r. ⌜ PutsRows (ListAt (now (s .entry)) (now (nodes .entry)) kind link k v) (now (rows .entry)) (now (rows .exit)) n (2 ^ 34) r ⌝ }
 {
-    let d = value_at(s, true, nodes, k, b"data");
+    let d = value_at(s, Dialect::Schema, nodes, k, b"data");
     let start = name_start(nodes, v, 0);
     let size = name_size(nodes, v, 0);
-    put_counted(s, nodes, d, rows, n, kind, start, size, link)
+    let row = Row {
+        kind,
+        start,
+        size,
+        a: 0,
+        b: link,
+        c: 0,
+        d: 0,
+    };
+    put_counted(s, nodes, d, rows, n, row)
 }
 
 pub fn put_struct(s: &[u8], nodes: &[u32], k: usize, v: usize, rows: &mut [u32], n: usize) -> Put
     requires { ⌜ n < 2 ^ 31 ⌝ }
     ensures { λ r. ⌜ PutsRows (BodyAt (now (s .entry)) (now (nodes .entry)) structBody k v n) (now (rows .entry)) (now (rows .exit)) n (2 ^ 34) r ⌝ }
 {
-    let b = value_at(s, true, nodes, k, b"base");
+    let b = value_at(s, Dialect::Schema, nodes, k, b"base");
     if !base_fits(nodes, b) {
         return Put::Refused;
     }
@@ -78,7 +89,16 @@ fn put_union_rows(
     let count = (m - first) as u32;
     let link = data_link(nodes, b, n);
     let tag = name_word(nodes, t);
-    put_named_row(nodes, v, 0, rows, n, kind::UNION, link, count, tag, 0);
+    let row = Row {
+        kind: kind::UNION,
+        start: 0,
+        size: 0,
+        a: link,
+        b: count,
+        c: tag,
+        d: 0,
+    };
+    put_named_row(nodes, v, 0, rows, n, row);
     Put::Rows(m)
 }
 
@@ -86,22 +106,22 @@ pub fn put_union(s: &[u8], nodes: &[u32], k: usize, v: usize, rows: &mut [u32], 
     requires { ⌜ n < 2 ^ 31 ⌝ }
     ensures { λ r. ⌜ PutsRows (BodyAt (now (s .entry)) (now (nodes .entry)) unionBody k v n) (now (rows .entry)) (now (rows .exit)) n (2 ^ 34) r ⌝ }
 {
-    let b = value_at(s, true, nodes, k, b"base");
+    let b = value_at(s, Dialect::Schema, nodes, k, b"base");
     if b == 0 {
         return Put::Refused;
     }
-    let t = value_at(s, true, nodes, k, b"discriminator");
+    let t = value_at(s, Dialect::Schema, nodes, k, b"discriminator");
     if t == 0 {
         return Put::Refused;
     }
     if !is_string(nodes, t) {
         return Put::Refused;
     }
-    let d = value_at(s, true, nodes, k, b"data");
+    let d = value_at(s, Dialect::Schema, nodes, k, b"data");
     put_union_rows(s, nodes, v, b, t, d, rows, n)
 }
 
-// The rows of a command whose data stands at node d.
+// The rows of a command whose data stands at node d, with the link to it in place of word 4.
 fn put_command_rows(
     s: &[u8],
     nodes: &[u32],
@@ -109,19 +129,26 @@ fn put_command_rows(
     d: usize,
     rows: &mut [u32],
     n: usize,
-    oob: u32,
-    place: u32,
-    list: u32,
+    row: Row,
 ) -> Put
     requires { ⌜ n < 2 ^ 31 ⌝ }
-    ensures { λ r. ⌜ PutsRows (CommandAt (now (s .entry)) (now (nodes .entry)) v d n oob place list) (now (rows .entry)) (now (rows .exit)) n (2 ^ 34) r ⌝ }
+    ensures { λ r. ⌜ PutsRows (CommandAt (now (s .entry)) (now (nodes .entry)) v d n (row .b) (row .c) (row .d)) (now (rows .entry)) (now (rows .exit)) n (2 ^ 34) r ⌝ }
 {
     let p = put_inline(s, nodes, d, rows, n + 1);
     let Put::Rows(m) = p else {
         return Put::Refused;
     };
     let link = data_link(nodes, d, n);
-    put_named_row(nodes, v, 0, rows, n, kind::COMMAND, link, oob, place, list);
+    let own = Row {
+        kind: kind::COMMAND,
+        start: 0,
+        size: 0,
+        a: link,
+        b: row.b,
+        c: row.c,
+        d: row.d,
+    };
+    put_named_row(nodes, v, 0, rows, n, own);
     Put::Rows(m)
 }
 
@@ -129,16 +156,25 @@ pub fn put_command(s: &[u8], nodes: &[u32], k: usize, v: usize, rows: &mut [u32]
     requires { ⌜ n < 2 ^ 31 ⌝ }
     ensures { λ r. ⌜ PutsRows (BodyAt (now (s .entry)) (now (nodes .entry)) commandBody k v n) (now (rows .entry)) (now (rows .exit)) n (2 ^ 34) r ⌝ }
 {
-    let d = value_at(s, true, nodes, k, b"data");
-    let returns = value_at(s, true, nodes, k, b"returns");
+    let d = value_at(s, Dialect::Schema, nodes, k, b"data");
+    let returns = value_at(s, Dialect::Schema, nodes, k, b"returns");
     let t = take_return(nodes, returns);
     let TypeRead::Taken(place, list) = t else {
         return Put::Refused;
     };
-    let flag = value_at(s, true, nodes, k, b"allow-oob");
+    let flag = value_at(s, Dialect::Schema, nodes, k, b"allow-oob");
     let f = take_flag(nodes, flag);
     let FlagRead::Flag(oob) = f else {
         return Put::Refused;
     };
-    put_command_rows(s, nodes, v, d, rows, n, oob, place, list)
+    let row = Row {
+        kind: kind::COMMAND,
+        start: 0,
+        size: 0,
+        a: 0,
+        b: oob,
+        c: place,
+        d: list,
+    };
+    put_command_rows(s, nodes, v, d, rows, n, row)
 }

@@ -1,5 +1,6 @@
 // The children that a value lists, as rows: values of an enum (kind 2), members (4), branches (6), alternatives (8).
 use crate::rows::Put;
+use crate::rows::Row;
 use crate::rows::put_named_row;
 use crate::rows::put_row;
 use crate::shapes::TypeRead;
@@ -29,7 +30,16 @@ fn put_value(nodes: &[u32], a: usize, rows: &mut [u32], n: usize) -> Put
     if !is_string(nodes, a) {
         return Put::Refused;
     }
-    put_named_row(nodes, a, 0, rows, n, kind::VALUE, 0, 0, 0, 0);
+    let row = Row {
+        kind: kind::VALUE,
+        start: 0,
+        size: 0,
+        a: 0,
+        b: 0,
+        c: 0,
+        d: 0,
+    };
+    put_named_row(nodes, a, 0, rows, n, row);
     Put::Rows(n + 1)
 }
 
@@ -43,18 +53,16 @@ fn put_member(s: &[u8], nodes: &[u32], a: usize, rows: &mut [u32], n: usize) -> 
         return Put::Refused;
     };
     let optional = star(s, nodes, a);
-    put_named_row(
-        nodes,
-        a,
-        optional,
-        rows,
-        n,
-        kind::MEMBER,
-        place,
-        list,
-        optional,
-        0,
-    );
+    let row = Row {
+        kind: kind::MEMBER,
+        start: 0,
+        size: 0,
+        a: place,
+        b: list,
+        c: optional,
+        d: 0,
+    };
+    put_named_row(nodes, a, optional, rows, n, row);
     Put::Rows(n + 1)
 }
 
@@ -68,7 +76,16 @@ fn put_pair(nodes: &[u32], a: usize, kind: u32, rows: &mut [u32], n: usize) -> P
         return Put::Refused;
     }
     let place = name_word(nodes, b);
-    put_named_row(nodes, a, 0, rows, n, kind, place, 0, 0, 0);
+    let row = Row {
+        kind,
+        start: 0,
+        size: 0,
+        a: place,
+        b: 0,
+        c: 0,
+        d: 0,
+    };
+    put_named_row(nodes, a, 0, rows, n, row);
     Put::Rows(n + 1)
 }
 
@@ -125,28 +142,27 @@ pub fn put_children(s: &[u8], nodes: &[u32], k: usize, kind: u32, rows: &mut [u3
     Put::Rows(m)
 }
 
-// A row of an even kind less one that counts its children, and these, which the value at node k lists.
-pub fn put_counted(
-    s: &[u8],
-    nodes: &[u32],
-    k: usize,
-    rows: &mut [u32],
-    n: usize,
-    kind: u32,
-    start: u32,
-    size: u32,
-    link: u32,
-) -> Put
-    requires { ⌜ (n < 2 ^ 39) × (kind < 8) ⌝ }
-    ensures { λ r. ⌜ PutsRows (CountedAt (now (s .entry)) (now (nodes .entry)) kind start size link k) (now (rows .entry)) (now (rows .exit)) n (2 ^ 32) r ⌝ }
+// A row with a link that counts its children in word 4, and these, which the value at node k lists. Their kind is the next.
+pub fn put_counted(s: &[u8], nodes: &[u32], k: usize, rows: &mut [u32], n: usize, row: Row) -> Put
+    requires { ⌜ (n < 2 ^ 39) × (row .kind < 8) ⌝ }
+    ensures { λ r. ⌜ PutsRows (CountedAt (now (s .entry)) (now (nodes .entry)) (row .kind) (row .start) (row .size) (row .b) k) (now (rows .entry)) (now (rows .exit)) n (2 ^ 32) r ⌝ }
 {
     let first = n + 1;
-    let p = put_children(s, nodes, k, kind + 1, rows, first);
+    let p = put_children(s, nodes, k, row.kind + 1, rows, first);
     let Put::Rows(m) = p else {
         return Put::Refused;
     };
     let count = (m - first) as u32;
-    put_row(rows, n, kind, start, size, count, link, 0, 0);
+    let own = Row {
+        kind: row.kind,
+        start: row.start,
+        size: row.size,
+        a: count,
+        b: row.b,
+        c: 0,
+        d: 0,
+    };
+    put_row(rows, n, own);
     Put::Rows(m)
 }
 
@@ -161,5 +177,14 @@ pub fn put_inline(s: &[u8], nodes: &[u32], k: usize, rows: &mut [u32], n: usize)
     if is_string(nodes, k) {
         return Put::Rows(n);
     }
-    put_counted(s, nodes, k, rows, n, kind::STRUCT, 0, 0, 0)
+    let row = Row {
+        kind: kind::STRUCT,
+        start: 0,
+        size: 0,
+        a: 0,
+        b: 0,
+        c: 0,
+        d: 0,
+    };
+    put_counted(s, nodes, k, rows, n, row)
 }

@@ -8,6 +8,7 @@ use crate::rows::Put;
 use lookups::values::is_string;
 use lookups::values::value_at;
 use rules::kind;
+use strings::dialects::Dialect;
 use text::nodes::NODE_KIND;
 use text::nodes::NODE_NEXT;
 use text::nodes::node_number;
@@ -28,23 +29,23 @@ pub enum KindKey {
 fn kind_key(s: &[u8], nodes: &[u32], k: usize) -> KindKey
     ensures { λ r. ⌜ FindsKind (now (s .entry)) (now (nodes .entry)) k r ⌝ }
 {
-    let e = value_at(s, true, nodes, k, b"enum");
+    let e = value_at(s, Dialect::Schema, nodes, k, b"enum");
     if e != 0 {
         return KindKey::Key(kind::ENUM, e);
     }
-    let t = value_at(s, true, nodes, k, b"struct");
+    let t = value_at(s, Dialect::Schema, nodes, k, b"struct");
     if t != 0 {
         return KindKey::Key(kind::STRUCT, t);
     }
-    let u = value_at(s, true, nodes, k, b"union");
+    let u = value_at(s, Dialect::Schema, nodes, k, b"union");
     if u != 0 {
         return KindKey::Key(kind::UNION, u);
     }
-    let a = value_at(s, true, nodes, k, b"alternate");
+    let a = value_at(s, Dialect::Schema, nodes, k, b"alternate");
     if a != 0 {
         return KindKey::Key(kind::ALTERNATE, a);
     }
-    let c = value_at(s, true, nodes, k, b"command");
+    let c = value_at(s, Dialect::Schema, nodes, k, b"command");
     if c != 0 {
         return KindKey::Key(kind::COMMAND, c);
     }
@@ -73,7 +74,7 @@ fn put_body(
     }
 }
 
-// The same, if the value at node v is a name and there is no key but those of the kind.
+// The definition of that row kind, refused unless the value at node v is a name and there is no key but those of the kind.
 fn put_kind(
     s: &[u8],
     nodes: &[u32],

@@ -1,71 +1,47 @@
 // The keys that each kind of definition may have.
-use lookups::values::node_means;
+use lookups::counts::field_count;
+use lookups::counts::four_keys;
+use lookups::counts::one_key;
+use lookups::counts::two_keys;
 use rules::kind;
-use text::nodes::NODE_NEXT;
-use text::nodes::node_number;
-ghost use mathlib.Core.List.{_∷_, []};
-ghost use Rattle.definitions.specs.Parts.{keysFor, KeyIn, OnlyKeys};
+use strings::dialects::Dialect;
+ghost use Rattle.grammar.specs.Machine.Schema.{schema};
+ghost use Rattle.lookups.specs.Lookups.{FindsKeys, NoOtherKeys};
+ghost use Rattle.definitions.specs.Parts.{keysFor};
 
-// Whether the key at node a means one of two names.
-fn is_either(s: &[u8], nodes: &[u32], a: usize, x: &[u8], y: &[u8]) -> bool
-    ensures { λ r. ⌜ KeyIn (now (s .entry)) (now (nodes .entry)) (now (x .entry) ∷ now (y .entry) ∷ []) a r ⌝ }
+fn struct_keys(s: &[u8], nodes: &[u32], k: usize) -> usize
+    ensures { λ r. ⌜ FindsKeys schema (now (s .entry)) (now (nodes .entry)) k (keysFor 3) r ⌝ }
 {
-    if node_means(s, true, nodes, a, x) {
-        return true;
-    }
-    node_means(s, true, nodes, a, y)
+    let named = one_key(s, Dialect::Schema, nodes, k, b"struct");
+    named + two_keys(s, Dialect::Schema, nodes, k, b"data", b"base")
 }
 
-// Whether it means one of four.
-fn is_one_of_four(s: &[u8], nodes: &[u32], a: usize, x: &[u8], y: &[u8], z: &[u8], u: &[u8]) -> bool
-    ensures { λ r. ⌜ KeyIn (now (s .entry)) (now (nodes .entry)) (now (x .entry) ∷ now (y .entry) ∷ now (z .entry) ∷ now (u .entry) ∷ []) a r ⌝ }
+// How many of the keys that a definition of that row kind may have the object at node k has.
+fn keys_of_kind(s: &[u8], nodes: &[u32], k: usize, kind: u32) -> usize
+    ensures { λ r. ⌜ FindsKeys schema (now (s .entry)) (now (nodes .entry)) k (keysFor kind) r ⌝ }
 {
-    if is_either(s, nodes, a, x, y) {
-        return true;
-    }
-    is_either(s, nodes, a, z, u)
-}
-
-fn struct_key(s: &[u8], nodes: &[u32], a: usize) -> bool
-    ensures { λ r. ⌜ KeyIn (now (s .entry)) (now (nodes .entry)) (keysFor 3) a r ⌝ }
-{
-    if node_means(s, true, nodes, a, b"struct") {
-        return true;
-    }
-    is_either(s, nodes, a, b"data", b"base")
-}
-
-// Whether the key at node a is one of a definition of that row kind.
-fn is_key(s: &[u8], nodes: &[u32], a: usize, kind: u32) -> bool
-    ensures { λ r. ⌜ KeyIn (now (s .entry)) (now (nodes .entry)) (keysFor kind) a r ⌝ }
-{
+    let d = Dialect::Schema;
     match kind {
-        kind::ENUM => is_either(s, nodes, a, b"enum", b"data"),
-        kind::STRUCT => struct_key(s, nodes, a),
-        kind::UNION => is_one_of_four(s, nodes, a, b"union", b"base", b"discriminator", b"data"),
-        kind::ALTERNATE => is_either(s, nodes, a, b"alternate", b"data"),
-        _ => is_one_of_four(s, nodes, a, b"command", b"data", b"returns", b"allow-oob"),
+        kind::ENUM => two_keys(s, d, nodes, k, b"enum", b"data"),
+        kind::STRUCT => struct_keys(s, nodes, k),
+        kind::UNION => four_keys(s, d, nodes, k, b"union", b"base", b"discriminator", b"data"),
+        kind::ALTERNATE => two_keys(s, d, nodes, k, b"alternate", b"data"),
+        _ => four_keys(
+            s,
+            d,
+            nodes,
+            k,
+            b"command",
+            b"data",
+            b"returns",
+            b"allow-oob",
+        ),
     }
 }
 
-// Whether the object at node k has no key but those of its kind.
+// Whether the object at node k has no key but those of its kind: as many fields as there are of these.
 pub fn only_keys(s: &[u8], nodes: &[u32], k: usize, kind: u32) -> bool
-    ensures { λ r. ⌜ OnlyKeys (now (s .entry)) (now (nodes .entry)) (keysFor kind) k r ⌝ }
+    ensures { λ r. ⌜ NoOtherKeys schema (now (s .entry)) (now (nodes .entry)) k (keysFor kind) r ⌝ }
 {
-    let end = node_number(nodes, k, NODE_NEXT);
-    if end <= k {
-        return true;
-    }
-    let mut a = k + 1;
-    while a < end {
-        if !is_key(s, nodes, a, kind) {
-            return false;
-        }
-        let n = node_number(nodes, a, NODE_NEXT);
-        if n <= a {
-            return true;
-        }
-        a = n;
-    }
-    true
+    keys_of_kind(s, nodes, k, kind) == field_count(nodes, k)
 }

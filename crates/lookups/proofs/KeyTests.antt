@@ -11,7 +11,6 @@ use Rattle.grammar.specs.Keys.{keysOf}
 use Rattle.grammar.specs.Machine.{Dialect}
 use Rattle.rules.specs.Values.{anyOf}
 use Rattle.text.specs.Nodes.{next, HoldsFields}
-use Rattle.text.specs.Keys.{KeyAt}
 use Rattle.lookups.specs.Lookups.{NodeMeans, OneOf, OnlyKeys}
 use Rattle.lookups.proofs.FieldLaws.{FirstField, FieldsLeft, all-left, left-first, left-on, left-end, left-stuck}
 

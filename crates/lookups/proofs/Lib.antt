@@ -2,3 +2,4 @@
 pub mod NodeLaws
 pub mod FieldLaws
 pub mod KeyTests
+pub mod KeyCounts

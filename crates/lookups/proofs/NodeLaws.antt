@@ -1,7 +1,6 @@
 -- Which values are strings, by the kinds of their nodes; and what a string's or a key's node says that it means.
 use Prim.Native.Nat.{ℕ}
-use native.Mathlib.Omega.{arith}
-use mathlib.Core.Path.{_≡_, refl, sym, ap, _∙_, subst, subst₂}
+use mathlib.Core.Path.{_≡_, refl, sym, ap, _∙_, subst₂}
 use mathlib.Core.Bool.{Bool, true, false, cond}
 use mathlib.Core.List.{List}
 use Rattle.grammar.specs.Notation.{same}
@@ -15,8 +14,7 @@ use Rattle.strings.specs.Strings.{plainString, Means}
 use Rattle.strings.specs.Meanings.{MeansName}
 use Rattle.tokens.specs.NodeKinds.{plain-string-node, other-string-node, plain-key-node, other-key-node}
 use Rattle.tokens.specs.Tokens.{scalarNode, keyNode}
-use Rattle.text.specs.Nodes.{node, Node, Holds, nodeEnd, nodeKind, nodeStart}
-use Rattle.text.specs.Keys.{KeyAt}
+use Rattle.text.specs.Nodes.{Node, Holds, nodeEnd, nodeKind, nodeStart}
 use Rattle.lookups.specs.Lookups.{stringKind, plainKind, NodeMeans}
 
 scalar-string : (s : List ℕ) (a e : ℕ) (v : Scalar) → stringKind (scalarNode s a e v) ≡ sameKind (kindOf (leaf a e v)) string

@@ -1,16 +1,19 @@
 -- Serves contracts: what is found in nodes, for every tree that they hold.
-use Prim.Native.Nat.{ℕ, suc, _<_}
+use Prim.Native.Nat.{ℕ, suc, _+_, _≤_, _<_}
 use mathlib.Core.Path.{_≡_}
-use mathlib.Core.Bool.{Bool, _||_}
-use mathlib.Core.List.{List}
+use mathlib.Core.Bool.{Bool, true, _||_}
+use mathlib.Core.List.{List, [], _∷_}
 use mathlib.Core.Option.{Option, none, some}
 use lib.Dec.{eqb}
-use Rattle.grammar.specs.Notation.{same, all}
+use lib.ListN.{length}
+use Rattle.grammar.specs.Notation.{same, all, apart}
 use Rattle.grammar.specs.Tree.{Json, Fields}
 use Rattle.grammar.specs.Tree.Scalar.{str}
 use Rattle.grammar.specs.Tree.Json.{leaf}
 use Rattle.grammar.specs.Keys.{keysOf}
 use Rattle.grammar.specs.Machine.{Dialect}
+use Rattle.strings.specs.declared.dialects.Dialect as Dialects
+use Rattle.strings.specs.Strings.{grammarOf}
 use Rattle.rules.specs.Values.{valueAt, anyOf}
 use Rattle.text.specs.Nodes.{next, Holds, HoldsFields}
 use Rattle.text.specs.Keys.{KeyAt}
@@ -43,3 +46,24 @@ ValueFound D s w l (some j) r = (0 < r) × Holds D s w j l r
 
 pub record FindsValue (D : Dialect) (s w : List ℕ) (k : ℕ) (name : List ℕ) (r : ℕ) : Type 0 where
   pub told : (fs : Fields) (l : ℕ) → HoldsFields D s w fs l (suc k) (next w k) → ValueFound D s w l (valueAt name fs) r
+
+-- the object at node k has that many fields
+pub record CountsFields (w : List ℕ) (k n : ℕ) : Type 0 where
+  pub told : (d : Dialects.Dialect) (s : List ℕ) (fs : Fields) (l : ℕ) → HoldsFields (grammarOf d) s w fs l (suc k) (next w k) → n ≡ length (keysOf fs)
+
+-- how many of these names are keys
+abbrev pub present : Option Json → ℕ
+present none = 0
+present (some j) = 1
+
+unfoldable pub keysFound : List (List ℕ) → Fields → ℕ
+keysFound [] fs = 0
+keysFound (name ∷ names) fs = present (valueAt name fs) + keysFound names fs
+
+pub record FindsKeys (D : Dialect) (s w : List ℕ) (k : ℕ) (names : List (List ℕ)) (n : ℕ) : Type 0 where
+  pub few : n ≤ length names
+  pub told : (fs : Fields) (l : ℕ) → HoldsFields D s w fs l (suc k) (next w k) → n ≡ keysFound names fs
+
+-- the object at node k, where it repeats no key, has no key but these
+pub record NoOtherKeys (D : Dialect) (s w : List ℕ) (k : ℕ) (names : List (List ℕ)) (r : Bool) : Type 0 where
+  pub told : (fs : Fields) (l : ℕ) → HoldsFields D s w fs l (suc k) (next w k) → apart same (keysOf fs) ≡ true → r ≡ all (anyOf names) (keysOf fs)

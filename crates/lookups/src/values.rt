@@ -1,4 +1,5 @@
 // Strings, keys, and the value under a key. Any node may be asked.
+use strings::dialects::Dialect;
 use strings::meanings::means;
 use text::nodes::NODE_END;
 use text::nodes::NODE_KIND;
@@ -8,7 +9,7 @@ use text::nodes::node_number;
 use text::nodes::node_word;
 use tokens::node;
 ghost use mathlib.Core.Path.{_≡_};
-ghost use Rattle.strings.specs.Strings.{dialect};
+ghost use Rattle.strings.specs.Strings.{grammarOf};
 ghost use Rattle.text.specs.Nodes.{node};
 ghost use Rattle.lookups.specs.Lookups.{stringKind, plainKind, NodeMeans, FindsValue};
 
@@ -41,18 +42,18 @@ pub fn is_string(nodes: &[u32], k: usize) -> bool
 }
 
 // Whether the string or key at node k means the bytes `name`.
-pub fn node_means(s: &[u8], schema: bool, nodes: &[u32], k: usize, name: &[u8]) -> bool
-    ensures { λ r. ⌜ NodeMeans (dialect schema) (now (s .entry)) (now (nodes .entry)) k (now (name .entry)) r ⌝ }
+pub fn node_means(s: &[u8], dialect: Dialect, nodes: &[u32], k: usize, name: &[u8]) -> bool
+    ensures { λ r. ⌜ NodeMeans (grammarOf dialect) (now (s .entry)) (now (nodes .entry)) k (now (name .entry)) r ⌝ }
 {
     let a = node_number(nodes, k, NODE_START);
     let e = node_number(nodes, k, NODE_END);
     let plain = plain_kind(node_word(nodes, k, NODE_KIND));
-    means(s, schema, a, e, plain, name)
+    means(s, dialect, a, e, plain, name)
 }
 
 // The node of the value under a key of the object at node k; 0 if it has no such key.
-pub fn value_at(s: &[u8], schema: bool, nodes: &[u32], k: usize, name: &[u8]) -> usize
-    ensures { λ r. ⌜ FindsValue (dialect schema) (now (s .entry)) (now (nodes .entry)) k (now (name .entry)) r ⌝ }
+pub fn value_at(s: &[u8], dialect: Dialect, nodes: &[u32], k: usize, name: &[u8]) -> usize
+    ensures { λ r. ⌜ FindsValue (grammarOf dialect) (now (s .entry)) (now (nodes .entry)) k (now (name .entry)) r ⌝ }
 {
     let end = node_number(nodes, k, NODE_NEXT);
     if end <= k {
@@ -60,7 +61,7 @@ pub fn value_at(s: &[u8], schema: bool, nodes: &[u32], k: usize, name: &[u8]) ->
     }
     let mut a = k + 1;
     while a < end {
-        if node_means(s, schema, nodes, a, name) {
+        if node_means(s, dialect, nodes, a, name) {
             return a + 1;
         }
         let n = node_number(nodes, a, NODE_NEXT);

@@ -8,6 +8,7 @@ use rows::rows::word;
 use rules::FIRST_ROW;
 use rules::kind;
 use rules::row;
+use strings::dialects::Dialect;
 ghost use mathlib.Core.Path.{_≡_};
 ghost use Prim.Native.Nat.{_-_, _<_, _^_};
 ghost use Rattle.members.specs.Members.{StructsAt, BranchOf};
@@ -48,7 +49,7 @@ fn branch_of(
     ensures { λ x. ⌜ BranchOf (now (schema .entry)) (now (rows .entry)) (now (m .entry)) (now (nodes .entry)) (now (index .entry)) r k x ⌝ }
 {
     let discriminator = row_of(word(rows, r, row::DISCRIMINATOR));
-    let v = value_at(m, false, nodes, k, name_of(schema, rows, discriminator));
+    let v = value_at(m, Dialect::Message, nodes, k, name_of(schema, rows, discriminator));
     if v == 0 {
         return Structs::NoObject;
     }

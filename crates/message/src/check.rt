@@ -10,6 +10,7 @@ use rules::MESSAGE_BYTES;
 use rules::MessageAnswer;
 use rules::MessageRefusal;
 use rules::RECORD_WORDS;
+use strings::dialects::Dialect;
 use table::sound::is_sound;
 use text::keys::keys_once;
 use text::nodes::NODE_WORDS;
@@ -44,7 +45,7 @@ fn find_repeats(m: &[u8], nodes: &[u32], count: usize) -> TextFound
     requires { ⌜ WholeText (now m) (now nodes) count ⌝ }
     ensures { λ r. ⌜ KeysRead (now (m .entry)) (now (nodes .entry)) r ⌝ }
 {
-    if !keys_once(m, false, nodes, count) {
+    if !keys_once(m, Dialect::Message, nodes, count) {
         return TextFound::Refused(MessageRefusal::RepeatedKey);
     }
     TextFound::Value

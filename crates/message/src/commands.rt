@@ -5,6 +5,7 @@ use rows::rows::word;
 use rules::ROW_WORDS;
 use rules::kind;
 use rules::row;
+use strings::dialects::Dialect;
 ghost use Rattle.message.specs.Commands.{NamesCommand, FindsCommand};
 
 pub enum Command {
@@ -19,7 +20,7 @@ fn is_named(schema: &[u8], rows: &[u32], m: &[u8], nodes: &[u32], k: usize, r: u
     if word(rows, r, row::KIND) != kind::COMMAND {
         return false;
     }
-    node_means(m, false, nodes, k, name_of(schema, rows, r))
+    node_means(m, Dialect::Message, nodes, k, name_of(schema, rows, r))
 }
 
 // The first command whose name the string at node k means.

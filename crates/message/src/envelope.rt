@@ -2,6 +2,7 @@
 use lookups::values::is_string;
 use lookups::values::node_means;
 use lookups::values::value_at;
+use strings::dialects::Dialect;
 use text::nodes::NODE_KIND;
 use text::nodes::NODE_NEXT;
 use text::nodes::node_number;
@@ -22,16 +23,16 @@ pub enum Envelope {
 fn is_key(m: &[u8], nodes: &[u32], a: usize) -> bool
     ensures { λ r. ⌜ OneOf message (now (m .entry)) (now (nodes .entry)) a envelopeKeys r ⌝ }
 {
-    if node_means(m, false, nodes, a, b"execute") {
+    if node_means(m, Dialect::Message, nodes, a, b"execute") {
         return true;
     }
-    if node_means(m, false, nodes, a, b"exec-oob") {
+    if node_means(m, Dialect::Message, nodes, a, b"exec-oob") {
         return true;
     }
-    if node_means(m, false, nodes, a, b"arguments") {
+    if node_means(m, Dialect::Message, nodes, a, b"arguments") {
         return true;
     }
-    node_means(m, false, nodes, a, b"id")
+    node_means(m, Dialect::Message, nodes, a, b"id")
 }
 
 // Whether the object at node k has no other key.
@@ -89,9 +90,9 @@ pub fn read_envelope(m: &[u8], nodes: &[u32]) -> Envelope
     if !only_keys(m, nodes, 0) {
         return Envelope::Improper;
     }
-    let execute = value_at(m, false, nodes, 0, b"execute");
-    let oob = value_at(m, false, nodes, 0, b"exec-oob");
-    let arguments = value_at(m, false, nodes, 0, b"arguments");
+    let execute = value_at(m, Dialect::Message, nodes, 0, b"execute");
+    let oob = value_at(m, Dialect::Message, nodes, 0, b"exec-oob");
+    let arguments = value_at(m, Dialect::Message, nodes, 0, b"arguments");
     if !are_proper(nodes, arguments) {
         return Envelope::Improper;
     }

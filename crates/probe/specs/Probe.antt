@@ -3,6 +3,8 @@ use Prim.Native.Nat.{ℕ}
 use mathlib.Core.Path.{_≡_}
 use mathlib.Core.Bool.{Bool, true, false}
 use mathlib.Core.List.{List}
+use Rattle.strings.specs.declared.dialects.Dialect.{Dialect}
+use Rattle.strings.specs.declared.dialects.Dialect.the-variants.{Schema, Message}
 use Rattle.text.specs.Texts.{ReadsMessage, ReadsSchema}
 use Rattle.text.specs.declared.texts.Text.{Text}
 use Rattle.text.specs.declared.texts.Text.the-variants.{Whole, Fault, Deep, TooLong}
@@ -19,6 +21,11 @@ place (Whole n) = n
 place (Fault e) = e
 place (Deep e) = e
 place TooLong = 0
+
+-- the dialect that a caller in another language names
+abbrev pub dialectOf : Bool → Dialect
+dialectOf true = Schema
+dialectOf false = Message
 
 abbrev pub ReadsText : Bool → List ℕ → List ℕ → List ℕ → Text → Type 0
 ReadsText true s old new t = ReadsSchema s old new t

@@ -1,4 +1,5 @@
 // What tests and benchmarks in other languages call of the inner layers. The gateway itself does not use it.
+use strings::dialects::Dialect;
 use strings::meanings::means;
 use strings::meanings::same_meaning;
 use text::keys::keys_once;
@@ -12,10 +13,20 @@ ghost use Prim.Native.Nat.{_-_};
 ghost use lib.Dec.{leb};
 ghost use lib.ListN.{take, drop};
 ghost use Rattle.grammar.specs.Integers.{negative, unsignedPart, decimal};
-ghost use Rattle.strings.specs.Strings.{dialect};
+ghost use Rattle.strings.specs.Strings.{grammarOf};
 ghost use Rattle.strings.specs.Meanings.{MeansName, MeansSame};
 ghost use Rattle.text.specs.Keys.{KeysOnce};
-ghost use Rattle.probe.specs.Probe.{verdict, place, ReadsText, Probed};
+ghost use Rattle.probe.specs.Probe.{dialectOf, verdict, place, ReadsText, Probed};
+
+// The dialect that a caller in another language names.
+fn dialect_of(schema: bool) -> Dialect
+    ensures { λ r. ⌜ r ≡ dialectOf schema ⌝ }
+{
+    if schema {
+        return Dialect::Schema;
+    }
+    Dialect::Message
+}
 
 // 0 whole, 1 a fault, 2 too deep, 3 too long.
 fn verdict_of(t: Text) -> u32
@@ -68,9 +79,9 @@ pub extern "C" fn windosprio_probe_text(
 // Whether no object of the first `count` nodes has a key twice.
 #[no_mangle]
 pub extern "C" fn windosprio_probe_keys(s: &[u8], schema: bool, nodes: &[u32], count: usize) -> bool
-    ensures { λ r. ⌜ KeysOnce (dialect schema) (now (s .entry)) (now (nodes .entry)) count r ⌝ }
+    ensures { λ r. ⌜ KeysOnce (grammarOf (dialectOf schema)) (now (s .entry)) (now (nodes .entry)) count r ⌝ }
 {
-    keys_once(s, schema, nodes, count)
+    keys_once(s, dialect_of(schema), nodes, count)
 }
 
 // Whether the integer from a to e lies from -low to high.
@@ -91,9 +102,9 @@ pub extern "C" fn windosprio_probe_means(
     plain: bool,
     name: &[u8],
 ) -> bool
-    ensures { λ r. ⌜ MeansName (dialect schema) (now (s .entry)) a e plain (now (name .entry)) r ⌝ }
+    ensures { λ r. ⌜ MeansName (grammarOf (dialectOf schema)) (now (s .entry)) a e plain (now (name .entry)) r ⌝ }
 {
-    means(s, schema, a, e, plain, name)
+    means(s, dialect_of(schema), a, e, plain, name)
 }
 
 // Whether the strings from a to e and from b to f mean the same.
@@ -108,7 +119,7 @@ pub extern "C" fn windosprio_probe_same(
     f: usize,
     plain_b: bool,
 ) -> bool
-    ensures { λ r. ⌜ MeansSame (dialect schema) (now (s .entry)) a e «plain_a» b f «plain_b» r ⌝ }
+    ensures { λ r. ⌜ MeansSame (grammarOf (dialectOf schema)) (now (s .entry)) a e «plain_a» b f «plain_b» r ⌝ }
 {
-    same_meaning(s, schema, a, e, plain_a, b, f, plain_b)
+    same_meaning(s, dialect_of(schema), a, e, plain_a, b, f, plain_b)
 }

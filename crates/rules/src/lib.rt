@@ -46,9 +46,9 @@ pub enum MessageAnswer {
 }
 
 // The limits and widths of the paper, as grammar's specs/Limits has them.
-pub const SCHEMA_BYTES: usize = 32768;
+pub const SCHEMA_BYTES: usize = grammar::SCHEMA_BYTES;
 
-pub const MESSAGE_BYTES: usize = 16384;
+pub const MESSAGE_BYTES: usize = grammar::MESSAGE_BYTES;
 
 pub const NAME_BYTES: usize = 63;
 

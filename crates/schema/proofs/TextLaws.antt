@@ -125,12 +125,16 @@ text-read {S} {w = w} {n = n} r e h k =
     record { js = t .items; text = t .text; holds = t .holds (omega (arith, t .few)); few = t .few; short = h }
 
 -- raw rows put at the front of words that hold them
-module _ {S w old new : List ℕ} {count : ℕ} {x : Put} (t : TextRead S w count) (p : PutsDefinitions S w old new count x) where
+module _ {S w old new : List ℕ} {count : ℕ} {x : Put} {b : Bool} (t : TextRead S w count) (k : KeysOnce schema S w count b) (o : b ≡ true)
+    (p : PutsDefinitions S w old new count x) where
+  put : PutTold old new (t .js) count x
+  put = p .told (t .js) _ (record { small = t .short; once = sym (k .told (t .js) _ (t .holds)) ∙ o }) (t .holds)
+
   pub put-refused : x ≡ NoRows → definitions (t .js) ≡ none
-  put-refused e = subst (λ (y : Put). PutTold old new (t .js) count y) e (p .told (t .js) _ (t .short) (t .holds))
+  put-refused e = subst (λ (y : Put). PutTold old new (t .js) count y) e put
 
   pub put-rows : {n : ℕ} → x ≡ Rows n → RowsPut old new (t .js) count n
-  put-rows e = subst (λ (y : Put). PutTold old new (t .js) count y) e (p .told (t .js) _ (t .short) (t .holds))
+  put-rows e = subst (λ (y : Put). PutTold old new (t .js) count y) e put
 
   pub put-few : {n : ℕ} → x ≡ Rows n → row-words * n ≤ row-words * most-rows
   put-few e = omega (arith, put-rows e .few, t .few, t .short)

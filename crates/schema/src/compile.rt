@@ -7,6 +7,7 @@ use rules::ROW_WORDS;
 use rules::SCHEMA_BYTES;
 use rules::SchemaAnswer;
 use rules::SchemaRefusal;
+use strings::dialects::Dialect;
 use text::keys::keys_once;
 use text::nodes::NODE_WORDS;
 use text::texts::Text;
@@ -44,7 +45,7 @@ fn judge_objects(schema: &[u8], nodes: &[u32], count: usize, rows: &mut [u32]) -
     requires { ⌜ TextRead (now schema) (now nodes) count × Zero (now rows) ⌝ }
     ensures { λ r. ⌜ Answered (now (schema .entry)) RepeatedKey (now (rows .entry)) (now (rows .exit)) r ⌝ }
 {
-    if !keys_once(schema, true, nodes, count) {
+    if !keys_once(schema, Dialect::Schema, nodes, count) {
         return SchemaAnswer::Refused(SchemaRefusal::RepeatedKey);
     }
     let mut table = [0u32; ROW_ROOM];

@@ -6,7 +6,7 @@ use native.Mathlib.Decide.{decLt}
 use native.Mathlib.Nat.{le-of-suc-le}
 use native.Mathlib.Numerals.{add-one}
 use mathlib.Core.Path.{_≡_, refl, sym, ap, _∙_}
-use mathlib.Core.Bool.{Bool, true, false}
+use mathlib.Core.Bool.{true, false}
 use mathlib.Core.List.{List, [], _∷_}
 use lib.ListN.{length, getD, drop, drop-of-length-le}
 use lib.Seq.{drop-cons}
@@ -14,15 +14,13 @@ use Rattle.grammar.specs.Machine.{Dialect, CharStep, Stack, StringRole, inChar,
 use Rattle.grammar.specs.Machine.CharStep.{stay, char, bad}
 use Rattle.grammar.specs.Machine.Control.{InString, InChar}
 use Rattle.grammar.specs.Machine.Out.{fault}
-use Rattle.grammar.specs.Machine.Schema.{schema}
-use Rattle.grammar.specs.Machine.Message.{message}
 use Rattle.grammar.proofs.Booleans.{by}
 use Rattle.grammar.proofs.TokenRuns.{CharRun, CharRun.char-whole, CharRun.char-on, CharStarts, CharStarts.char-starts, TokensSound, TokensComplete}
 use Rattle.grammar.proofs.Steps.{goes-on, scan-cons}
 use Rattle.strings.specs.declared.chars.Char.{Char}
 use Rattle.strings.specs.declared.chars.Char.the-variants.{Code, Fault}
 use Rattle.strings.specs.Chars.{charRest, charNext, charFrom, restAt, nextAt, charAt}
-use Rattle.strings.specs.Strings.{dialect, StopsAt}
+use Rattle.strings.specs.Strings.{StopsAt}
 
 -- the byte at place i, and what is left there
 pub here : (s : List ℕ) (i : ℕ) → i < length s → drop i s ≡ getD s i 0 ∷ drop (i + 1) s
@@ -210,11 +208,3 @@ module _ (D : Dialect) where
     pub starts-at : (y : CharStep (D .CharState)) → i < length s → D .lexis .quote (getD s i 0) ≡ false → D .charStart (getD s i 0) ≡ y → nextAt D y s i ≡ charAt D s i
     unfolding charAt charFrom nextAt
     starts-at y h e f = rw (drop-cons s i 0 h, e, ← f) refl
-
--- in the dialect that was asked for
-module _ (s : List ℕ) (i : ℕ) {r : Char} {b : Bool} where
-  pub in-schema : r ≡ charAt schema s i → b ≡ true → r ≡ charAt (dialect b) s i
-  in-schema h e = rw e h
-
-  pub in-message : r ≡ charAt message s i → b ≡ false → r ≡ charAt (dialect b) s i
-  in-message h e = rw e h

@@ -14,10 +14,11 @@ use borrow.Author.Tests.{eq-eqb, ne-eqb}
 use Rattle.grammar.specs.Notation.{same}
 use Rattle.grammar.specs.Grammar.{Chars, Chars.close, Chars.char}
 use Rattle.grammar.specs.Machine.{Dialect}
+use Rattle.strings.specs.declared.dialects.Dialect as Dialects
 use Rattle.strings.specs.declared.chars.Char.{Char}
 use Rattle.strings.specs.declared.chars.Char.the-variants.{Code, Fault}
 use Rattle.strings.specs.Chars.{charAt}
-use Rattle.strings.specs.Strings.{dialect}
+use Rattle.strings.specs.Strings.{grammarOf}
 use Rattle.strings.specs.Meanings.{CodesMean, CodesSame}
 use Rattle.strings.proofs.CharRuns.{here, standing, fault-not-code, code-not-fault, char-coded, none-at-end, none-at-quote}
 use Rattle.strings.proofs.StringRuns.{Agrees}
@@ -92,36 +93,36 @@ at-end name j h = go (decLt j (length name))
     go (yes g) = rw (ne-eqb j (length name) (omega arith), drop-cons name j 0 g) refl
     go (no g) = rw (eq-eqb j (length name) (omega arith), drop-of-length-le name {i = j} (omega arith)) refl
 
-module _ (d : Bool) {s : List ℕ} {a : ℕ} {name : List ℕ} {i j : ℕ} (w : Matching (dialect d) s a name i j) where
-  answer : {r : Bool} → ((q : ℕ) (ds : List ℕ) → Left (dialect d) s i q ds → r ≡ same ds (drop j name)) → CodesMean (dialect d) s a name r
+module _ (d : Dialects.Dialect) {s : List ℕ} {a : ℕ} {name : List ℕ} {i j : ℕ} (w : Matching (grammarOf d) s a name i j) where
+  answer : {r : Bool} → ((q : ℕ) (ds : List ℕ) → Left (grammarOf d) s i q ds → r ≡ same ds (drop j name)) → CodesMean (grammarOf d) s a name r
   answer f = record { told = λ e cs m. let k = w .left e cs (m .chars) in f e (k .0) (k .1) ∙ sym (k .2) }
 
-  module _ {r : Char} (f : r ≡ charAt (dialect d) s i) where
-    pub name-ended : {e : ℕ} → r ≡ Fault e → CodesMean (dialect d) s a name (eqb j (length name))
-    name-ended g = answer (λ q ds l. rw (no-more (dialect d) (agrees d) s f q g l) (at-end name j (w .within)))
+  module _ {r : Char} (f : r ≡ charAt (grammarOf d) s i) where
+    pub name-ended : {e : ℕ} → r ≡ Fault e → CodesMean (grammarOf d) s a name (eqb j (length name))
+    name-ended g = answer (λ q ds l. rw (no-more (grammarOf d) (agrees d) s f q g l) (at-end name j (w .within)))
 
     module _ {c e : ℕ} (g : r ≡ Code c e) where
-      pub name-short : length name ≤ j → CodesMean (dialect d) s a name false
-      name-short h = answer (λ q ds l. let k = one-more (dialect d) (agrees d) s f q g l in rw (drop-of-length-le name h, k .codes) refl)
+      pub name-short : length name ≤ j → CodesMean (grammarOf d) s a name false
+      name-short h = answer (λ q ds l. let k = one-more (grammarOf d) (agrees d) s f q g l in rw (drop-of-length-le name h, k .codes) refl)
 
-      pub name-differs : j < length name → (c ≡ getD name j 0 → ⊥) → CodesMean (dialect d) s a name false
-      name-differs h n = answer (λ q ds l. let k = one-more (dialect d) (agrees d) s f q g l in rw (drop-cons name j 0 h, k .codes, ne-eqb c (getD name j 0) n) refl)
+      pub name-differs : j < length name → (c ≡ getD name j 0 → ⊥) → CodesMean (grammarOf d) s a name false
+      name-differs h n = answer (λ q ds l. let k = one-more (grammarOf d) (agrees d) s f q g l in rw (drop-cons name j 0 h, k .codes, ne-eqb c (getD name j 0) n) refl)
 
-      pub matching-more : j < length name → c ≡ getD name j 0 → Matching (dialect d) s a name e (j + 1)
+      pub matching-more : j < length name → c ≡ getD name j 0 → Matching (grammarOf d) s a name e (j + 1)
       matching-more h n =
           record {
             within = omega arith;
             left = λ q cs v.
                 let k = w .left q cs v in
-                let m = one-more (dialect d) (agrees d) s f q g (k .1) in
+                let m = one-more (grammarOf d) (agrees d) s f q g (k .1) in
                 (m .rest, m .chars, k .2 ∙ on m);
           }
         where
-          on : {q : ℕ} {ds : List ℕ} (m : More (dialect d) s c e q ds) → same ds (drop j name) ≡ same (m .rest) (drop (j + 1) name)
+          on : {q : ℕ} {ds : List ℕ} (m : More (grammarOf d) s c e q ds) → same ds (drop j name) ≡ same (m .rest) (drop (j + 1) name)
           on m = rw (m .codes, here name j h, eq-eqb c (getD name j 0) n) refl
 
-  pub name-past : length s ≤ i → CodesMean (dialect d) s a name false
-  name-past h = answer (λ q ds l. none-past (dialect d) (agrees d) s i q ds h l)
+  pub name-past : length s ≤ i → CodesMean (grammarOf d) s a name false
+  name-past h = answer (λ q ds l. none-past (grammarOf d) (agrees d) s i q ds h l)
 
 -- two strings: both from here on say what the whole says
 pub record Pairing (D : Dialect) (s : List ℕ) (a b i j : ℕ) : Type 0 where
@@ -138,36 +139,36 @@ module _ (D : Dialect) (s : List ℕ) (a b : ℕ) {r : Bool} where
   pub second-outside : length s ≤ b → CodesSame D s a b r
   second-outside h = record { told = λ e f cs ds m n. absurd (omega (arith, n .wide, n .within)) }
 
-module _ (d : Bool) {s : List ℕ} {a b i j : ℕ} (w : Pairing (dialect d) s a b i j) where
-  verdict : {r : Bool} → ((q p : ℕ) (xs ys : List ℕ) → Left (dialect d) s i q xs → Left (dialect d) s j p ys → r ≡ same xs ys) → CodesSame (dialect d) s a b r
+module _ (d : Dialects.Dialect) {s : List ℕ} {a b i j : ℕ} (w : Pairing (grammarOf d) s a b i j) where
+  verdict : {r : Bool} → ((q p : ℕ) (xs ys : List ℕ) → Left (grammarOf d) s i q xs → Left (grammarOf d) s j p ys → r ≡ same xs ys) → CodesSame (grammarOf d) s a b r
   verdict f = record { told = λ q p cs ds m n. let k = w .left q p cs ds (m .chars) (n .chars) in f q p (k .0) (k .1) (k .2) (k .3) ∙ sym (k .4) }
 
-  pub pair-past : length s ≤ i → CodesSame (dialect d) s a b false
-  pair-past h = verdict (λ q p xs ys v u. none-past (dialect d) (agrees d) s i q xs h v)
+  pub pair-past : length s ≤ i → CodesSame (grammarOf d) s a b false
+  pair-past h = verdict (λ q p xs ys v u. none-past (grammarOf d) (agrees d) s i q xs h v)
 
-  module _ {x y : Char} (f : x ≡ charAt (dialect d) s i) (g : y ≡ charAt (dialect d) s j) where
-    pub both-ended : {e o : ℕ} → x ≡ Fault e → y ≡ Fault o → CodesSame (dialect d) s a b true
-    both-ended k l = verdict (λ q p xs ys v u. rw (no-more (dialect d) (agrees d) s f q k v, no-more (dialect d) (agrees d) s g p l u) refl)
+  module _ {x y : Char} (f : x ≡ charAt (grammarOf d) s i) (g : y ≡ charAt (grammarOf d) s j) where
+    pub both-ended : {e o : ℕ} → x ≡ Fault e → y ≡ Fault o → CodesSame (grammarOf d) s a b true
+    both-ended k l = verdict (λ q p xs ys v u. rw (no-more (grammarOf d) (agrees d) s f q k v, no-more (grammarOf d) (agrees d) s g p l u) refl)
 
-    pub first-ended : {e n o : ℕ} → x ≡ Fault e → y ≡ Code n o → CodesSame (dialect d) s a b false
-    first-ended k l = verdict (λ q p xs ys v u. rw (no-more (dialect d) (agrees d) s f q k v, one-more (dialect d) (agrees d) s g p l u .codes) refl)
+    pub first-ended : {e n o : ℕ} → x ≡ Fault e → y ≡ Code n o → CodesSame (grammarOf d) s a b false
+    first-ended k l = verdict (λ q p xs ys v u. rw (no-more (grammarOf d) (agrees d) s f q k v, one-more (grammarOf d) (agrees d) s g p l u .codes) refl)
 
-    pub second-ended : {c e o : ℕ} → x ≡ Code c e → y ≡ Fault o → CodesSame (dialect d) s a b false
-    second-ended k l = verdict (λ q p xs ys v u. rw (one-more (dialect d) (agrees d) s f q k v .codes, no-more (dialect d) (agrees d) s g p l u) refl)
+    pub second-ended : {c e o : ℕ} → x ≡ Code c e → y ≡ Fault o → CodesSame (grammarOf d) s a b false
+    second-ended k l = verdict (λ q p xs ys v u. rw (one-more (grammarOf d) (agrees d) s f q k v .codes, no-more (grammarOf d) (agrees d) s g p l u) refl)
 
     module _ {c e n o : ℕ} (k : x ≡ Code c e) (l : y ≡ Code n o) where
-      pub pair-differs : (c ≡ n → ⊥) → CodesSame (dialect d) s a b false
-      pair-differs h = verdict (λ q p xs ys v u. rw (one-more (dialect d) (agrees d) s f q k v .codes, one-more (dialect d) (agrees d) s g p l u .codes, ne-eqb c n h) refl)
+      pub pair-differs : (c ≡ n → ⊥) → CodesSame (grammarOf d) s a b false
+      pair-differs h = verdict (λ q p xs ys v u. rw (one-more (grammarOf d) (agrees d) s f q k v .codes, one-more (grammarOf d) (agrees d) s g p l u .codes, ne-eqb c n h) refl)
 
-      pub pairing-more : c ≡ n → Pairing (dialect d) s a b e o
+      pub pairing-more : c ≡ n → Pairing (grammarOf d) s a b e o
       pairing-more h =
           record {
             left = λ q p cs ds v u.
                 let t = w .left q p cs ds v u in
-                let m = one-more (dialect d) (agrees d) s f q k (t .2) in
-                let z = one-more (dialect d) (agrees d) s g p l (t .3) in
+                let m = one-more (grammarOf d) (agrees d) s f q k (t .2) in
+                let z = one-more (grammarOf d) (agrees d) s g p l (t .3) in
                 (m .rest, z .rest, m .chars, z .chars, t .4 ∙ on m z);
           }
         where
-          on : {q p : ℕ} {xs ys : List ℕ} (m : More (dialect d) s c e q xs) (z : More (dialect d) s n o p ys) → same xs ys ≡ same (m .rest) (z .rest)
+          on : {q p : ℕ} {xs ys : List ℕ} (m : More (grammarOf d) s c e q xs) (z : More (grammarOf d) s n o p ys) → same xs ys ≡ same (m .rest) (z .rest)
           on m z = rw (m .codes, z .codes, eq-eqb c n h) refl

@@ -9,10 +9,11 @@ use mathlib.Core.List.{List}
 use lib.ListN.{length, getD, take, drop}
 use lib.Seq.{drop-cons}
 use Rattle.grammar.specs.Machine.{Dialect}
+use Rattle.strings.specs.declared.dialects.Dialect as Dialects
 use Rattle.strings.specs.declared.chars.Char.{Char}
 use Rattle.strings.specs.declared.chars.Char.the-variants.{Code, Fault}
 use Rattle.strings.specs.Chars.{charAt}
-use Rattle.strings.specs.Strings.{dialect}
+use Rattle.strings.specs.Strings.{grammarOf}
 use Rattle.strings.specs.Meanings.{inside}
 use Rattle.strings.specs.Marks.{markMore, markFrom, markOf, BytesMark, CodesMark, MeansMark}
 use Rattle.strings.proofs.StringReads.{agrees}
@@ -51,25 +52,25 @@ codes-start D s a = record { left = λ q cs w. (cs, w, refl) }
 pub codes-outside : (D : Dialect) (s : List ℕ) (a : ℕ) {r : ℕ} → length s ≤ a → CodesMark D s a r
 codes-outside D s a h = record { told = λ e cs m. absurd (omega (arith, m .wide, m .within)) }
 
-module _ (d : Bool) {s : List ℕ} {a m i : ℕ} (w : MarkedCodes (dialect d) s a m i) where
-  module _ {r : Char} (f : r ≡ charAt (dialect d) s i) where
-    pub codes-end : {e : ℕ} → r ≡ Fault e → CodesMark (dialect d) s a m
-    codes-end g = record { told = λ e cs n. let k = w .left e cs (n .chars) in sym (k .2 ∙ ap (markFrom m) (no-more (dialect d) (agrees d) s f e g (k .1))) }
+module _ (d : Dialects.Dialect) {s : List ℕ} {a m i : ℕ} (w : MarkedCodes (grammarOf d) s a m i) where
+  module _ {r : Char} (f : r ≡ charAt (grammarOf d) s i) where
+    pub codes-end : {e : ℕ} → r ≡ Fault e → CodesMark (grammarOf d) s a m
+    codes-end g = record { told = λ e cs n. let k = w .left e cs (n .chars) in sym (k .2 ∙ ap (markFrom m) (no-more (grammarOf d) (agrees d) s f e g (k .1))) }
 
-    pub codes-more : {c e x : ℕ} → r ≡ Code c e → x ≡ markMore m c → MarkedCodes (dialect d) s a x e
+    pub codes-more : {c e x : ℕ} → r ≡ Code c e → x ≡ markMore m c → MarkedCodes (grammarOf d) s a x e
     codes-more {c} {e} {x} g p =
         record {
           left = λ q cs v.
               let k = w .left q cs v in
-              let n = one-more (dialect d) (agrees d) s f q g (k .1) in
+              let n = one-more (grammarOf d) (agrees d) s f q g (k .1) in
               (n .rest, n .chars, k .2 ∙ ap (markFrom m) (n .codes) ∙ sym (ap (λ (y : ℕ). markFrom y (n .rest)) p));
         }
 
-  pub codes-past : length s ≤ i → CodesMark (dialect d) s a m
-  codes-past h = record { told = λ e cs n. let k = w .left e cs (n .chars) in none-past (dialect d) (agrees d) s i e (k .0) h (k .1) }
+  pub codes-past : length s ≤ i → CodesMark (grammarOf d) s a m
+  codes-past h = record { told = λ e cs n. let k = w .left e cs (n .chars) in none-past (grammarOf d) (agrees d) s i e (k .0) h (k .1) }
 
 module _ {s : List ℕ} {a e r : ℕ} {plain : Bool} where
-  pub mark-plain : (b : Bool) → plain ≡ true → BytesMark s a e r → MeansMark (dialect b) s a e plain r
+  pub mark-plain : (b : Dialects.Dialect) → plain ≡ true → BytesMark s a e r → MeansMark (grammarOf b) s a e plain r
   mark-plain b t w = record { told = λ cs m p. w .told (spans m) ∙ ap markOf (sym (plain-means b m (p t))) }
 
   pub mark-coded : (D : Dialect) → CodesMark D s a r → MeansMark D s a e plain r

@@ -17,10 +17,12 @@ use Rattle.grammar.specs.Machine.Schema.{schema}
 use Rattle.grammar.specs.Machine.Message.{message}
 use Rattle.grammar.proofs.Booleans.{clash, by, either, both, within-true, within-is, within-below, within-above}
 use Rattle.grammar.proofs.SchemaDialect.{schema-tokens-sound}
+use Rattle.strings.specs.declared.dialects.Dialect.{Dialect}
+use Rattle.strings.specs.declared.dialects.Dialect.the-variants.{Schema, Message}
 use Rattle.strings.specs.declared.chars.Char.the-variants.{Code}
 use Rattle.strings.specs.Classes.{named, classOf}
 use Rattle.strings.specs.Chars.{charAt}
-use Rattle.strings.specs.Strings.{dialect, plainByte}
+use Rattle.strings.specs.Strings.{grammarOf, plainByte}
 use Rattle.strings.proofs.CharRuns.{standing, fault-not-code, char-there, none-at-quote}
 use Rattle.strings.proofs.MessageChars.{starts-plain}
 
@@ -127,6 +129,6 @@ schema-alone s i c e t h = go (schema-code s h)
     go (plain-byte b k p n) = record { byte = b; end = k }
     go (backslashes b k) = absurd (plain-true (getD s i 0) t .2 b)
 
-pub plain-alone : (b : Bool) (s : List ℕ) (i c e : ℕ) → i < length s → plainByte (getD s i 0) ≡ true → charAt (dialect b) s i ≡ Code c e → Alone s i c e
-plain-alone true s i c e h t f = schema-alone s i c e t f
-plain-alone false s i c e h t f = message-alone s i c e h t f
+pub plain-alone : (b : Dialect) (s : List ℕ) (i c e : ℕ) → i < length s → plainByte (getD s i 0) ≡ true → charAt (grammarOf b) s i ≡ Code c e → Alone s i c e
+plain-alone Schema s i c e h t f = schema-alone s i c e t f
+plain-alone Message s i c e h t f = message-alone s i c e h t f

@@ -16,24 +16,25 @@ use Rattle.grammar.specs.Machine.Message.{message}
 use Rattle.grammar.proofs.Booleans.{clash}
 use Rattle.grammar.proofs.SchemaDialect.{schema-tokens-sound, schema-tokens-complete}
 use Rattle.grammar.proofs.MessageDialect.{message-tokens-sound, message-tokens-complete}
+use Rattle.strings.specs.declared.dialects.Dialect.{Dialect}
+use Rattle.strings.specs.declared.dialects.Dialect.the-variants.{Schema, Message}
 use Rattle.strings.specs.declared.chars.Char.{Char}
 use Rattle.strings.specs.declared.chars.Char.the-variants.{Code, Fault}
-use Rattle.strings.specs.declared.strings.StringRead.{StringRead}
 use Rattle.strings.specs.declared.strings.StringRead.the-variants as Answer
 use Rattle.strings.specs.Classes.{classOf}
 use Rattle.strings.specs.Chars.{charAt}
-use Rattle.strings.specs.Strings.{dialect, plainByte, PlainEnd, ReadsString}
+use Rattle.strings.specs.Strings.{grammarOf, plainByte, PlainEnd, ReadsString}
 use Rattle.strings.proofs.CharRuns.{char-there}
 use Rattle.strings.proofs.StringRuns.{Agrees, Reach, reach-none, reach-char, read-fault, read-end, read-plain, read-coded}
 use Rattle.strings.proofs.PlainBytes.{itself-plain, itself-code, class-itself, class-coded, SchemaCode, SchemaCode.plain-byte, SchemaCode.backslashes, schema-code}
 
-pub agrees : (b : Bool) → Agrees (dialect b)
-agrees true = record { sound = schema-tokens-sound; complete = schema-tokens-complete }
-agrees false = record { sound = message-tokens-sound; complete = message-tokens-complete }
+pub agrees : (b : Dialect) → Agrees (grammarOf b)
+agrees Schema = record { sound = schema-tokens-sound; complete = schema-tokens-complete }
+agrees Message = record { sound = message-tokens-sound; complete = message-tokens-complete }
 
 -- a character leads on, within the text
-pub moves : (b : Bool) (s : List ℕ) (i : ℕ) {c e : ℕ} {r : Char} → r ≡ charAt (dialect b) s i → r ≡ Code c e → (i < e) × (e ≤ length s)
-moves b s i {c} {e} f q = let t = char-there (dialect b) (agrees b .sound) s i c e (sym f ∙ q) in (t .on, t .within)
+pub moves : (b : Dialect) (s : List ℕ) (i : ℕ) {c e : ℕ} {r : Char} → r ≡ charAt (grammarOf b) s i → r ≡ Code c e → (i < e) × (e ≤ length s)
+moves b s i {c} {e} f q = let t = char-there (grammarOf b) (agrees b .sound) s i c e (sym f ∙ q) in (t .on, t .within)
 
 -- a run of plain bytes, up to place i
 pub record PlainTo (s : List ℕ) (from i : ℕ) : Type 0 where
@@ -69,7 +70,7 @@ module _ {s : List ℕ} {a i e : ℕ} (r : Reach message s a i) (p : PlainEnd s 
       upto (suc n) h =
           let q : i + suc n ≡ i + n + 1 = omega arith in
           let l : i + n < length s = omega (arith, p .within (r .within)) in
-          rw q (reach-char message (agrees false) (upto n (omega arith)) (itself-code s (i + n) l (class-itself _ (p .plain (i + n) (omega arith) (omega arith)))))
+          rw q (reach-char message (agrees Message) (upto n (omega arith)) (itself-code s (i + n) l (class-itself _ (p .plain (i + n) (omega arith) (omega arith)))))
 
 -- a message string with a byte that is not plain
 pub record CodedTo (s : List ℕ) (a i : ℕ) : Type 0 where
@@ -82,7 +83,7 @@ pub record CodedTo (s : List ℕ) (a i : ℕ) : Type 0 where
 module _ {s : List ℕ} {a i : ℕ} (h : a < length s) (p : PlainEnd s (a + 1) i) where
   pub plain-string : i < length s → getD s i 0 ≡ code "\"" → ReadsString message s a (Answer.Plain (i + 1))
   plain-string g q =
-      read-plain message (agrees false) (reach-plain (reach-none message h) p) g (eq-eqb _ _ q) (λ k x y. itself-plain (class-itself _ (p .plain k (omega arith) y)))
+      read-plain message (agrees Message) (reach-plain (reach-none message h) p) g (eq-eqb _ _ q) (λ k x y. itself-plain (class-itself _ (p .plain k (omega arith) y)))
 
   pub coded-starts : (i < length s → getD s i 0 ≡ code "\"" → ⊥) → CodedTo s a i
   coded-starts n =
@@ -91,11 +92,11 @@ module _ {s : List ℕ} {a i : ℕ} (h : a < length s) (p : PlainEnd s (a + 1) i
 module _ {s : List ℕ} {a i : ℕ} (w : CodedTo s a i) where
   pub coded-more : {c e j : ℕ} {r : Char} → r ≡ charAt message s i → r ≡ Code c e → PlainEnd s e j → CodedTo s a j
   coded-more {c} {e} {j} f q p =
-      let t : Reach message s a e = reach-char message (agrees false) (w .reach) (sym f ∙ q) in
-      record { reach = reach-plain t p; odd = w .odd; after = w .after; upto = omega (arith, w .upto, p .on, moves false s i f q); coded = w .coded }
+      let t : Reach message s a e = reach-char message (agrees Message) (w .reach) (sym f ∙ q) in
+      record { reach = reach-plain t p; odd = w .odd; after = w .after; upto = omega (arith, w .upto, p .on, moves Message s i f q); coded = w .coded }
 
   pub coded-string : i < length s → getD s i 0 ≡ code "\"" → ReadsString message s a (Answer.Coded (i + 1))
-  coded-string h q = read-coded message (agrees false) (w .reach) h (eq-eqb _ _ q) (w .odd) (w .after) (before (decLt (w .odd) i)) (w .coded (omega (arith, w .upto)))
+  coded-string h q = read-coded message (agrees Message) (w .reach) h (eq-eqb _ _ q) (w .odd) (w .after) (before (decLt (w .odd) i)) (w .coded (omega (arith, w .upto)))
     where
       before : Dec (w .odd < i) → w .odd < i
       before (yes l) = l
@@ -105,10 +106,10 @@ module _ {s : List ℕ} {a i : ℕ} (w : CodedTo s a i) where
           clash (rw q refl) z
 
   pub coded-fault : {e : ℕ} {r : Char} → (getD s i 0 ≡ code "\"" → ⊥) → r ≡ charAt message s i → r ≡ Fault e → ReadsString message s a (Answer.Fault e)
-  coded-fault n f q = read-fault message (agrees false) (w .reach) (λ _. ne-eqb _ _ n) (sym f ∙ q)
+  coded-fault n f q = read-fault message (agrees Message) (w .reach) (λ _. ne-eqb _ _ n) (sym f ∙ q)
 
   pub coded-ends : length s ≤ i → ReadsString message s a (Answer.Fault i)
-  coded-ends h = read-end message (agrees false) (w .reach) h
+  coded-ends h = read-end message (agrees Message) (w .reach) h
 
 -- a schema string, and whether every byte was plain
 pub data Plainness (s : List ℕ) (a i : ℕ) : Bool → Type 0 where
@@ -125,7 +126,7 @@ schema-starts h = record { reach = reach-none schema h; plainness = plain-bytes 
 module _ {s : List ℕ} {a i : ℕ} {plain : Bool} (w : SchemaTo s a i plain) where
   module _ {c e : ℕ} {r : Char} (f : r ≡ charAt schema s i) (q : r ≡ Code c e) where
     reached : Reach schema s a e
-    reached = reach-char schema (agrees true) (w .reach) (sym f ∙ q)
+    reached = reach-char schema (agrees Schema) (w .reach) (sym f ∙ q)
 
     pub schema-plain : (c ≡ code "\\" → ⊥) → SchemaTo s a e plain
     schema-plain n = record { reach = reached; plainness = go (schema-code s (sym f ∙ q)) (w .plainness) }
@@ -140,31 +141,23 @@ module _ {s : List ℕ} {a i : ℕ} {plain : Bool} (w : SchemaTo s a i plain) wh
       where
         go : SchemaCode s i c e → Plainness s a e false
         go (plain-byte b k p m) = absurd (m d)
-        go (backslashes b k) = coded-byte i (w .reach .on) (moves true s i f q .0) (rw b refl)
+        go (backslashes b k) = coded-byte i (w .reach .on) (moves Schema s i f q .0) (rw b refl)
 
   module _ (h : i < length s) (q : getD s i 0 ≡ code "'") where
     pub schema-plain-string : plain ≡ true → ReadsString schema s a (Answer.Plain (i + 1))
     schema-plain-string t = go (rw t at (w .plainness))
       where
         go : Plainness s a i true → ReadsString schema s a (Answer.Plain (i + 1))
-        go (plain-bytes f) = read-plain schema (agrees true) (w .reach) h (eq-eqb _ _ q) f
+        go (plain-bytes f) = read-plain schema (agrees Schema) (w .reach) h (eq-eqb _ _ q) f
 
     pub schema-coded-string : plain ≡ false → ReadsString schema s a (Answer.Coded (i + 1))
     schema-coded-string t = go (rw t at (w .plainness))
       where
         go : Plainness s a i false → ReadsString schema s a (Answer.Coded (i + 1))
-        go (coded-byte k x y f) = read-coded schema (agrees true) (w .reach) h (eq-eqb _ _ q) k x y f
+        go (coded-byte k x y f) = read-coded schema (agrees Schema) (w .reach) h (eq-eqb _ _ q) k x y f
 
   pub schema-fault : {e : ℕ} {r : Char} → (getD s i 0 ≡ code "'" → ⊥) → r ≡ charAt schema s i → r ≡ Fault e → ReadsString schema s a (Answer.Fault e)
-  schema-fault n f q = read-fault schema (agrees true) (w .reach) (λ _. ne-eqb _ _ n) (sym f ∙ q)
+  schema-fault n f q = read-fault schema (agrees Schema) (w .reach) (λ _. ne-eqb _ _ n) (sym f ∙ q)
 
   pub schema-ends : length s ≤ i → ReadsString schema s a (Answer.Fault i)
-  schema-ends h = read-end schema (agrees true) (w .reach) h
-
--- in the dialect that was asked for
-module _ {s : List ℕ} {a : ℕ} {r : StringRead} {b : Bool} where
-  pub as-schema : ReadsString schema s a r → b ≡ true → ReadsString (dialect b) s a r
-  as-schema h e = rw e h
-
-  pub as-message : ReadsString message s a r → b ≡ false → ReadsString (dialect b) s a r
-  as-message h e = rw e h
+  schema-ends h = read-end schema (agrees Schema) (w .reach) h

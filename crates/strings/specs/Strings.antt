@@ -14,13 +14,15 @@ use Rattle.grammar.specs.Machine.Out.{fault}
 use Rattle.grammar.specs.Machine.Schema.{schema}
 use Rattle.grammar.specs.Machine.Message.{message}
 use Rattle.strings.specs.Classes.{classOf}
+use Rattle.strings.specs.declared.dialects.Dialect as Dialects
+use Rattle.strings.specs.declared.dialects.Dialect.the-variants.{Schema, Message}
 use Rattle.strings.specs.declared.strings.StringRead.{StringRead}
 use Rattle.strings.specs.declared.strings.StringRead.the-variants.{Plain, Coded, Fault}
 
--- which dialect a reader was asked for
-abbrev pub dialect : Bool → Dialect
-dialect true = schema
-dialect false = message
+-- what a dialect that a reader is asked for means
+abbrev pub grammarOf : Dialects.Dialect → Dialect
+grammarOf Schema = schema
+grammarOf Message = message
 
 -- a byte that is its own code point in a string of either dialect
 abbrev pub plainByte : ℕ → Bool

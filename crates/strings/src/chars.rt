@@ -1,4 +1,5 @@
 // The characters of strings, of both dialects: a byte that stands for itself, an escape, or UTF-8. Any place may be asked.
+use crate::dialects::Dialect;
 ghost use mathlib.Core.Path.{_≡_};
 ghost use Prim.Native.Nat.{_≤_, _<_};
 ghost use lib.ListN.{length};
@@ -7,7 +8,7 @@ ghost use Rattle.grammar.specs.Machine.Schema.{schema as schemaDialect};
 ghost use Rattle.grammar.specs.Machine.Message.{message, charStart};
 ghost use Rattle.grammar.specs.Machine.Message.{CharState as State};
 ghost use Rattle.strings.specs.Chars.{restAt, nextAt, charAt, hexAt, TwoDigits, TailByte, utf8At};
-ghost use Rattle.strings.specs.Strings.{dialect};
+ghost use Rattle.strings.specs.Strings.{grammarOf};
 
 // A code point and the place past it, or the place of the first byte that no character could have there.
 pub enum Char {
@@ -251,11 +252,11 @@ pub fn schema_char(s: &[u8], i: usize) -> Char
 }
 
 // The character at `i` of a string of either dialect.
-pub fn next_char(s: &[u8], schema: bool, i: usize) -> Char
-    ensures { λ r. ⌜ r ≡ charAt (dialect schema) (now (s .entry)) i ⌝ }
+pub fn next_char(s: &[u8], dialect: Dialect, i: usize) -> Char
+    ensures { λ r. ⌜ r ≡ charAt (grammarOf dialect) (now (s .entry)) i ⌝ }
 {
-    if schema {
-        return schema_char(s, i);
+    match dialect {
+        Dialect::Schema => schema_char(s, i),
+        Dialect::Message => message_char(s, i),
     }
-    message_char(s, i)
 }

@@ -1,6 +1,7 @@
 // Strings in either dialect: classes of bytes, characters, whole strings, and what they mean.
 pub mod chars;
 pub mod classes;
+pub mod dialects;
 pub mod marks;
 pub mod meanings;
 pub mod strings;

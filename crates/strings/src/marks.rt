@@ -2,8 +2,9 @@
 use crate::chars::Char;
 use crate::chars::next_char;
 use crate::chars::wide;
+use crate::dialects::Dialect;
 ghost use mathlib.Core.Path.{_≡_};
-ghost use Rattle.strings.specs.Strings.{dialect};
+ghost use Rattle.strings.specs.Strings.{grammarOf};
 ghost use Rattle.strings.specs.Marks.{markMore, BytesMark, CodesMark, MeansMark};
 
 // A mark with one more code point. Places count, but it is no secret: who chooses the strings can make marks equal.
@@ -32,8 +33,8 @@ fn bytes_mark(s: &[u8], a: usize, e: usize) -> u32
     mark
 }
 
-fn codes_mark(s: &[u8], schema: bool, a: usize) -> u32
-    ensures { λ r. ⌜ CodesMark (dialect schema) (now (s .entry)) a r ⌝ }
+fn codes_mark(s: &[u8], dialect: Dialect, a: usize) -> u32
+    ensures { λ r. ⌜ CodesMark (grammarOf dialect) (now (s .entry)) a r ⌝ }
 {
     if s.len() <= a {
         return 0;
@@ -41,7 +42,7 @@ fn codes_mark(s: &[u8], schema: bool, a: usize) -> u32
     let mut mark = 0;
     let mut i = a + 1;
     while i < s.len() {
-        match next_char(s, schema, i) {
+        match next_char(s, dialect, i) {
             Char::Fault(_e) => {
                 return mark;
             }
@@ -55,11 +56,11 @@ fn codes_mark(s: &[u8], schema: bool, a: usize) -> u32
 }
 
 // The mark of what the string from a to e means. `plain` says that the string's bytes are its code points.
-pub fn mark_of(s: &[u8], schema: bool, a: usize, e: usize, plain: bool) -> u32
-    ensures { λ r. ⌜ MeansMark (dialect schema) (now (s .entry)) a e plain r ⌝ }
+pub fn mark_of(s: &[u8], dialect: Dialect, a: usize, e: usize, plain: bool) -> u32
+    ensures { λ r. ⌜ MeansMark (grammarOf dialect) (now (s .entry)) a e plain r ⌝ }
 {
     if plain {
         return bytes_mark(s, a, e);
     }
-    codes_mark(s, schema, a)
+    codes_mark(s, dialect, a)
 }

@@ -2,10 +2,11 @@
 use crate::chars::Char;
 use crate::chars::next_char;
 use crate::chars::wide;
+use crate::dialects::Dialect;
 ghost use mathlib.Core.Path.{_≡_};
 ghost use Prim.Native.Nat.{_+_, _≤_};
 ghost use lib.ListN.{length};
-ghost use Rattle.strings.specs.Strings.{dialect};
+ghost use Rattle.strings.specs.Strings.{grammarOf};
 ghost use Rattle.strings.specs.Meanings.{sameParts, BytesMean, BytesSame, CodesMean, CodesSame, MeansName, MeansSame};
 
 // Whether n bytes of `s` from i on are those of `t` from j on: the last of them first, in which names differ most.
@@ -70,8 +71,8 @@ fn bytes_same(s: &[u8], a: usize, e: usize, b: usize, f: usize) -> bool
     same_bytes(s, a + 1, s, b + 1, n - 2)
 }
 
-fn codes_mean(s: &[u8], schema: bool, a: usize, name: &[u8]) -> bool
-    ensures { λ r. ⌜ CodesMean (dialect schema) (now (s .entry)) a (now (name .entry)) r ⌝ }
+fn codes_mean(s: &[u8], dialect: Dialect, a: usize, name: &[u8]) -> bool
+    ensures { λ r. ⌜ CodesMean (grammarOf dialect) (now (s .entry)) a (now (name .entry)) r ⌝ }
 {
     if s.len() <= a {
         return false;
@@ -79,7 +80,7 @@ fn codes_mean(s: &[u8], schema: bool, a: usize, name: &[u8]) -> bool
     let mut i = a + 1;
     let mut j = 0;
     while i < s.len() {
-        match next_char(s, schema, i) {
+        match next_char(s, dialect, i) {
             Char::Fault(_e) => {
                 return j == name.len();
             }
@@ -98,8 +99,8 @@ fn codes_mean(s: &[u8], schema: bool, a: usize, name: &[u8]) -> bool
     false
 }
 
-fn codes_same(s: &[u8], schema: bool, a: usize, b: usize) -> bool
-    ensures { λ r. ⌜ CodesSame (dialect schema) (now (s .entry)) a b r ⌝ }
+fn codes_same(s: &[u8], dialect: Dialect, a: usize, b: usize) -> bool
+    ensures { λ r. ⌜ CodesSame (grammarOf dialect) (now (s .entry)) a b r ⌝ }
 {
     if s.len() <= a {
         return false;
@@ -110,8 +111,8 @@ fn codes_same(s: &[u8], schema: bool, a: usize, b: usize) -> bool
     let mut i = a + 1;
     let mut j = b + 1;
     while i < s.len() {
-        let x = next_char(s, schema, i);
-        let y = next_char(s, schema, j);
+        let x = next_char(s, dialect, i);
+        let y = next_char(s, dialect, j);
         match x {
             Char::Fault(_e) => match y {
                 Char::Fault(_f) => {
@@ -139,19 +140,19 @@ fn codes_same(s: &[u8], schema: bool, a: usize, b: usize) -> bool
 }
 
 // Whether the string from a to e means the bytes `name`. `plain` says that the string's bytes are its code points.
-pub fn means(s: &[u8], schema: bool, a: usize, e: usize, plain: bool, name: &[u8]) -> bool
-    ensures { λ r. ⌜ MeansName (dialect schema) (now (s .entry)) a e plain (now (name .entry)) r ⌝ }
+pub fn means(s: &[u8], dialect: Dialect, a: usize, e: usize, plain: bool, name: &[u8]) -> bool
+    ensures { λ r. ⌜ MeansName (grammarOf dialect) (now (s .entry)) a e plain (now (name .entry)) r ⌝ }
 {
     if plain {
         return bytes_mean(s, a, e, name);
     }
-    codes_mean(s, schema, a, name)
+    codes_mean(s, dialect, a, name)
 }
 
 // Whether the strings from a to e and from b to f mean the same.
 pub fn same_meaning(
     s: &[u8],
-    schema: bool,
+    dialect: Dialect,
     a: usize,
     e: usize,
     plain_a: bool,
@@ -159,12 +160,12 @@ pub fn same_meaning(
     f: usize,
     plain_b: bool,
 ) -> bool
-    ensures { λ r. ⌜ MeansSame (dialect schema) (now (s .entry)) a e «plain_a» b f «plain_b» r ⌝ }
+    ensures { λ r. ⌜ MeansSame (grammarOf dialect) (now (s .entry)) a e «plain_a» b f «plain_b» r ⌝ }
 {
     if plain_a {
         if plain_b {
             return bytes_same(s, a, e, b, f);
         }
     }
-    codes_same(s, schema, a, b)
+    codes_same(s, dialect, a, b)
 }

@@ -3,11 +3,12 @@ use crate::chars::Char;
 use crate::chars::message_char;
 use crate::chars::schema_char;
 use crate::classes::class_in;
+use crate::dialects::Dialect;
 ghost use mathlib.Core.Path.{_≡_};
 ghost use Prim.Native.Nat.{_<_};
 ghost use lib.ListN.{length};
 ghost use Rattle.strings.specs.Classes.{classOf, tabulate};
-ghost use Rattle.strings.specs.Strings.{dialect, PlainEnd, ReadsString};
+ghost use Rattle.strings.specs.Strings.{grammarOf, PlainEnd, ReadsString};
 ghost use Rattle.grammar.specs.Machine.Schema.{schema as schemaDialect};
 ghost use Rattle.grammar.specs.Machine.Message.{message};
 
@@ -88,12 +89,12 @@ fn schema_string(s: &[u8], quote: usize) -> StringRead
 }
 
 // The string whose opening quote stands at `quote`.
-pub fn read_string(s: &[u8], classes: &[u8; 256], schema: bool, quote: usize) -> StringRead
+pub fn read_string(s: &[u8], classes: &[u8; 256], dialect: Dialect, quote: usize) -> StringRead
     requires { ⌜ (now classes ≡ tabulate classOf 0 256) × (quote < length (now s)) ⌝ }
-    ensures { λ r. ⌜ ReadsString (dialect schema) (now (s .entry)) quote r ⌝ }
+    ensures { λ r. ⌜ ReadsString (grammarOf dialect) (now (s .entry)) quote r ⌝ }
 {
-    if schema {
-        return schema_string(s, quote);
+    match dialect {
+        Dialect::Schema => schema_string(s, quote),
+        Dialect::Message => message_string(s, classes, quote),
     }
-    message_string(s, classes, quote)
 }

@@ -18,7 +18,7 @@ use Rattle.grammar.specs.Machine.{Dialect}
 use Rattle.strings.specs.Strings.{plainString}
 use Rattle.tokens.specs.NodeKinds.{plain-string-node, other-string-node, object-node, plain-key-node, other-key-node}
 use Rattle.tokens.specs.Tokens.{scalarNode, keyNode}
-use Rattle.text.specs.Nodes.{node, next, Holds, HoldsItems, HoldsFields, nodeKind}
+use Rattle.text.specs.Nodes.{next, Holds, HoldsItems, HoldsFields, nodeKind}
 use Rattle.text.specs.Keys.{KeyAt}
 
 lt-or-ge : (a b : ℕ) → (a < b) ⊎ (b ≤ a)

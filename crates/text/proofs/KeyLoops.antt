@@ -15,7 +15,7 @@ use Rattle.grammar.specs.Machine.{Dialect}
 use Rattle.strings.specs.Strings.{plainString, Means}
 use Rattle.tokens.specs.NodeKinds.{object-node, plain-key-node, other-key-node}
 use Rattle.tokens.specs.Tokens.{keyNode}
-use Rattle.text.specs.Nodes.{node, next, HoldsFields, nodeEnd, nodeKind, nodeStart}
+use Rattle.text.specs.Nodes.{next, HoldsFields, nodeEnd, nodeKind, nodeStart}
 use Rattle.strings.specs.Meanings.{MeansSame}
 use Rattle.text.specs.Keys.{KeyAt, SameKeys, NewKey, KeysApart, KeysOnce}
 use Rattle.text.proofs.KeyLaws.{first, no-keys, Says, Clean, once-items, twice-items, clean-more}

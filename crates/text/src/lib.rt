@@ -1,4 +1,4 @@
-// The reader of a whole text, in either dialect, into nodes. `schema` says which dialect.
+// The reader of a whole text, in either dialect, into nodes.
 pub mod keys;
 pub mod nodes;
 pub mod reader;

@@ -1,5 +1,6 @@
 // A value reader and a member reader that call each other, the count of levels left falling.
 use crate::nodes::put_node;
+use strings::dialects::Dialect;
 use tokens::blanks::skip_blanks;
 use tokens::members::Following;
 use tokens::members::KeyRead;
@@ -11,7 +12,7 @@ use tokens::scalars::read_scalar;
 ghost use mathlib.Core.Path.{_≡_};
 ghost use Prim.Native.Nat.{suc};
 ghost use Rattle.strings.specs.Classes.{classOf, tabulate};
-ghost use Rattle.strings.specs.Strings.{dialect};
+ghost use Rattle.strings.specs.Strings.{grammarOf};
 ghost use Rattle.tokens.specs.Tokens.{Unbracketed};
 ghost use Rattle.text.specs.Readers.{Stands, Ready, Opens, ReadsLeaf, ReadsValue, ReadsObject, ReadsMember};
 
@@ -36,15 +37,15 @@ pub fn stands(s: &[u8], i: usize, b: u8) -> bool
 fn scalar_node(
     s: &[u8],
     classes: &[u8; 256],
-    schema: bool,
+    dialect: Dialect,
     nodes: &mut [u32],
     i: usize,
     k: usize,
 ) -> Read
-    requires { ⌜ (now classes ≡ tabulate classOf 0 256) × Ready (now s) i k × Unbracketed (dialect schema) (now s) i ⌝ }
-    ensures { λ r. ⌜ ReadsLeaf (dialect schema) (now (s .entry)) (now (nodes .entry)) (now (nodes .exit)) i k r ⌝ }
+    requires { ⌜ (now classes ≡ tabulate classOf 0 256) × Ready (now s) i k × Unbracketed (grammarOf dialect) (now s) i ⌝ }
+    ensures { λ r. ⌜ ReadsLeaf (grammarOf dialect) (now (s .entry)) (now (nodes .entry)) (now (nodes .exit)) i k r ⌝ }
 {
-    match read_scalar(s, classes, schema, i) {
+    match read_scalar(s, classes, dialect, i) {
         ScalarRead::Fault(e) => Read::Fault(e),
         ScalarRead::Found(kind, e) => {
             let n = k + 1;
@@ -58,45 +59,45 @@ fn scalar_node(
 pub fn read_value(
     s: &[u8],
     classes: &[u8; 256],
-    schema: bool,
+    dialect: Dialect,
     nodes: &mut [u32],
     i: usize,
     k: usize,
     left: usize,
 ) -> Read
     requires { ⌜ (now classes ≡ tabulate classOf 0 256) × Ready (now s) i k ⌝ }
-    ensures { λ r. ⌜ ReadsValue (dialect schema) (now (s .entry)) (now (nodes .entry)) (now (nodes .exit)) i k left r ⌝ }
+    ensures { λ r. ⌜ ReadsValue (grammarOf dialect) (now (s .entry)) (now (nodes .entry)) (now (nodes .exit)) i k left r ⌝ }
 {
-    let p = skip_blanks(s, classes, schema, i);
+    let p = skip_blanks(s, classes, dialect, i);
     if stands(s, p, b'[') {
         if left == 0 {
             return Read::Deep(p);
         }
-        return read_items(s, classes, schema, nodes, p, k, left - 1);
+        return read_items(s, classes, dialect, nodes, p, k, left - 1);
     }
     if stands(s, p, b'{') {
         if left == 0 {
             return Read::Deep(p);
         }
-        return read_members(s, classes, schema, nodes, p, k, left - 1);
+        return read_members(s, classes, dialect, nodes, p, k, left - 1);
     }
-    scalar_node(s, classes, schema, nodes, p, k)
+    scalar_node(s, classes, dialect, nodes, p, k)
 }
 
 // The array whose bracket stands at `at`, as node k.
 fn read_items(
     s: &[u8],
     classes: &[u8; 256],
-    schema: bool,
+    dialect: Dialect,
     nodes: &mut [u32],
     at: usize,
     k: usize,
     left: usize,
 ) -> Read
     requires { ⌜ (now classes ≡ tabulate classOf 0 256) × Opens (now s) at k 91 ⌝ }
-    ensures { λ r. ⌜ ReadsValue (dialect schema) (now (s .entry)) (now (nodes .entry)) (now (nodes .exit)) at k (suc left) r ⌝ }
+    ensures { λ r. ⌜ ReadsValue (grammarOf dialect) (now (s .entry)) (now (nodes .entry)) (now (nodes .exit)) at k (suc left) r ⌝ }
 {
-    let first = skip_blanks(s, classes, schema, at + 1);
+    let first = skip_blanks(s, classes, dialect, at + 1);
     let mut n = k + 1;
     if stands(s, first, b']') {
         let e = first + 1;
@@ -105,11 +106,11 @@ fn read_items(
     }
     let mut i = first;
     loop {
-        let v = read_value(s, classes, schema, nodes, i, n, left);
+        let v = read_value(s, classes, dialect, nodes, i, n, left);
         let Read::Past(e, m) = v else {
             return v;
         };
-        match read_following(s, classes, schema, e, b']') {
+        match read_following(s, classes, dialect, e, b']') {
             Following::Comma(p) => {
                 i = p;
                 n = m;
@@ -129,16 +130,16 @@ fn read_items(
 pub fn read_members(
     s: &[u8],
     classes: &[u8; 256],
-    schema: bool,
+    dialect: Dialect,
     nodes: &mut [u32],
     at: usize,
     k: usize,
     left: usize,
 ) -> Read
     requires { ⌜ (now classes ≡ tabulate classOf 0 256) × Opens (now s) at k 123 ⌝ }
-    ensures { λ r. ⌜ ReadsObject (dialect schema) (now (s .entry)) (now (nodes .entry)) (now (nodes .exit)) at k (suc left) r ⌝ }
+    ensures { λ r. ⌜ ReadsObject (grammarOf dialect) (now (s .entry)) (now (nodes .entry)) (now (nodes .exit)) at k (suc left) r ⌝ }
 {
-    let first = skip_blanks(s, classes, schema, at + 1);
+    let first = skip_blanks(s, classes, dialect, at + 1);
     let mut n = k + 1;
     if stands(s, first, b'}') {
         let e = first + 1;
@@ -147,11 +148,11 @@ pub fn read_members(
     }
     let mut i = first;
     loop {
-        let v = read_member(s, classes, schema, nodes, i, n, left);
+        let v = read_member(s, classes, dialect, nodes, i, n, left);
         let Read::Past(e, m) = v else {
             return v;
         };
-        match read_following(s, classes, schema, e, b'}') {
+        match read_following(s, classes, dialect, e, b'}') {
             Following::Comma(p) => {
                 i = p;
                 n = m;
@@ -171,19 +172,19 @@ pub fn read_members(
 fn read_member(
     s: &[u8],
     classes: &[u8; 256],
-    schema: bool,
+    dialect: Dialect,
     nodes: &mut [u32],
     i: usize,
     k: usize,
     left: usize,
 ) -> Read
     requires { ⌜ (now classes ≡ tabulate classOf 0 256) × Ready (now s) i k ⌝ }
-    ensures { λ r. ⌜ ReadsMember (dialect schema) (now (s .entry)) (now (nodes .entry)) (now (nodes .exit)) i k left r ⌝ }
+    ensures { λ r. ⌜ ReadsMember (grammarOf dialect) (now (s .entry)) (now (nodes .entry)) (now (nodes .exit)) i k left r ⌝ }
 {
-    match read_key(s, classes, schema, i) {
+    match read_key(s, classes, dialect, i) {
         KeyRead::Fault(e) => Read::Fault(e),
         KeyRead::Key(a, e, kind, p) => {
-            let v = read_value(s, classes, schema, nodes, p, k + 1, left);
+            let v = read_value(s, classes, dialect, nodes, p, k + 1, left);
             let Read::Past(q, m) = v else {
                 return v;
             };

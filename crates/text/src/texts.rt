@@ -4,6 +4,7 @@ use crate::reader::read_members;
 use crate::reader::read_value;
 use crate::reader::stands;
 use strings::classes::class_table;
+use strings::dialects::Dialect;
 use tokens::blanks::skip_blanks;
 ghost use mathlib.Core.Path.{_≡_};
 ghost use Prim.Native.Nat.{_^_, _<_};
@@ -35,9 +36,9 @@ pub fn read_message(s: &[u8], nodes: &mut [u32]) -> Text
         return Text::TooLong;
     }
     let classes = class_table();
-    match read_value(s, &classes, false, nodes, 0, 0, MESSAGE_LEVELS) {
+    match read_value(s, &classes, Dialect::Message, nodes, 0, 0, MESSAGE_LEVELS) {
         Read::Past(e, n) => {
-            let p = skip_blanks(s, &classes, false, e);
+            let p = skip_blanks(s, &classes, Dialect::Message, e);
             if p < s.len() {
                 return Text::Fault(p);
             }
@@ -56,14 +57,14 @@ fn read_objects(s: &[u8], classes: &[u8; 256], nodes: &mut [u32]) -> Text
     let mut i = 0;
     let mut n = 0;
     loop {
-        let p = skip_blanks(s, classes, true, i);
+        let p = skip_blanks(s, classes, Dialect::Schema, i);
         if s.len() <= p {
             return Text::Whole(n);
         }
         if !stands(s, p, b'{') {
             return Text::Fault(p);
         }
-        match read_members(s, classes, true, nodes, p, n, SCHEMA_LEVELS - 1) {
+        match read_members(s, classes, Dialect::Schema, nodes, p, n, SCHEMA_LEVELS - 1) {
             Read::Past(e, m) => {
                 i = e;
                 n = m;

@@ -2,7 +2,7 @@
 -- The grammar's derivation of the characters is a run of the machine.
 use Prim.Native.Nat.{ℕ, _+_, _<_}
 use mathlib.Core.Path.{_≡_, _∙_}
-use mathlib.Core.Bool.{Bool, true, false}
+use mathlib.Core.Bool.{true}
 use mathlib.Core.List.{List, []}
 use lib.ListN.{length, getD, drop}
 use Rattle.grammar.specs.Tree.{Fields}
@@ -12,13 +12,15 @@ use Rattle.grammar.proofs.TokenRuns.{TokensComplete}
 use Rattle.grammar.proofs.Complete.{skip-solid, chars-run}
 use Rattle.grammar.proofs.SchemaDialect.{schema-tokens-complete}
 use Rattle.grammar.proofs.MessageDialect.{message-tokens-complete}
-use Rattle.strings.specs.Strings.{dialect, Means}
+use Rattle.strings.specs.declared.dialects.Dialect as Dialects
+use Rattle.strings.specs.declared.dialects.Dialect.the-variants.{Schema, Message}
+use Rattle.strings.specs.Strings.{grammarOf, Means}
 use Rattle.tokens.proofs.Scanning.{scan-to}
 
 -- the laws of the dialect that was asked for
-pub dialect-complete : (b : Bool) → TokensComplete (dialect b)
-dialect-complete true = schema-tokens-complete
-dialect-complete false = message-tokens-complete
+pub dialect-complete : (b : Dialects.Dialect) → TokensComplete (grammarOf b)
+dialect-complete Schema = schema-tokens-complete
+dialect-complete Message = message-tokens-complete
 
 module _ {D : Dialect} (L : TokensComplete D) (lim : ℕ) (k : Stack) where
   module _ (s : List ℕ) (i : ℕ) (h : i < length s) (t : D .lexis .quote (getD s i 0) ≡ true) where

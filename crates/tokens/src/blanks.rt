@@ -1,11 +1,12 @@
 // Blanks, and in a schema comments.
 use strings::classes::class_in;
+use strings::dialects::Dialect;
 ghost use mathlib.Core.Path.{_≡_};
 ghost use Rattle.grammar.specs.Lexis.{blank};
 ghost use Rattle.grammar.specs.Machine.Message.{message};
 ghost use Rattle.grammar.specs.Machine.Schema.{schema};
 ghost use Rattle.strings.specs.Classes.{classOf, tabulate};
-ghost use Rattle.strings.specs.Strings.{dialect};
+ghost use Rattle.strings.specs.Strings.{grammarOf};
 ghost use Rattle.tokens.specs.Tokens.{Skipped};
 ghost use Rattle.tokens.specs.TokenParts.{CommentRuns};
 
@@ -69,12 +70,12 @@ fn schema_blanks(s: &[u8], classes: &[u8; 256], from: usize) -> usize
 }
 
 // The first place from `from` on that is neither a blank nor inside a comment.
-pub fn skip_blanks(s: &[u8], classes: &[u8; 256], schema: bool, from: usize) -> usize
+pub fn skip_blanks(s: &[u8], classes: &[u8; 256], dialect: Dialect, from: usize) -> usize
     requires { ⌜ now classes ≡ tabulate classOf 0 256 ⌝ }
-    ensures { λ r. ⌜ Skipped (dialect schema) (now (s .entry)) from r ⌝ }
+    ensures { λ r. ⌜ Skipped (grammarOf dialect) (now (s .entry)) from r ⌝ }
 {
-    if schema {
-        return schema_blanks(s, classes, from);
+    match dialect {
+        Dialect::Schema => schema_blanks(s, classes, from),
+        Dialect::Message => message_blanks(s, classes, from),
     }
-    message_blanks(s, classes, from)
 }

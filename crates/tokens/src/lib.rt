@@ -1,4 +1,4 @@
-// Blanks, numbers, words, keys and what stands between values. `schema` says which dialect.
+// Blanks, numbers, words, keys and what stands between values.
 pub mod blanks;
 pub mod integers;
 pub mod members;

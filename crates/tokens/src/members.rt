@@ -1,11 +1,12 @@
 // What stands between the values of an object or an array: keys with their colon, commas and closing brackets.
 use crate::blanks::skip_blanks;
 use crate::node;
+use strings::dialects::Dialect;
 use strings::strings::StringRead;
 use strings::strings::read_string;
 ghost use mathlib.Core.Path.{_≡_};
 ghost use Rattle.strings.specs.Classes.{classOf, tabulate};
-ghost use Rattle.strings.specs.Strings.{dialect};
+ghost use Rattle.strings.specs.Strings.{grammarOf};
 ghost use Rattle.tokens.specs.Tokens.{ReadsKey, Follows};
 ghost use Rattle.tokens.specs.TokenParts.{ReadsColon};
 
@@ -23,11 +24,17 @@ pub enum Following {
 }
 
 // What stands after a value that ends at `i`, in a container that `close` closes.
-pub fn read_following(s: &[u8], classes: &[u8; 256], schema: bool, i: usize, close: u8) -> Following
+pub fn read_following(
+    s: &[u8],
+    classes: &[u8; 256],
+    dialect: Dialect,
+    i: usize,
+    close: u8,
+) -> Following
     requires { ⌜ now classes ≡ tabulate classOf 0 256 ⌝ }
-    ensures { λ r. ⌜ Follows (dialect schema) (now (s .entry)) i close r ⌝ }
+    ensures { λ r. ⌜ Follows (grammarOf dialect) (now (s .entry)) i close r ⌝ }
 {
-    let e = skip_blanks(s, classes, schema, i);
+    let e = skip_blanks(s, classes, dialect, i);
     if s.len() <= e {
         return Following::Neither(e);
     }
@@ -42,11 +49,11 @@ pub fn read_following(s: &[u8], classes: &[u8; 256], schema: bool, i: usize, clo
 }
 
 // The colon after the key from a to e.
-fn colon(s: &[u8], classes: &[u8; 256], schema: bool, a: usize, e: usize, kind: u32) -> KeyRead
+fn colon(s: &[u8], classes: &[u8; 256], dialect: Dialect, a: usize, e: usize, kind: u32) -> KeyRead
     requires { ⌜ now classes ≡ tabulate classOf 0 256 ⌝ }
-    ensures { λ r. ⌜ ReadsColon (dialect schema) (now (s .entry)) a e kind r ⌝ }
+    ensures { λ r. ⌜ ReadsColon (grammarOf dialect) (now (s .entry)) a e kind r ⌝ }
 {
-    let c = skip_blanks(s, classes, schema, e);
+    let c = skip_blanks(s, classes, dialect, e);
     if s.len() <= c {
         return KeyRead::Fault(c);
     }
@@ -57,30 +64,30 @@ fn colon(s: &[u8], classes: &[u8; 256], schema: bool, a: usize, e: usize, kind: 
 }
 
 // Whether the byte opens a string.
-fn opens_string(b: u8, schema: bool) -> bool
-    ensures { λ r. ⌜ r ≡ dialect schema .lexis .quote b ⌝ }
+fn opens_string(b: u8, dialect: Dialect) -> bool
+    ensures { λ r. ⌜ r ≡ grammarOf dialect .lexis .quote b ⌝ }
 {
-    if schema {
-        return b == b'\'';
+    match dialect {
+        Dialect::Schema => b == b'\'',
+        Dialect::Message => b == b'"',
     }
-    b == b'"'
 }
 
 // The key that stands after blanks at `i`, with its colon.
-pub fn read_key(s: &[u8], classes: &[u8; 256], schema: bool, i: usize) -> KeyRead
+pub fn read_key(s: &[u8], classes: &[u8; 256], dialect: Dialect, i: usize) -> KeyRead
     requires { ⌜ now classes ≡ tabulate classOf 0 256 ⌝ }
-    ensures { λ r. ⌜ ReadsKey (dialect schema) (now (s .entry)) i r ⌝ }
+    ensures { λ r. ⌜ ReadsKey (grammarOf dialect) (now (s .entry)) i r ⌝ }
 {
-    let a = skip_blanks(s, classes, schema, i);
+    let a = skip_blanks(s, classes, dialect, i);
     if s.len() <= a {
         return KeyRead::Fault(a);
     }
-    if !opens_string(s[a], schema) {
+    if !opens_string(s[a], dialect) {
         return KeyRead::Fault(a);
     }
-    match read_string(s, classes, schema, a) {
-        StringRead::Plain(e) => colon(s, classes, schema, a, e, node::PLAIN_KEY),
-        StringRead::Coded(e) => colon(s, classes, schema, a, e, node::OTHER_KEY),
+    match read_string(s, classes, dialect, a) {
+        StringRead::Plain(e) => colon(s, classes, dialect, a, e, node::PLAIN_KEY),
+        StringRead::Coded(e) => colon(s, classes, dialect, a, e, node::OTHER_KEY),
         StringRead::Fault(e) => KeyRead::Fault(e),
     }
 }

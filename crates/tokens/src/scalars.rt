@@ -4,6 +4,7 @@ use crate::numbers::NumberRead;
 use crate::numbers::TokenRead;
 use crate::numbers::read_number;
 use crate::numbers::read_word;
+use strings::dialects::Dialect;
 use strings::strings::StringRead;
 use strings::strings::read_string;
 ghost use mathlib.Core.Path.{_≡_};
@@ -12,7 +13,7 @@ ghost use lib.ListN.{length};
 ghost use Rattle.grammar.specs.Machine.Message.{message};
 ghost use Rattle.grammar.specs.Machine.Schema.{schema};
 ghost use Rattle.strings.specs.Classes.{classOf, tabulate};
-ghost use Rattle.strings.specs.Strings.{dialect};
+ghost use Rattle.strings.specs.Strings.{grammarOf};
 ghost use Rattle.tokens.specs.Tokens.{Unbracketed, ReadsScalar};
 ghost use Rattle.tokens.specs.TokenParts.{stringNode, numberNode, wordNode};
 
@@ -57,7 +58,7 @@ fn message_scalar(s: &[u8], classes: &[u8; 256], i: usize) -> ScalarRead
 {
     let b = s[i];
     match b {
-        b'"' => string_node(read_string(s, classes, false, i)),
+        b'"' => string_node(read_string(s, classes, Dialect::Message, i)),
         b'-' | b'0'..=b'9' => number_node(read_number(s, classes, i)),
         b't' => word_node(read_word(s, i + 1, b"rue"), node::TRUE),
         b'f' => word_node(read_word(s, i + 1, b"alse"), node::FALSE),
@@ -72,7 +73,7 @@ fn schema_scalar(s: &[u8], classes: &[u8; 256], i: usize) -> ScalarRead
 {
     let b = s[i];
     match b {
-        b'\'' => string_node(read_string(s, classes, true, i)),
+        b'\'' => string_node(read_string(s, classes, Dialect::Schema, i)),
         b't' => word_node(read_word(s, i + 1, b"rue"), node::TRUE),
         b'f' => word_node(read_word(s, i + 1, b"alse"), node::FALSE),
         _ => ScalarRead::Fault(i),
@@ -80,15 +81,15 @@ fn schema_scalar(s: &[u8], classes: &[u8; 256], i: usize) -> ScalarRead
 }
 
 // The value without brackets at `i`, where no blank, comment or opening bracket stands.
-pub fn read_scalar(s: &[u8], classes: &[u8; 256], schema: bool, i: usize) -> ScalarRead
-    requires { ⌜ (now classes ≡ tabulate classOf 0 256) × Unbracketed (dialect schema) (now s) i ⌝ }
-    ensures { λ r. ⌜ ReadsScalar (dialect schema) (now (s .entry)) i r ⌝ }
+pub fn read_scalar(s: &[u8], classes: &[u8; 256], dialect: Dialect, i: usize) -> ScalarRead
+    requires { ⌜ (now classes ≡ tabulate classOf 0 256) × Unbracketed (grammarOf dialect) (now s) i ⌝ }
+    ensures { λ r. ⌜ ReadsScalar (grammarOf dialect) (now (s .entry)) i r ⌝ }
 {
     if s.len() <= i {
         return ScalarRead::Fault(i);
     }
-    if schema {
-        return schema_scalar(s, classes, i);
+    match dialect {
+        Dialect::Schema => schema_scalar(s, classes, i),
+        Dialect::Message => message_scalar(s, classes, i),
     }
-    message_scalar(s, classes, i)
 }

@@ -25,8 +25,8 @@ star-requires c κs = search needs
 put-named-row-requires : tie.Need-put-named-row-requires
 put-named-row-requires c κs = search needs
 
-add-t10 : tie.Need-add-t10
-add-t10 c = search needs
+add-t11 : tie.Need-add-t11
+add-t11 c = search needs
 
 same-length : tie.Need-same-length
 same-length c = search needs
@@ -50,6 +50,6 @@ put-member-spec =
     returns
     star-requires
     put-named-row-requires
-    add-t10
+    add-t11
     same-length
     returns-2)

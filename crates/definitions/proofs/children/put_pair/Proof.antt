@@ -21,8 +21,8 @@ name-word-requires c κs = search needs
 put-named-row-requires : tie.Need-put-named-row-requires
 put-named-row-requires c κs = search needs
 
-add-t13 : tie.Need-add-t13
-add-t13 c = search needs
+add-t14 : tie.Need-add-t14
+add-t14 c = search needs
 
 same-length : tie.Need-same-length
 same-length c = search needs
@@ -44,6 +44,6 @@ put-pair-spec =
     returns
     name-word-requires
     put-named-row-requires
-    add-t13
+    add-t14
     same-length
     returns-2)

@@ -14,8 +14,8 @@ returns c = λ s. value-refused (c .before .is-string .ensures) (not-true _ (c .
 put-named-row-requires : tie.Need-put-named-row-requires
 put-named-row-requires c κs = search needs
 
-add-t10 : tie.Need-add-t10
-add-t10 c = search needs
+add-t11 : tie.Need-add-t11
+add-t11 c = search needs
 
 same-length : tie.Need-same-length
 same-length c = search needs
@@ -30,4 +30,4 @@ returns-2 c =
 pub put-value-spec : {M : Type 1} → statement M
 put-value-spec =
     tie.close
-    (tie.spec is-string-requires returns put-named-row-requires add-t10 same-length returns-2)
+    (tie.spec is-string-requires returns put-named-row-requires add-t11 same-length returns-2)

@@ -2,7 +2,7 @@
 use mathlib.Core.Path.{_∙_, ap}
 use borrow.Author.Needs.{needs}
 use Rattle.lookups.specs.Lookups.{plainKind}
-use Rattle.strings.specs.Strings.{dialect}
+use Rattle.strings.specs.Strings.{grammarOf}
 use Rattle.lookups.proofs.NodeLaws.{node-means}
 use Rattle.lookups.proofs.values.node_means.Statement.{statement}
 use Rattle.lookups.proofs.values.node_means.Tie as tie
@@ -23,7 +23,7 @@ means-requires : tie.Need-means-requires
 means-requires c κs = search needs
 
 returns : tie.Need-returns
-returns c = node-means (dialect (c .before .before .before .before .before .before .before .before .args .schema)) (c .before .before .before .before .before .before .before .before .args .s .now) (c .before .before .before .before .before .before .before .before .args .nodes .now) (search needs) (search needs) (c .before .plain-kind .ensures ∙ ap plainKind (c .before .before .node-word .ensures)) (c .means .ensures)
+returns c = node-means (grammarOf (c .before .before .before .before .before .before .before .before .args .dialect)) (c .before .before .before .before .before .before .before .before .args .s .now) (c .before .before .before .before .before .before .before .before .args .nodes .now) (search needs) (search needs) (c .before .plain-kind .ensures ∙ ap plainKind (c .before .before .node-word .ensures)) (c .means .ensures)
 
 pub node-means-spec : {M : Type 1} → statement M
 node-means-spec =

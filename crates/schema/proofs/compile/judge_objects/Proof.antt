@@ -24,25 +24,25 @@ enum-known-n : tie.Need-enum-known-n
 enum-known-n c = search needs
 
 mul-end : tie.Need-mul-end
-mul-end c = let h = put-few (c .before .before .before .before .before .before .before .before .before .before .before .pre .0) (c .before .before .before .before .put-definitions .ensures) (c .before .n .given .1) in search needs
+mul-end c = let h = put-few (c .before .before .before .before .before .before .before .before .before .before .before .pre .0) (c .before .before .before .before .before .before .before .keys-once .ensures) (not-false _ (c .before .before .before .before .before .before .if1 .left)) (c .before .before .before .before .put-definitions .ensures) (c .before .n .given .1) in search needs
 
 array-borrow-prefix-table : tie.Need-array-borrow-prefix-table
-array-borrow-prefix-table c = let h = put-few (c .before .before .before .before .before .before .before .before .before .before .before .pre .0) (c .before .before .before .before .put-definitions .ensures) (c .before .n .given .1) in search needs
+array-borrow-prefix-table c = let h = put-few (c .before .before .before .before .before .before .before .before .before .before .before .pre .0) (c .before .before .before .before .before .before .before .keys-once .ensures) (not-false _ (c .before .before .before .before .before .before .if1 .left)) (c .before .before .before .before .put-definitions .ensures) (c .before .n .given .1) in search needs
 
 slice-aggregate-judge-table : tie.Need-slice-aggregate-judge-table
-slice-aggregate-judge-table c = raw-length (c .before .before .before .before .before .before .before .before .before .before .before .before .pre .0) (c .before .before .before .before .before .put-definitions .ensures) (c .before .before .n .given .1) (search needs)
+slice-aggregate-judge-table c = raw-length (c .before .before .before .before .before .before .before .before .before .before .before .before .pre .0) (c .before .before .before .before .before .before .before .before .keys-once .ensures) (not-false _ (c .before .before .before .before .before .before .before .if1 .left)) (c .before .before .before .before .before .put-definitions .ensures) (c .before .before .n .given .1) (search needs)
 
 judge-table-requires : tie.Need-judge-table-requires
-judge-table-requires c κs = (raw-rows (c .before .before .before .before .before .before .before .before .before .before .before .before .before .pre .0) (c .before .before .before .before .before .before .put-definitions .ensures) (c .before .before .before .n .given .1) (search needs), c .before .before .before .before .before .before .before .before .before .before .before .before .before .pre .1)
+judge-table-requires c κs = (raw-rows (c .before .before .before .before .before .before .before .before .before .before .before .before .before .pre .0) (c .before .before .before .before .before .before .before .before .before .keys-once .ensures) (not-false _ (c .before .before .before .before .before .before .before .before .if1 .left)) (c .before .before .before .before .before .before .put-definitions .ensures) (c .before .before .before .n .given .1) (search needs), c .before .before .before .before .before .before .before .before .before .before .before .before .before .pre .1)
 
 returns-2 : tie.Need-returns-2
-returns-2 c = keys-on (c .before .before .before .before .before .before .before .before .before .before .pre .0) (c .before .before .before .before .before .before .keys-once .ensures) (not-false _ (c .before .before .before .before .before .if1 .left)) (no-definitions (c .before .before .before .before .before .before .before .before .before .before .pre .0) (c .before .before .before .before .before .before .before .before .before .before .pre .1) (put-refused (c .before .before .before .before .before .before .before .before .before .before .pre .0) (c .before .before .before .put-definitions .ensures) (c .enum-told .given .1)))
+returns-2 c = keys-on (c .before .before .before .before .before .before .before .before .before .before .pre .0) (c .before .before .before .before .before .before .keys-once .ensures) (not-false _ (c .before .before .before .before .before .if1 .left)) (no-definitions (c .before .before .before .before .before .before .before .before .before .before .pre .0) (c .before .before .before .before .before .before .before .before .before .before .pre .1) (put-refused (c .before .before .before .before .before .before .before .before .before .before .pre .0) (c .before .before .before .before .before .before .keys-once .ensures) (not-false _ (c .before .before .before .before .before .if1 .left)) (c .before .before .before .put-definitions .ensures) (c .enum-told .given .1)))
 
 same-length : tie.Need-same-length
 same-length c = search needs
 
 returns-3 : tie.Need-returns-3
-returns-3 c = keys-on (c .before .before .before .before .before .before .before .before .before .before .before .before .before .before .before .before .before .pre .0) (c .before .before .before .before .before .before .before .before .before .before .before .before .before .keys-once .ensures) (not-false _ (c .before .before .before .before .before .before .before .before .before .before .before .before .if1 .left)) (definitions-on (c .before .before .before .before .before .before .before .before .before .before .before .before .before .before .before .before .before .pre .0) (put-rows (c .before .before .before .before .before .before .before .before .before .before .before .before .before .before .before .before .before .pre .0) (c .before .before .before .before .before .before .before .before .before .before .put-definitions .ensures) (c .before .before .before .before .before .before .before .n .given .1) .are) (c .before .before .before .judge-table .ensures))
+returns-3 c = keys-on (c .before .before .before .before .before .before .before .before .before .before .before .before .before .before .before .before .before .pre .0) (c .before .before .before .before .before .before .before .before .before .before .before .before .before .keys-once .ensures) (not-false _ (c .before .before .before .before .before .before .before .before .before .before .before .before .if1 .left)) (definitions-on (c .before .before .before .before .before .before .before .before .before .before .before .before .before .before .before .before .before .pre .0) (put-rows (c .before .before .before .before .before .before .before .before .before .before .before .before .before .before .before .before .before .pre .0) (c .before .before .before .before .before .before .before .before .before .before .before .before .before .keys-once .ensures) (not-false _ (c .before .before .before .before .before .before .before .before .before .before .before .before .if1 .left)) (c .before .before .before .before .before .before .before .before .before .before .put-definitions .ensures) (c .before .before .before .before .before .before .before .n .given .1) .are) (c .before .before .before .judge-table .ensures))
 
 pub judge-objects-spec : {M : Type 1} → statement M
 judge-objects-spec =

@@ -4,14 +4,14 @@ use Prim.Native.Nat.{_-_}
 use native.Mathlib.Omega.{arith}
 use lib.ListN.{length}
 use borrow.Author.Needs.{needs}
-use Rattle.strings.specs.Strings.{dialect}
+use Rattle.strings.specs.Strings.{grammarOf}
 use Rattle.strings.proofs.StringReads.{moves}
 use Rattle.strings.proofs.MarkLaws.{MarkedCodes, codes-start, codes-outside, codes-end, codes-more, codes-past}
 use Rattle.strings.proofs.marks.codes_mark.Statement.{statement}
 use Rattle.strings.proofs.marks.codes_mark.Tie as tie
 
 abbrev Inv-loop : tie.InvT-loop
-Inv-loop s schema a mark₀ i₀ mark i = MarkedCodes (dialect schema) s a mark i
+Inv-loop s dialect a mark₀ i₀ mark i = MarkedCodes (grammarOf dialect) s a mark i
 
 abbrev μ-loop : tie.MeasureT-loop
 μ-loop s schema a mark₀ i₀ mark i = length s - i
@@ -32,7 +32,7 @@ enum-known--e : tie.Need-enum-known--e Inv-loop μ-loop
 enum-known--e c = search needs
 
 returns-2 : tie.Need-returns-2 Inv-loop μ-loop
-returns-2 c = codes-end (c .before .before .before .before .before .before .before .before .args .schema) (c .before .before .before .before .before .loop .inv) (c .before .before .before .next-char .ensures) (c .before .-e .given .1)
+returns-2 c = codes-end (c .before .before .before .before .before .before .before .before .args .dialect) (c .before .before .before .before .before .loop .inv) (c .before .before .before .next-char .ensures) (c .before .-e .given .1)
 
 enum-known-c : tie.Need-enum-known-c Inv-loop μ-loop
 enum-known-c c = search needs
@@ -41,13 +41,13 @@ mix-requires : tie.Need-mix-requires Inv-loop μ-loop
 mix-requires c κs = search needs
 
 loop-less : tie.Need-loop-less Inv-loop μ-loop
-loop-less c = omega (arith, moves (c .before .before .before .before .before .before .before .before .before .args .schema) _ _ (c .before .before .before .before .next-char .ensures) (c .before .before .c .given .1), c .before .before .before .before .before .loop-test .taken)
+loop-less c = omega (arith, moves (c .before .before .before .before .before .before .before .before .before .args .dialect) _ _ (c .before .before .before .before .next-char .ensures) (c .before .before .c .given .1), c .before .before .before .before .before .loop-test .taken)
 
 loop-again : tie.Need-loop-again Inv-loop μ-loop
-loop-again c = codes-more (c .before .before .before .before .before .before .before .before .before .args .schema) (c .before .before .before .before .before .before .loop .inv) (c .before .before .before .before .next-char .ensures) (c .before .before .c .given .1) (c .mix .ensures)
+loop-again c = codes-more (c .before .before .before .before .before .before .before .before .before .args .dialect) (c .before .before .before .before .before .before .loop .inv) (c .before .before .before .before .next-char .ensures) (c .before .before .c .given .1) (c .mix .ensures)
 
 returns-3 : tie.Need-returns-3 Inv-loop μ-loop
-returns-3 c = codes-past (c .before .before .before .before .args .schema) (c .before .loop .inv) (c .loop-test .left)
+returns-3 c = codes-past (c .before .before .before .before .args .dialect) (c .before .loop .inv) (c .loop-test .left)
 
 pub codes-mark-spec : {M : Type 1} → statement M
 codes-mark-spec =

@@ -9,7 +9,7 @@ bytes-mark-requires : tie.Need-bytes-mark-requires
 bytes-mark-requires c κs = search needs
 
 returns : tie.Need-returns
-returns c = mark-plain (c .before .before .before .args .schema) (c .before .if1 .taken) (c .bytes-mark .ensures)
+returns c = mark-plain (c .before .before .before .args .dialect) (c .before .if1 .taken) (c .bytes-mark .ensures)
 
 codes-mark-requires : tie.Need-codes-mark-requires
 codes-mark-requires c κs = search needs

@@ -5,14 +5,14 @@ use native.Mathlib.Omega.{arith}
 use borrow.Author.Needs.{needs}
 use lib.ListN.{length}
 use mathlib.Core.Path.{sym, _∙_}
-use Rattle.strings.specs.Strings.{dialect}
+use Rattle.strings.specs.Strings.{grammarOf}
 use Rattle.strings.proofs.StringReads.{moves}
 use Rattle.strings.proofs.Codes.{Matching, matching-starts, outside-name, name-ended, name-short, name-differs, matching-more, name-past}
 use Rattle.strings.proofs.meanings.codes_mean.Statement.{statement}
 use Rattle.strings.proofs.meanings.codes_mean.Tie as tie
 
 abbrev Inv-loop : tie.InvT-loop
-Inv-loop s schema a name i₀ j₀ i j = Matching (dialect schema) s a name i j
+Inv-loop s dialect a name i₀ j₀ i j = Matching (grammarOf dialect) s a name i j
 
 abbrev μ-loop : tie.MeasureT-loop
 μ-loop s schema a name i₀ j₀ i j = length s - i
@@ -36,7 +36,7 @@ returns-2 : tie.Need-returns-2 Inv-loop μ-loop
 returns-2 c =
     let p = c .before .before .before .before .before in
     let q = p .before .before .before .before in
-    name-ended (q .args .schema) (p .loop .inv) (c .before .before .before .next-char .ensures) (c .before .-e .given .1)
+    name-ended (q .args .dialect) (p .loop .inv) (c .before .before .before .next-char .ensures) (c .before .-e .given .1)
 
 enum-known-c : tie.Need-enum-known-c Inv-loop μ-loop
 enum-known-c c = search needs
@@ -45,7 +45,7 @@ returns-3 : tie.Need-returns-3 Inv-loop μ-loop
 returns-3 c =
     let p = c .before .before .before .before .before .before in
     let q = p .before .before .before .before in
-    name-short (q .args .schema) (p .loop .inv) (c .before .before .before .before .next-char .ensures) (c .before .before .c .given .1) (c .if2 .taken)
+    name-short (q .args .dialect) (p .loop .inv) (c .before .before .before .before .next-char .ensures) (c .before .before .c .given .1) (c .if2 .taken)
 
 shared-slice-read-wide : tie.Need-shared-slice-read-wide Inv-loop μ-loop
 shared-slice-read-wide c = search needs
@@ -58,7 +58,7 @@ returns-4 c =
     let p = c .before .before .before .before .before in
     let q = p .before .before .before .before in
     let r = q .before .before .before .before in
-    name-differs (r .args .schema) (q .loop .inv) (p .before .before .next-char .ensures) (p .c .given .1) (c .before .before .before .if2 .left)
+    name-differs (r .args .dialect) (q .loop .inv) (p .before .before .next-char .ensures) (p .c .given .1) (c .before .before .before .if2 .left)
     (λ q. c .if3 .taken (q ∙ sym (c .before .wide .ensures)))
 
 add-j : tie.Need-add-j Inv-loop μ-loop
@@ -69,18 +69,18 @@ loop-less c =
     let p = c .before .before .before .before .before in
     let q = p .before .before .before in
     let r = q .before .before .before .before .before in
-    omega (arith, moves (r .args .schema) _ _ (p .before .before .next-char .ensures) (p .c .given .1), q .loop-test .taken)
+    omega (arith, moves (r .args .dialect) _ _ (p .before .before .next-char .ensures) (p .c .given .1), q .loop-test .taken)
 
 loop-again : tie.Need-loop-again Inv-loop μ-loop
 loop-again c =
     let p = c .before .before .before .before .before in
     let q = p .before .before .before .before in
     let r = q .before .before .before .before in
-    matching-more (r .args .schema) (q .loop .inv) (p .before .before .next-char .ensures) (p .c .given .1) (c .before .before .before .if2 .left)
+    matching-more (r .args .dialect) (q .loop .inv) (p .before .before .next-char .ensures) (p .c .given .1) (c .before .before .before .if2 .left)
     (c .if3 .left ∙ c .before .wide .ensures)
 
 returns-5 : tie.Need-returns-5 Inv-loop μ-loop
-returns-5 c = name-past (c .before .before .before .before .before .args .schema) (c .before .loop .inv) (c .loop-test .left)
+returns-5 c = name-past (c .before .before .before .before .before .args .dialect) (c .before .loop .inv) (c .loop-test .left)
 
 pub codes-mean-spec : {M : Type 1} → statement M
 codes-mean-spec =

@@ -4,14 +4,14 @@ use Prim.Native.Nat.{_-_}
 use native.Mathlib.Omega.{arith}
 use borrow.Author.Needs.{needs}
 use lib.ListN.{length}
-use Rattle.strings.specs.Strings.{dialect}
+use Rattle.strings.specs.Strings.{grammarOf}
 use Rattle.strings.proofs.StringReads.{moves}
 use Rattle.strings.proofs.Codes.{Pairing, pairing-starts, first-outside, second-outside, pair-past, both-ended, first-ended, second-ended, pair-differs, pairing-more}
 use Rattle.strings.proofs.meanings.codes_same.Statement.{statement}
 use Rattle.strings.proofs.meanings.codes_same.Tie as tie
 
 abbrev Inv-loop : tie.InvT-loop
-Inv-loop s schema a b i₀ j₀ i j = Pairing (dialect schema) s a b i j
+Inv-loop s dialect a b i₀ j₀ i j = Pairing (grammarOf dialect) s a b i j
 
 abbrev μ-loop : tie.MeasureT-loop
 μ-loop s schema a b i₀ j₀ i j = length s - i
@@ -48,7 +48,7 @@ returns-3 c =
     let p = c .before .before .before .before in
     let q = p .before .before .before in
     let r = q .before .before .before .before .before .before in
-    both-ended (r .args .schema) (q .before .before .loop .inv) (q .next-char .ensures) (p .before .before .next-char2 .ensures) (p .x .given .1) (c .before .y .given .1)
+    both-ended (r .args .dialect) (q .before .before .loop .inv) (q .next-char .ensures) (p .before .before .next-char2 .ensures) (p .x .given .1) (c .before .y .given .1)
 
 enum-known-y-2 : tie.Need-enum-known-y-2 Inv-loop μ-loop
 enum-known-y-2 c = search needs
@@ -58,7 +58,7 @@ returns-4 c =
     let p = c .before .before .before .before in
     let q = p .before .before .before in
     let r = q .before .before .before .before .before .before in
-    first-ended (r .args .schema) (q .before .before .loop .inv) (q .next-char .ensures) (p .before .before .next-char2 .ensures) (p .x .given .1) (c .before .y2 .given .1)
+    first-ended (r .args .dialect) (q .before .before .loop .inv) (q .next-char .ensures) (p .before .before .next-char2 .ensures) (p .x .given .1) (c .before .y2 .given .1)
 
 enum-known-x-2 : tie.Need-enum-known-x-2 Inv-loop μ-loop
 enum-known-x-2 c = search needs
@@ -71,7 +71,7 @@ returns-5 c =
     let p = c .before .before .before .before in
     let q = p .before .before .before in
     let r = q .before .before .before .before .before .before in
-    second-ended (r .args .schema) (q .before .before .loop .inv) (q .next-char .ensures) (p .before .before .next-char2 .ensures) (p .x2 .given .1) (c .before .y3 .given .1)
+    second-ended (r .args .dialect) (q .before .before .loop .inv) (q .next-char .ensures) (p .before .before .next-char2 .ensures) (p .x2 .given .1) (c .before .y3 .given .1)
 
 enum-known-y-4 : tie.Need-enum-known-y-4 Inv-loop μ-loop
 enum-known-y-4 c = search needs
@@ -81,7 +81,7 @@ returns-6 c =
     let p = c .before .before .before .before .before in
     let q = p .before .before .before in
     let r = q .before .before .before .before .before .before in
-    pair-differs (r .args .schema) (q .before .before .loop .inv) (q .next-char .ensures) (p .before .before .next-char2 .ensures) (p .x2 .given .1)
+    pair-differs (r .args .dialect) (q .before .before .loop .inv) (q .next-char .ensures) (p .before .before .next-char2 .ensures) (p .x2 .given .1)
     (c .before .before .y4 .given .1) (c .if3 .taken)
 
 loop-less : tie.Need-loop-less Inv-loop μ-loop
@@ -89,18 +89,18 @@ loop-less c =
     let p = c .before .before .before .before .before in
     let q = p .before .before .before in
     let r = q .before .before .before .before .before .before in
-    omega (arith, moves (r .args .schema) _ _ (q .next-char .ensures) (p .x2 .given .1), q .before .loop-test .taken)
+    omega (arith, moves (r .args .dialect) _ _ (q .next-char .ensures) (p .x2 .given .1), q .before .loop-test .taken)
 
 loop-again : tie.Need-loop-again Inv-loop μ-loop
 loop-again c =
     let p = c .before .before .before .before .before in
     let q = p .before .before .before in
     let r = q .before .before .before .before .before .before in
-    pairing-more (r .args .schema) (q .before .before .loop .inv) (q .next-char .ensures) (p .before .before .next-char2 .ensures) (p .x2 .given .1)
+    pairing-more (r .args .dialect) (q .before .before .loop .inv) (q .next-char .ensures) (p .before .before .next-char2 .ensures) (p .x2 .given .1)
     (c .before .before .y4 .given .1) (c .if3 .left)
 
 returns-7 : tie.Need-returns-7 Inv-loop μ-loop
-returns-7 c = pair-past (c .before .before .before .before .before .args .schema) (c .before .loop .inv) (c .loop-test .left)
+returns-7 c = pair-past (c .before .before .before .before .before .args .dialect) (c .before .loop .inv) (c .loop-test .left)
 
 pub codes-same-spec : {M : Type 1} → statement M
 codes-same-spec =

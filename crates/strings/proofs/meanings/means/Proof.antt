@@ -9,7 +9,7 @@ bytes-mean-requires : tie.Need-bytes-mean-requires
 bytes-mean-requires c κs = search needs
 
 returns : tie.Need-returns
-returns c = name-plain (c .before .before .before .before .args .schema) (c .before .if1 .taken) (c .bytes-mean .ensures)
+returns c = name-plain (c .before .before .before .before .args .dialect) (c .before .if1 .taken) (c .bytes-mean .ensures)
 
 codes-mean-requires : tie.Need-codes-mean-requires
 codes-mean-requires c κs = search needs

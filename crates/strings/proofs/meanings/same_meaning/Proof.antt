@@ -11,7 +11,7 @@ bytes-same-requires c κs = search needs
 returns : tie.Need-returns
 returns c =
     let p = c .before .before .before .before in
-    strings-plain (p .args .schema) (c .before .before .if1 .taken) (c .before .if2 .taken) (c .bytes-same .ensures)
+    strings-plain (p .args .dialect) (c .before .before .if1 .taken) (c .before .if2 .taken) (c .bytes-same .ensures)
 
 codes-same-requires : tie.Need-codes-same-requires
 codes-same-requires c κs = search needs

@@ -5,8 +5,8 @@ use native.Mathlib.Omega.{arith}
 use borrow.Author.Needs.{needs}
 use lib.ListN.{length}
 use mathlib.Core.Logic.{⊎-elim}
+use Rattle.strings.specs.declared.dialects.Dialect.the-variants.{Message}
 use Rattle.strings.proofs.StringReads.{moves, CodedTo, plain-string, coded-starts, coded-more, coded-string, coded-fault, coded-ends}
-use mathlib.Core.Bool.{false}
 use Rattle.strings.proofs.strings.message_string.Statement.{statement}
 use Rattle.strings.proofs.strings.message_string.Tie as tie
 
@@ -68,7 +68,7 @@ loop-less : tie.Need-loop-less Inv-loop μ-loop
 loop-less c =
     let p = c .before .before .before .before .before .before .before in
     omega
-    (arith, moves false _ _ (c .before .before .before .before .message-char .ensures) (c .before .before .-c .given .1), c .plain-end2 .ensures .on, p .loop-test .taken)
+    (arith, moves Message _ _ (c .before .before .before .before .message-char .ensures) (c .before .before .-c .given .1), c .plain-end2 .ensures .on, p .loop-test .taken)
 
 loop-again : tie.Need-loop-again Inv-loop μ-loop
 loop-again c =

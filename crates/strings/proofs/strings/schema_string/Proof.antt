@@ -4,7 +4,7 @@ use Prim.Native.Nat.{_-_}
 use native.Mathlib.Omega.{arith}
 use borrow.Author.Needs.{needs}
 use lib.ListN.{length}
-use mathlib.Core.Bool.{true}
+use Rattle.strings.specs.declared.dialects.Dialect.the-variants.{Schema}
 use Rattle.strings.proofs.StringReads.{moves, SchemaTo, schema-starts, schema-plain, schema-coded, schema-plain-string, schema-coded-string, schema-fault, schema-ends}
 use Rattle.strings.proofs.strings.schema_string.Statement.{statement}
 use Rattle.strings.proofs.strings.schema_string.Tie as tie
@@ -58,7 +58,7 @@ enum-known-c c = search needs
 loop-less : tie.Need-loop-less Inv-loop μ-loop
 loop-less c =
     let p = c .before .before .before .before .before .before .before in
-    omega (arith, moves true _ _ (c .before .before .before .before .schema-char .ensures) (c .before .before .c .given .1), p .loop-test .taken)
+    omega (arith, moves Schema _ _ (c .before .before .before .before .schema-char .ensures) (c .before .before .c .given .1), p .loop-test .taken)
 
 loop-again : tie.Need-loop-again Inv-loop μ-loop
 loop-again c =
@@ -68,7 +68,7 @@ loop-again c =
 loop-less-2 : tie.Need-loop-less-2 Inv-loop μ-loop
 loop-less-2 c =
     let p = c .before .before .before .before .before .before .before in
-    omega (arith, moves true _ _ (c .before .before .before .before .schema-char .ensures) (c .before .before .c .given .1), p .loop-test .taken)
+    omega (arith, moves Schema _ _ (c .before .before .before .before .schema-char .ensures) (c .before .before .c .given .1), p .loop-test .taken)
 
 loop-again-2 : tie.Need-loop-again-2 Inv-loop μ-loop
 loop-again-2 c =

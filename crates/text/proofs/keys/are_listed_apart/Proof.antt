@@ -6,16 +6,16 @@ use mathlib.Core.Path.{_≡_, refl, ap, _∙_}
 use lib.ListN.{length, length-set}
 use borrow.Author.Tests.{not-true, not-false}
 use borrow.Author.Needs.{needs}
-use Rattle.strings.specs.Strings.{dialect}
+use Rattle.strings.specs.Strings.{grammarOf}
 use Rattle.text.proofs.KeyIndex.{Listing, listing-start, listing-hit, listing-on, listing-stuck, listing-end}
 use Rattle.text.proofs.keys.are_listed_apart.Statement.{statement}
 use Rattle.text.proofs.keys.are_listed_apart.Tie as tie
 
 abbrev Inv-loop : tie.InvT-loop
-Inv-loop s schema nodes b end heads₀ links₀ i₀ heads links i = (length links ≡ length links₀) × Listing (dialect schema) s nodes b end heads links i
+Inv-loop s dialect nodes b end heads₀ links₀ i₀ heads links i = (length links ≡ length links₀) × Listing (grammarOf dialect) s nodes b end heads links i
 
 abbrev μ-loop : tie.MeasureT-loop
-μ-loop s schema nodes b end heads₀ links₀ i₀ heads links i = end - i
+μ-loop s dialect nodes b end heads₀ links₀ i₀ heads links i = end - i
 
 loop-holds : tie.Need-loop-holds Inv-loop μ-loop
 loop-holds c = (refl, listing-start (c .before .before .before .pre .2))

@@ -1,16 +1,16 @@
 -- `keys::is_unlisted` meets its contract: the keys left of the chain decide what all do.
 -- The measure is the count that falls.
 use borrow.Author.Needs.{needs}
-use Rattle.strings.specs.Strings.{dialect}
+use Rattle.strings.specs.Strings.{grammarOf}
 use Rattle.text.proofs.KeyChains.{Walked, walk-start, walk-hit, walk-on, walk-end, walk-out}
 use Rattle.text.proofs.keys.is_unlisted.Statement.{statement}
 use Rattle.text.proofs.keys.is_unlisted.Tie as tie
 
 abbrev Inv-loop : tie.InvT-loop
-Inv-loop s schema nodes a links head most word₀ left₀ word left = Walked (dialect schema) s nodes a links head most word left
+Inv-loop s dialect nodes a links head most word₀ left₀ word left = Walked (grammarOf dialect) s nodes a links head most word left
 
 abbrev μ-loop : tie.MeasureT-loop
-μ-loop s schema nodes a links head most word₀ left₀ word left = left
+μ-loop s dialect nodes a links head most word₀ left₀ word left = left
 
 loop-holds : tie.Need-loop-holds Inv-loop μ-loop
 loop-holds c = walk-start

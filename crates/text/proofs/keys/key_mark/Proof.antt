@@ -1,6 +1,6 @@
 -- `keys::key_mark` meets its contract: the words of the node say where the key stands and whether it is plain.
 use borrow.Author.Needs.{needs}
-use Rattle.strings.specs.Strings.{dialect}
+use Rattle.strings.specs.Strings.{grammarOf}
 use Rattle.text.proofs.KeyChains.{marked-key}
 use Rattle.text.proofs.keys.key_mark.Statement.{statement}
 use Rattle.text.proofs.keys.key_mark.Tie as tie
@@ -18,7 +18,7 @@ mark-of-requires : tie.Need-mark-of-requires
 mark-of-requires c κs = search needs
 
 returns : tie.Need-returns
-returns c = let a = c .before .before .before .before .before .before .args in marked-key (dialect (a .schema)) (a .s .now) (a .nodes .now) (a .a) (c .before .before .before .node-number .ensures) (c .before .before .node-number2 .ensures) (c .before .node-word .ensures) (c .mark-of .ensures)
+returns c = let a = c .before .before .before .before .before .before .args in marked-key (grammarOf (a .dialect)) (a .s .now) (a .nodes .now) (a .a) (c .before .before .before .node-number .ensures) (c .before .before .node-number2 .ensures) (c .before .node-word .ensures) (c .mark-of .ensures)
 
 pub key-mark-spec : {M : Type 1} → statement M
 key-mark-spec =

@@ -7,17 +7,17 @@ use mathlib.Core.Logic.{⊎-elim}
 use lib.ListN.{length}
 use borrow.Author.Tests.{not-true, not-false}
 use borrow.Author.Needs.{needs}
-use Rattle.strings.specs.Strings.{dialect}
+use Rattle.strings.specs.Strings.{grammarOf}
 use Rattle.text.proofs.KeyLaws.{Clean}
 use Rattle.text.proofs.KeyLoops.{once-hit, once-on, once-past, once-end}
 use Rattle.text.proofs.keys.objects_once.Statement.{statement}
 use Rattle.text.proofs.keys.objects_once.Tie as tie
 
 abbrev Inv-loop : tie.InvT-loop
-Inv-loop s schema nodes count links₀ k₀ links k = (length links ≡ length links₀) × Clean (dialect schema) s nodes 0 k
+Inv-loop s dialect nodes count links₀ k₀ links k = (length links ≡ length links₀) × Clean (grammarOf dialect) s nodes 0 k
 
 abbrev μ-loop : tie.MeasureT-loop
-μ-loop s schema nodes count links₀ k₀ links k = count - k
+μ-loop s dialect nodes count links₀ k₀ links k = count - k
 
 loop-holds : tie.Need-loop-holds Inv-loop μ-loop
 loop-holds c = (refl, λ i x y. absurd (omega arith))
@@ -38,7 +38,7 @@ same-length : tie.Need-same-length Inv-loop μ-loop
 same-length c = search needs
 
 returns : tie.Need-returns Inv-loop μ-loop
-returns c = let a = c .before .before .before .before .before .before .before .before .before .before .before .before .before .args in once-hit (dialect (a .schema)) (a .s .now) (a .nodes .now) (c .before .before .before .before .before .before .before .before .before .loop .k) _ _ (search needs) (sym (c .before .before .before .before .before .before .before .node-word .ensures) ∙ c .before .before .before .before .before .before .if1 .taken) (c .before .before .before .before .before .node-number .ensures) (c .before .before .before .are-apart .ensures) (not-true _ (c .if2 .taken))
+returns c = let a = c .before .before .before .before .before .before .before .before .before .before .before .before .before .args in once-hit (grammarOf (a .dialect)) (a .s .now) (a .nodes .now) (c .before .before .before .before .before .before .before .before .before .loop .k) _ _ (search needs) (sym (c .before .before .before .before .before .before .before .node-word .ensures) ∙ c .before .before .before .before .before .before .if1 .taken) (c .before .before .before .before .before .node-number .ensures) (c .before .before .before .are-apart .ensures) (not-true _ (c .if2 .taken))
 
 add-k : tie.Need-add-k Inv-loop μ-loop
 add-k c = search needs
@@ -51,15 +51,15 @@ loop-again c =
     let a = c .before .before .before .before .before .before .before .args in
     let l = c .before .before .before .loop in
     ⊎-elim
-    (λ x. (ap length (x .7) ∙ x .4 .given ∙ l .inv .0, once-on (dialect (a .schema)) (a .s .now) (a .nodes .now) (l .k) _ (l .inv .1) (x .1 .ensures) (x .3 .ensures) (not-false _ (x .6 .left))))
-    (λ x. (ap length (x .1) ∙ l .inv .0, once-past (dialect (a .schema)) (a .s .now) (a .nodes .now) (l .k) (l .inv .1) (λ e. x .0 .left (c .before .node-word .ensures ∙ e))))
+    (λ x. (ap length (x .7) ∙ x .4 .given ∙ l .inv .0, once-on (grammarOf (a .dialect)) (a .s .now) (a .nodes .now) (l .k) _ (l .inv .1) (x .1 .ensures) (x .3 .ensures) (not-false _ (x .6 .left))))
+    (λ x. (ap length (x .1) ∙ l .inv .0, once-past (grammarOf (a .dialect)) (a .s .now) (a .nodes .now) (l .k) (l .inv .1) (λ e. x .0 .left (c .before .node-word .ensures ∙ e))))
     (c .if1 .came)
 
 same-length-2 : tie.Need-same-length-2 Inv-loop μ-loop
 same-length-2 c = search needs
 
 returns-2 : tie.Need-returns-2 Inv-loop μ-loop
-returns-2 c = let a = c .before .before .before .before .before .args in once-end (dialect (a .schema)) (a .s .now) (a .nodes .now) (c .before .loop .k) _ (c .before .loop .inv .1) (search needs)
+returns-2 c = let a = c .before .before .before .before .before .args in once-end (grammarOf (a .dialect)) (a .s .now) (a .nodes .now) (c .before .loop .k) _ (c .before .loop .inv .1) (search needs)
 
 pub objects-once-spec : {M : Type 1} → statement M
 objects-once-spec =

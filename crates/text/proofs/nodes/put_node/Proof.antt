@@ -5,7 +5,7 @@ use borrow.Author.Tests.{le-leb, lt-leb}
 use native.Mathlib.Omega.{arith}
 use native.Mathlib.Numerals.{towards-suc}
 use lib.ListN.{length-set}
-use Rattle.text.specs.Nodes.{node-words, putNode}
+use Rattle.text.specs.Nodes.{putNode}
 use Rattle.text.proofs.nodes.put_node.Statement.{statement}
 use Rattle.text.proofs.nodes.put_node.Tie as tie
 

@@ -4,7 +4,7 @@ use Prim.Native.Nat.{ℕ, _+_, _-_, _*_, _<_}
 use native.Mathlib.Omega.{arith}
 use lib.ListN.{length}
 use borrow.Author.Needs.{needs}
-use Rattle.strings.specs.Strings.{dialect}
+use Rattle.strings.specs.Strings.{grammarOf}
 use Rattle.tokens.proofs.StringTokens.{dialect-complete as laws}
 use Rattle.text.proofs.Inside.{value-past, member-past, comma-on, close-on, reached-ready, reached-fits}
 use Rattle.text.proofs.Values.{stood, missed, ready-after, opens, unbracketed, value-after, value-within, array-too-deep, object-too-deep}
@@ -71,10 +71,10 @@ abbrev read-value-below : ℕ → In 3 read-value-kinds.ps
 read-value-below t = and 3 read-value-kinds.ps (falls 3 read-value-kinds.ps _<_ μ-read-value t) read-value.Pre
 
 abbrev Inv-items : read-items-lts.InvT-loop
-Inv-items s classes schema nodes₀ at k left first n₀ i₀ nodes n i = ItemsAt (dialect schema) s nodes₀ nodes at k left i n
+Inv-items s classes dialect nodes₀ at k left first n₀ i₀ nodes n i = ItemsAt (grammarOf dialect) s nodes₀ nodes at k left i n
 
 abbrev μ-items-loop : read-items-lts.MeasureT-loop
-μ-items-loop s classes schema nodes₀ at k left first n₀ i₀ nodes n i = length s - i
+μ-items-loop s classes dialect nodes₀ at k left first n₀ i₀ nodes n i = length s - i
 
 abbrev read-items-calls : ℕ → read-items-lts.Claims
 read-items-calls t = (blanks.Asked, blanks.Learnt, stands.Asked, stands.Learnt, put.Asked, put.Learnt, read-value-below t, read-value.Post, following.Asked, following.Learnt)
@@ -98,13 +98,13 @@ read-items-returns : (t : ℕ) → read-items-lts.Need-returns (read-items-calls
 read-items-returns t c =
     let d = c .before .before .before .before in
     let a = d .before .before .before .before .before in
-    items-none (laws (a .args .schema)) (a .pre .1 .1) (d .before .before .skip-blanks .ensures) (stood (d .before .stands .ensures) (d .if1 .taken))
+    items-none (laws (a .args .dialect)) (a .pre .1 .1) (d .before .before .skip-blanks .ensures) (stood (d .before .stands .ensures) (d .if1 .taken))
     (c .before .before .put-node .ensures)
 
 read-items-loop-holds : (t : ℕ) → read-items-lts.Need-loop-holds (read-items-calls t) (read-items-at t) read-items.Post Inv-items μ-items-loop
 read-items-loop-holds t c =
     let a = c .before .before .before .before .before in
-    items-begin (laws (a .args .schema)) (a .pre .1 .1) (c .before .before .skip-blanks .ensures) (missed (c .before .stands .ensures) (c .if1 .left))
+    items-begin (laws (a .args .dialect)) (a .pre .1 .1) (c .before .before .skip-blanks .ensures) (missed (c .before .stands .ensures) (c .if1 .left))
 
 read-items-read-value-requires : (t : ℕ) → read-items-lts.Need-read-value-requires (read-items-calls t) (read-items-at t) read-items.Post Inv-items μ-items-loop
 read-items-read-value-requires t c κs =
@@ -172,10 +172,10 @@ read-member-returns-3 t c =
     pair-read (d .before .before .read-key .ensures) (d .a .given .1) value (c .before .before .before .before .before .v .given .1) (c .before .before .put-node .ensures)
 
 abbrev Inv-members : read-members-lts.InvT-loop
-Inv-members s classes schema nodes₀ at k left first n₀ i₀ nodes n i = FieldsAt (dialect schema) s nodes₀ nodes at k left i n
+Inv-members s classes dialect nodes₀ at k left first n₀ i₀ nodes n i = FieldsAt (grammarOf dialect) s nodes₀ nodes at k left i n
 
 abbrev μ-members-loop : read-members-lts.MeasureT-loop
-μ-members-loop s classes schema nodes₀ at k left first n₀ i₀ nodes n i = length s - i
+μ-members-loop s classes dialect nodes₀ at k left first n₀ i₀ nodes n i = length s - i
 
 read-members-add-e : (t : ℕ) → read-members-lts.Need-add-e (read-members-calls t) (read-members-at t) read-members.Post Inv-members μ-members-loop
 read-members-add-e t c = omega (arith, stood (c .before .stands .ensures) (c .if1 .taken))
@@ -187,13 +187,13 @@ read-members-returns : (t : ℕ) → read-members-lts.Need-returns (read-members
 read-members-returns t c =
     let d = c .before .before .before .before in
     let a = d .before .before .before .before .before in
-    fields-none (laws (a .args .schema)) (a .pre .1 .1) (d .before .before .skip-blanks .ensures) (stood (d .before .stands .ensures) (d .if1 .taken))
+    fields-none (laws (a .args .dialect)) (a .pre .1 .1) (d .before .before .skip-blanks .ensures) (stood (d .before .stands .ensures) (d .if1 .taken))
     (c .before .before .put-node .ensures)
 
 read-members-loop-holds : (t : ℕ) → read-members-lts.Need-loop-holds (read-members-calls t) (read-members-at t) read-members.Post Inv-members μ-members-loop
 read-members-loop-holds t c =
     let a = c .before .before .before .before .before in
-    fields-begin (laws (a .args .schema)) (a .pre .1 .1) (c .before .before .skip-blanks .ensures) (missed (c .before .stands .ensures) (c .if1 .left))
+    fields-begin (laws (a .args .dialect)) (a .pre .1 .1) (c .before .before .skip-blanks .ensures) (missed (c .before .stands .ensures) (c .if1 .left))
 
 read-members-read-member-requires : (t : ℕ) → read-members-lts.Need-read-member-requires (read-members-calls t) (read-members-at t) read-members.Post Inv-members μ-members-loop
 read-members-read-member-requires t c κs =
@@ -238,7 +238,7 @@ read-members-returns-4 t c =
 read-value-returns : (t : ℕ) → read-value-lts.Need-returns (read-value-calls t) (read-value-at t) read-value.Post
 read-value-returns t c =
     let d = c .before .before .before in
-    array-too-deep (d .skip-blanks .ensures) (laws (d .before .before .before .args .schema)) (c .before .before .stands .ensures) (c .before .if1 .taken) (c .if2 .taken)
+    array-too-deep (d .skip-blanks .ensures) (laws (d .before .before .before .args .dialect)) (c .before .before .stands .ensures) (c .before .if1 .taken) (c .if2 .taken)
 
 read-value-read-items-requires : (t : ℕ) → read-value-lts.Need-read-items-requires (read-value-calls t) (read-value-at t) read-value.Post
 read-value-read-items-requires t c κs =
@@ -254,7 +254,7 @@ read-value-returns-2 t c =
 read-value-returns-3 : (t : ℕ) → read-value-lts.Need-returns-3 (read-value-calls t) (read-value-at t) read-value.Post
 read-value-returns-3 t c =
     let d = c .before .before .before .before .before in
-    object-too-deep (d .skip-blanks .ensures) (laws (d .before .before .before .args .schema)) (c .before .before .stands2 .ensures) (c .before .if3 .taken) (c .if4 .taken)
+    object-too-deep (d .skip-blanks .ensures) (laws (d .before .before .before .args .dialect)) (c .before .before .stands2 .ensures) (c .before .if3 .taken) (c .if4 .taken)
 
 read-value-read-members-requires : (t : ℕ) → read-value-lts.Need-read-members-requires (read-value-calls t) (read-value-at t) read-value.Post
 read-value-read-members-requires t c κs =

@@ -23,7 +23,7 @@ add-t8 : tie.Need-add-t8
 add-t8 c = search needs
 
 returns-3 : tie.Need-returns-3
-returns-3 c = a-colon (c .before .before .before .skip-blanks .ensures) (dialect-complete (c .before .before .before .before .before .args .schema)) (omega arith) (c .if2 .left)
+returns-3 c = a-colon (c .before .before .before .skip-blanks .ensures) (dialect-complete (c .before .before .before .before .before .args .dialect)) (omega arith) (c .if2 .left)
 
 pub colon-spec : {M : Type 1} → statement M
 colon-spec =

@@ -46,21 +46,21 @@ returns-3 : tie.Need-returns-3
 returns-3 c =
     let w = c .before .before .before .before .before .before .before .before .before .skip-blanks .ensures in
     let t = sym (c .before .before .before .before .before .before .opens-string .ensures) ∙ not-false _ (c .before .before .before .before .before .if2 .left) in
-    plain-key w (omega arith) (dialect-complete (c .before .before .before .before .before .before .before .before .before .before .before .args .schema)) t
+    plain-key w (omega arith) (dialect-complete (c .before .before .before .before .before .before .before .before .before .before .before .args .dialect)) t
     (c .before .before .before .before .read-string .ensures) (c .before .before .e .given .1) (c .colon .ensures)
 
 returns-4 : tie.Need-returns-4
 returns-4 c =
     let w = c .before .before .before .before .before .before .before .before .before .skip-blanks .ensures in
     let t = sym (c .before .before .before .before .before .before .opens-string .ensures) ∙ not-false _ (c .before .before .before .before .before .if2 .left) in
-    coded-key w (omega arith) (dialect-complete (c .before .before .before .before .before .before .before .before .before .before .before .args .schema)) t
+    coded-key w (omega arith) (dialect-complete (c .before .before .before .before .before .before .before .before .before .before .before .args .dialect)) t
     (c .before .before .before .before .read-string .ensures) (c .before .before .e2 .given .1) (c .colon2 .ensures)
 
 returns-5 : tie.Need-returns-5
 returns-5 c =
     let w = c .before .before .before .before .before .before .before .before .skip-blanks .ensures in
     let t = sym (c .before .before .before .before .before .opens-string .ensures) ∙ not-false _ (c .before .before .before .before .if2 .left) in
-    key-fault w (omega arith) (dialect-complete (c .before .before .before .before .before .before .before .before .before .before .args .schema)) t
+    key-fault w (omega arith) (dialect-complete (c .before .before .before .before .before .before .before .before .before .before .args .dialect)) t
     (c .before .before .before .read-string .ensures) (c .before .e3 .given .1)
 
 pub read-key-spec : {M : Type 1} → statement M

@@ -1,6 +1,7 @@
 -- `scalars::read_scalar` meets its contract: at the end no value stands, else one of the two readers of a value says what does.
 -- By the dialect that was asked for.
 use native.Mathlib.Omega.{arith}
+use borrow.Author.Needs.{needs}
 use Rattle.tokens.proofs.ScalarReads.{no-more}
 use Rattle.tokens.proofs.scalars.read_scalar.Statement.{statement}
 use Rattle.tokens.proofs.scalars.read_scalar.Tie as tie
@@ -8,18 +9,25 @@ use Rattle.tokens.proofs.scalars.read_scalar.Tie as tie
 returns : tie.Need-returns
 returns c = no-more _ _ _ (omega arith)
 
-schema-scalar-requires : tie.Need-schema-scalar-requires
-schema-scalar-requires c κs = (c .before .before .before .pre .0, omega arith, rw (c .if2 .taken) at (c .before .before .before .pre .1))
+enum-told : tie.Need-enum-told
+enum-told c = search needs
 
-returns-2 : tie.Need-returns-2
-returns-2 c = rw (c .before .if2 .taken) (c .schema-scalar .ensures)
+schema-scalar-requires : tie.Need-schema-scalar-requires
+schema-scalar-requires c κs = (c .before .before .before .before .pre .0, omega arith, rw (c .enum-told .given .1) at (c .before .before .before .before .pre .1))
+
+enum-told-2 : tie.Need-enum-told-2
+enum-told-2 c = search needs
 
 message-scalar-requires : tie.Need-message-scalar-requires
-message-scalar-requires c κs = (c .before .before .before .pre .0, omega arith, rw (c .if2 .left) at (c .before .before .before .pre .1))
+message-scalar-requires c κs = (c .before .before .before .before .pre .0, omega arith, rw (c .enum-told2 .given .1) at (c .before .before .before .before .pre .1))
+
+returns-2 : tie.Need-returns-2
+returns-2 c = rw (c .before .enum-told .given .1) (c .schema-scalar .ensures)
 
 returns-3 : tie.Need-returns-3
-returns-3 c = rw (c .before .if2 .left) (c .message-scalar .ensures)
+returns-3 c = rw (c .before .enum-told2 .given .1) (c .message-scalar .ensures)
 
 pub read-scalar-spec : {M : Type 1} → statement M
 read-scalar-spec =
-    tie.close (tie.spec returns schema-scalar-requires returns-2 message-scalar-requires returns-3)
+    tie.close
+    (tie.spec returns enum-told schema-scalar-requires enum-told-2 message-scalar-requires returns-2 returns-3)

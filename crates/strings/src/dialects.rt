@@ -1,0 +1,5 @@
+// The two dialects of text: that of schemas and that of messages.
+pub enum Dialect {
+    Schema,
+    Message,
+}
