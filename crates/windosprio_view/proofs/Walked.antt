@@ -9,7 +9,8 @@ use Rattle.rules.specs.Answers.{MessageResult}
 use Rattle.message.specs.Stages.{Answered}
 use Rattle.viewer.proofs.Walk.{Walked, walk}
 use Rattle.views.proofs.Indents.{Tells, accepted-tree}
-use Rattle.windosprio_view.specs.Program.{resultView, messageView}
+use Rattle.console.specs.declared.answers.Style.the-variants as Style
+use Rattle.console.specs.Program.{resultText, answerText}
 
 -- a walk of an accepted answer gives its records, in order, and then stays
 pub walk-answered : {S T m old new : List ℕ} {r : MessageAnswer} (c n : ℕ) → Answered S T m old new r → r ≡ Accepted c n → Walked S T m c n new
@@ -21,7 +22,7 @@ pub tree-answered : {S T m old new : List ℕ} {r : MessageAnswer} (c n : ℕ) �
 tree-answered {S} {T} {m} {old} c n a e =
     subst (Tells S T m c n) (ap (λ (x : MessageResult). x .words) (a .told)) (accepted-tree S T m (length old) c n (ap (λ (x : MessageResult). x .answer) (a .told) ∙ e))
 
--- what the program shows is the answer in words and the lines of the words that the answer counts
-pub view-answered : {S T m old new : List ℕ} {r : MessageAnswer} → Answered S T m old new r → messageView S T (length old) m ≡ resultView S T m (record { answer = r; words = new })
-unfolding messageView
-view-answered {S} {T} {m} a = ap (resultView S T m) (a .told)
+-- what the program answers is the answer in words and the lines of the words that the answer counts
+pub view-answered : {S T m old new : List ℕ} {r : MessageAnswer} → Answered S T m old new r → answerText S T (length old) Style.Tree m ≡ resultText S T (length old) Style.Tree m (record { answer = r; words = new })
+unfolding answerText
+view-answered {S} {T} {m} {old} a = ap (resultText S T (length old) Style.Tree m) (a .told)
