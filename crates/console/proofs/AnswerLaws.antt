@@ -17,8 +17,8 @@ use Rattle.rules.specs.Answers.{MessageResult}
 use Rattle.message.specs.Stages.{Answered}
 use Rattle.lines.specs.Text.{Puts, lineText}
 use Rattle.lines.proofs.TextLaws.{puts-as}
-use Rattle.views.specs.TreeText.{linesFrom, linesOf}
-use Rattle.meanings.specs.Meanings.{schemaHead, messageHead}
+use Rattle.trees.specs.TreeText.{linesFrom, linesOf}
+use Rattle.wordings.specs.Wordings.{schemaHead, messageHead}
 use Rattle.console.specs.declared.answers.Style.{Style}
 use Rattle.console.specs.declared.answers.Style.the-variants.{Numbers, Tree}
 use Rattle.console.specs.Program.{schemaLine, schemaText, resultLine, treeLines, resultText, answerText, Says}

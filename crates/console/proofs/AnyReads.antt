@@ -10,7 +10,7 @@ use Rattle.grammar.specs.Limits.{record-words}
 use Rattle.lines.specs.Lines.{beforeLF}
 use Rattle.lines.specs.Text.{Puts, put}
 use Rattle.lines.proofs.TextLaws.{put-length}
-use Rattle.views.specs.TreeText.{linesOf, linesFrom}
+use Rattle.trees.specs.TreeText.{linesOf, linesFrom}
 use Rattle.console.specs.declared.answers.Style.{Style}
 use Rattle.console.specs.declared.steps.Taken.{Taken}
 use Rattle.console.specs.Program.{treeLines, answerText, lastLine, answersTo, Takes}

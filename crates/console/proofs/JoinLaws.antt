@@ -1,4 +1,4 @@
--- Bytes kept in a room are the line so far; and a line over two reads is the line of both together.
+-- Bytes kept in a room are the line so far.
 use Prim.Native.Nat.{ℕ, zero, suc, _+_, _-_, _*_, _/_, _≤_, _<_, min}
 use native.Mathlib.Nat.{mul-comm, le-div-iff-mul-le, div-lt-iff-lt-mul, min-eq-left, min-eq-right, le-of-lt}
 use native.Mathlib.Omega.{arith}
@@ -67,27 +67,11 @@ holds room kept chunk from {e} {size} {new} h l p q =
 
 -- ---- what a caller knows of a line joined
 module _ (room : List ℕ) (kept : ℕ) (chunk : List ℕ) (from : ℕ) (new : List ℕ) {r : Joined} (j : Joins room kept chunk from new r) where
-  pub more-in : {n : ℕ} → r ≡ More n → n ≤ length new
-  more-in e = subst (Joins room kept chunk from new) e j .0 .within
-
   pub line-in : {size next : ℕ} → r ≡ Line size next → size ≤ length new
   line-in e = subst (Joins room kept chunk from new) e j .0 .within
 
-  pub line-on : {size next : ℕ} → r ≡ Line size next → (from < next) × (next ≤ length chunk)
-  line-on e = let h = subst (Joins room kept chunk from new) e j in (omega (arith, h .1), h .2)
-
--- ---- over two reads
+-- cut twice is cut once
 pub cut-again : (n : ℕ) (a b : List ℕ) → take n (take n a ++ b) ≡ take n (a ++ b)
 cut-again zero a b = refl
 cut-again (suc n) [] b = refl
 cut-again (suc n) (x ∷ a) b = ap (λ (l : List ℕ). x ∷ l) (cut-again n a b)
-
--- a chunk that is used up, and the line that the next chunk ends: the line of all the bytes together, as many as the room holds
-pub two-reads : (room : List ℕ) (kept : ℕ) (one : List ℕ) (from : ℕ) (mid : List ℕ) (size : ℕ) (two : List ℕ) → from ≤ length one → length mid ≡ length room → Joins room kept one from mid (More size)
-    → lineSoFar mid size two 0 ≡ take (length room) ((take kept room ++ drop from one) ++ take (beforeLF two) two)
-unfolding lineSoFar
-two-reads room kept one from mid size two h e j =
-    let f : length (drop from one) ≤ beforeLF (drop from one) = simp length-drop (omega (arith, j .1)) in
-    ap (λ (n : ℕ). take n (take size mid ++ take (beforeLF two) two)) e
-    ∙ ap (λ (l : List ℕ). take (length room) (l ++ take (beforeLF two) two)) (j .0 .bytes ∙ ap (λ (l : List ℕ). take (length room) (take kept room ++ l)) (take-all (beforeLF (drop from one)) (drop from one) f))
-    ∙ cut-again (length room) (take kept room ++ drop from one) (take (beforeLF two) two)

@@ -21,7 +21,7 @@ use Rattle.rules.specs.Answers.{MessageResult, messageAnswered, messageResult}
 use Rattle.lines.specs.Lines.{beforeLF, orNext}
 use Rattle.lines.specs.Text.{Puts}
 use Rattle.lines.proofs.TextLaws.{puts-none, puts-as}
-use Rattle.views.specs.TreeText.{linesFrom, linesOf}
+use Rattle.trees.specs.TreeText.{linesFrom, linesOf}
 use Rattle.console.specs.declared.answers.Style.{Style}
 use Rattle.console.specs.declared.answers.Style.the-variants.{Numbers, Tree}
 use Rattle.console.specs.declared.joins.Joined.{Joined}

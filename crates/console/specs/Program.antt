@@ -11,9 +11,9 @@ use Rattle.rules.specs.SchemaAnswers as Schemas
 use Rattle.rules.specs.MessageAnswers as Messages
 use Rattle.rules.specs.Answers.{MessageResult, messageResult}
 use Rattle.lines.specs.Lines.{beforeLF}
-use Rattle.lines.specs.Text.{Puts, lineText}
-use Rattle.views.specs.TreeText.{linesFrom}
-use Rattle.meanings.specs.Meanings.{schemaHead, messageHead}
+use Rattle.lines.specs.Text.{Puts, lineText, number-room, word-room}
+use Rattle.trees.specs.TreeText.{linesFrom}
+use Rattle.wordings.specs.Wordings.{schemaHead, messageHead}
 use Rattle.console.specs.declared.answers.Style.{Style}
 use Rattle.console.specs.declared.answers.Style.the-variants.{Numbers, Tree}
 use Rattle.console.specs.declared.steps.Place.{Place}
@@ -30,17 +30,13 @@ record-count = 4096
 abbrev pub record-room : ℕ
 record-room = record-count * record-words
 
--- the longest line: three numbers of at most 20 digits, those words of at most 10, a byte after each
+-- the longest line of numbers: three, and those words
 abbrev pub longest-line : ℕ
-longest-line = 63 + 11 * record-room
+longest-line = 3 * number-room + word-room * record-room
 
 -- what is lent for answers
 abbrev pub out-room : ℕ
 out-room = 2 * longest-line
-
--- no line of a schema is longer
-abbrev pub schema-line-room : ℕ
-schema-line-room = 100
 
 -- the line of a schema: its number and the count of rows
 unfoldable pub schemaLine : SchemaAnswer → List ℕ

@@ -4,7 +4,7 @@ use mathlib.Core.Path.{_≡_}
 use mathlib.Core.List.{List, [], _∷_, _++_}
 use lib.ListN.{length, take}
 use Rattle.grammar.specs.Limits.{record-words}
-use Rattle.views.specs.TreeText.{Shown}
+use Rattle.trees.specs.TreeText.{Shown}
 use Rattle.console.specs.declared.answers.Style.{Style}
 use Rattle.console.specs.declared.steps.Taken.{Taken}
 use Rattle.console.specs.Program.{Takes}

@@ -1,10 +1,10 @@
 // The answers of both styles, put into lent bytes.
 use crate::rooms::RECORD_ROOM;
 use crate::rooms::words_of;
-use lines::numbers::put_line;
-use lines::numbers::put_pair;
-use meanings::heads::put_message_head;
-use meanings::heads::put_schema_head;
+use lines::decimals::NUMBER_ROOM;
+use lines::decimals::WORD_ROOM;
+use lines::decimals::put_line;
+use lines::decimals::put_pair;
 use message::check::check_message;
 use numbers::message_number;
 use numbers::message_records;
@@ -14,10 +14,13 @@ use numbers::schema_rows;
 use rules::MessageAnswer;
 use rules::RECORD_WORDS;
 use rules::SchemaAnswer;
+use wordings::heads::put_message_head;
+use wordings::heads::put_schema_head;
 ghost use Prim.Native.Nat.{_+_, _≤_};
 ghost use lib.ListN.{length};
 ghost use Rattle.lines.specs.Text.{Puts};
-ghost use Rattle.console.specs.Program.{record-room, longest-line, schema-line-room, schemaText, resultLine, Says};
+ghost use Rattle.wordings.specs.Wordings.{refusal-room};
+ghost use Rattle.console.specs.Program.{record-room, longest-line, schemaText, resultLine, Says};
 
 // How a program answers: in numbers, or in words and as a tree of records.
 pub enum Style {
@@ -25,8 +28,8 @@ pub enum Style {
     Tree,
 }
 
-// The longest answer line: three numbers of at most 20 digits, then words of at most 10, a byte after each.
-pub const LINE: usize = 63 + 11 * RECORD_ROOM;
+// The longest answer line: three numbers, then words.
+pub const LINE: usize = 3 * NUMBER_ROOM + WORD_ROOM * RECORD_ROOM;
 
 // The place after what is put, and how many record words are to be shown after it.
 pub struct Said {
@@ -35,7 +38,7 @@ pub struct Said {
 }
 
 pub fn put_schema_answer(style: Style, answer: SchemaAnswer, out: &mut [u8]) -> usize
-    requires { ⌜ schema-line-room ≤ length (now out) ⌝ }
+    requires { ⌜ refusal-room ≤ length (now out) ⌝ }
     ensures { λ r. ⌜ Puts (schemaText style answer) 0 (now (out .entry)) (now (out .exit)) r ⌝ }
 {
     match style {

@@ -11,13 +11,11 @@ use libc::STDOUT_FILENO;
 use rules::ROW_WORDS;
 use rules::SchemaAnswer;
 use schema::compile::compile_schema;
-
-// Room for the line of a schema.
-const SCHEMA_LINE: usize = 100;
+use wordings::heads::REFUSAL_ROOM;
 
 // Answers the messages where the schema was accepted and its line could be written.
 fn with_answer(style: Style, answer: SchemaAnswer, schema: &[u8], rows: &[u32]) {
-    let mut line = [0u8; SCHEMA_LINE];
+    let mut line = [0u8; REFUSAL_ROOM];
     let n = put_schema_answer(style, answer, &mut line);
     if !io::write_all(STDOUT_FILENO, &line[0..n]) {
         return;

@@ -8,12 +8,14 @@ use crate::steps::Place;
 use crate::steps::take_line;
 use libc::STDIN_FILENO;
 use libc::STDOUT_FILENO;
-use views::tree::put_tree;
+use trees::tree::put_tree;
+use walker::records::whole_records;
 ghost use Prim.Native.Nat.{_+_, _*_, _≤_};
 ghost use mathlib.Core.Bool.{true};
 ghost use mathlib.Core.Path.{_≡_};
 ghost use lib.ListN.{length};
 ghost use Rattle.grammar.specs.Limits.{message-bytes};
+ghost use Rattle.trees.specs.TreeText.{line-room};
 ghost use Rattle.console.specs.Program.{record-room, longest-line, out-room, Room, RoomIn, KeptIn};
 
 // Room for answers: twice the longest line.
@@ -39,32 +41,27 @@ fn show_records(
     records: &[u32],
     ends: &mut [u32],
     out: &mut [u8],
-) -> bool {
+) -> bool
+    requires { ⌜ line-room ≤ length (now out) ⌝ }
+{
+    let count = whole_records(records);
     let mut i = 0;
     let mut around = 0;
-    while i < records.len() {
+    while i < count {
         let p = put_tree(schema, table, message, records, i, ends, around, out);
-        let next = p.next;
+        i = p.next;
         let at = p.at;
         around = p.around;
         if !io::write_all(STDOUT_FILENO, &out[0..at]) {
             return false;
         }
-        if next <= i {
-            return true;
-        }
-        i = next;
     }
     true
 }
 
-fn show_tree(
-    table: &[u32],
-    schema: &[u8],
-    message: &[u8],
-    records: &[u32],
-    out: &mut [u8],
-) -> bool {
+fn show_tree(table: &[u32], schema: &[u8], message: &[u8], records: &[u32], out: &mut [u8]) -> bool
+    requires { ⌜ line-room ≤ length (now out) ⌝ }
+{
     let mut ends = [0u32; RECORD_COUNT];
     show_records(table, schema, message, records, &mut ends, out)
 }

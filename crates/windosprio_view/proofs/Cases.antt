@@ -7,14 +7,14 @@ use Rattle.grammar.specs.Lexis.{blank}
 use Rattle.rules.specs.Rows.{nameOf}
 use Rattle.rules.specs.Answers.{messageResult}
 use Rattle.lines.specs.Text.{decimalText}
-use Rattle.viewer.specs.Seeing.{seenAt, placeAfter, partOf}
-use Rattle.views.specs.Escapes.{shown, shownBytes, shownByte}
-use Rattle.views.specs.Backwards.{back}
-use Rattle.views.specs.Nesting.{stillOpen, opened}
-use Rattle.views.specs.Labelling.{skipBlanks, evenSlashes, quoteFirst, keyBack, keyBefore, labelText}
-use Rattle.views.specs.Typing.{rowName, typeName, typeText}
-use Rattle.views.specs.TreeText.{indentText, valueText, leftText, rightText, lineAt, openThen, linesOf, linesFrom}
-use Rattle.meanings.specs.Meanings.{refusedLine, commandLine}
+use Rattle.walker.specs.Seeing.{seenAt, placeAfter, partOf}
+use Rattle.trees.specs.Escapes.{shown, shownBytes, shownByte}
+use Rattle.trees.specs.Backwards.{back}
+use Rattle.trees.specs.Nesting.{stillOpen, opened}
+use Rattle.trees.specs.Labelling.{skipBlanks, evenSlashes, quoteFirst, keyBack, keyBefore, labelText}
+use Rattle.trees.specs.Typing.{rowName, typeName, typeText}
+use Rattle.trees.specs.TreeText.{indentText, valueText, leftText, rightText, lineAt, openThen, linesOf, linesFrom}
+use Rattle.wordings.specs.Wordings.{refusedLine, commandLine}
 use Rattle.console.specs.declared.answers.Style.the-variants.{Tree}
 use Rattle.console.specs.Program.{treeLines, answerText}
 
