@@ -10,7 +10,7 @@ use lib.Dec.{ltb}
 use lib.ListN.{length, take, getD, set, length-append, length-set}
 use lib.Seq.{take-suc, take-length}
 use borrow.Author.Tests.{ltb-true, ltb-false, lt-ltb, le-ltb}
-use Rattle.lines.specs.Text.{Puts, put, digitsIn, decimalText, spacedText, lineText}
+use Rattle.lines.specs.Text.{Puts, put, digitsIn, decimalText, spacedText, lineText, number-digits, word-digits}
 
 pub put-length : (at : ℕ) (t l : List ℕ) → length (put at t l) ≡ length l
 unfolding put
@@ -112,10 +112,10 @@ decimal-length zero n h = longer 0 n (ltb n 10) refl (λ (l : 10 ≤ n). absurd 
 decimal-length (suc k) n h = longer (suc k) n (ltb n 10) refl (λ (l : 10 ≤ n). decimal-length k (n / 10) (below-tenth n (10 ^ suc (suc k)) (10 ^ suc k) (pow-suc 10 (suc k)) h))
 
 -- the digits of a word, and of a machine number
-pub word-length : (n : ℕ) → n < 2 ^ 32 → length (decimalText n) ≤ 10
+pub word-length : (n : ℕ) → n < 2 ^ 32 → length (decimalText n) ≤ word-digits
 word-length n h = decimal-length 9 n (omega (arith, h))
 
-pub number-length : (n : ℕ) → n < 2 ^ 64 → length (decimalText n) ≤ 20
+pub number-length : (n : ℕ) → n < 2 ^ 64 → length (decimalText n) ≤ number-digits
 number-length n h = decimal-length 19 n (omega (arith, h))
 
 pub spaced-append : (xs ys : List ℕ) → spacedText (xs ++ ys) ≡ spacedText xs ++ spacedText ys

@@ -14,6 +14,20 @@ digitsIn (suc steps) n = elim (ltb n 10) [ true ↦ (48 + n) ∷ [] | false ↦ 
 unfoldable pub decimalText : ℕ → List ℕ
 decimalText n = digitsIn (suc n) n
 
+-- a machine number has at most so many digits, and a word of a table or a record
+abbrev pub number-digits : ℕ
+number-digits = 20
+
+abbrev pub word-digits : ℕ
+word-digits = 10
+
+-- each with a byte before or after it
+abbrev pub number-room : ℕ
+number-room = number-digits + 1
+
+abbrev pub word-room : ℕ
+word-room = word-digits + 1
+
 -- each number after a space
 unfoldable pub spacedText : List ℕ → List ℕ
 spacedText [] = []

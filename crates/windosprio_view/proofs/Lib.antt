@@ -1,3 +1,2 @@
-pub mod ProgramLaws
 pub mod Walked
 pub mod Cases

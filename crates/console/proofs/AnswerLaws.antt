@@ -1,0 +1,74 @@
+-- The answers of both styles from the numbers, the words and the texts that the calls give.
+use Prim.Native.Nat.{ℕ, _*_, _-_, _≤_, min}
+use native.Mathlib.Nat.{sub-zero, min-eq-left, min-eq-right, le-of-lt}
+use mathlib.Core.Path.{_≡_, refl, sym, ap, subst, _∙_}
+use mathlib.Core.Bool.{Bool, true, false}
+use mathlib.Core.List.{List, [], _∷_, _++_, append-nil}
+use lib.Dec.{leb}
+use lib.ListN.{length, take}
+use lib.Seq.{take-all, take-length}
+use native.Mathlib.Omega.{arith}
+use borrow.Author.Tests.{leb-true, leb-false}
+use Rattle.rules.specs.declared.SchemaAnswer.{SchemaAnswer}
+use Rattle.rules.specs.declared.MessageAnswer.{MessageAnswer}
+use Rattle.rules.specs.SchemaAnswers as Schemas
+use Rattle.rules.specs.MessageAnswers as Messages
+use Rattle.rules.specs.Answers.{MessageResult}
+use Rattle.message.specs.Stages.{Answered}
+use Rattle.lines.specs.Text.{Puts, lineText}
+use Rattle.lines.proofs.TextLaws.{puts-as}
+use Rattle.trees.specs.TreeText.{linesFrom, linesOf}
+use Rattle.wordings.specs.Wordings.{schemaHead, messageHead}
+use Rattle.console.specs.declared.answers.Style.{Style}
+use Rattle.console.specs.declared.answers.Style.the-variants.{Numbers, Tree}
+use Rattle.console.specs.Program.{schemaLine, schemaText, resultLine, treeLines, resultText, answerText, Says}
+
+-- ---- of a schema
+pub schema-numbers : {s : Style} (a : SchemaAnswer) {n k : ℕ} {at r : ℕ} {old new : List ℕ} → s ≡ Numbers → n ≡ Schemas.answerNumber a → k ≡ Schemas.answerRows a → Puts (lineText n (k ∷ [])) at old new r
+    → Puts (schemaText s a) at old new r
+unfolding schemaLine
+schema-numbers a {n} {k} e p q x = puts-as (ap (λ (y : ℕ). lineText y (k ∷ [])) p ∙ ap (λ (y : ℕ). lineText (Schemas.answerNumber a) (y ∷ [])) q ∙ ap (λ (t : Style). schemaText t a) (sym e)) x
+
+pub schema-words : {s : Style} (a : SchemaAnswer) {at r : ℕ} {old new : List ℕ} → s ≡ Tree → Puts (schemaHead a) at old new r → Puts (schemaText s a) at old new r
+schema-words a e x = puts-as (ap (λ (t : Style). schemaText t a) (sym e)) x
+
+-- ---- of a message: the words that a count stands for, of those there are
+take-least : (n : ℕ) (l : List ℕ) (b : Bool) → leb n (length l) ≡ b → take (min n (length l)) l ≡ take n l
+take-least n l true e = ap (λ (k : ℕ). take k l) (min-eq-left (leb-true n (length l) e))
+take-least n l false e =
+    let h : length l ≤ n = le-of-lt (leb-false n (length l) e) in
+    ap (λ (k : ℕ). take k l) (min-eq-right h) ∙ take-length l ∙ sym (take-all n l h)
+
+counted : {k c z : ℕ} (w : List ℕ) → k ≡ c → z ≡ min (4 * k) (length w) → take z w ≡ take (4 * c) w
+counted {k} w e f = ap (λ (x : ℕ). take x w) f ∙ take-least (4 * k) w (leb (4 * k) (length w)) refl ∙ ap (λ (x : ℕ). take (4 * x) w) e
+
+pub puts-numbers : (w : List ℕ) (a : MessageAnswer) {n r k z at e : ℕ} {old new : List ℕ} → n ≡ Messages.answerNumber a → r ≡ Messages.answerRow a → k ≡ Messages.answerRecords a → z ≡ min (4 * k) (length w)
+    → Puts (lineText n (r ∷ k ∷ take (z - 0) w)) at old new e → Puts (resultLine (record { answer = a; words = w })) at old new e
+unfolding resultLine
+puts-numbers w a {n} {r} {k} {z} p q o y x =
+    puts-as
+    (ap (λ (l : List ℕ). lineText n (r ∷ k ∷ l)) (ap (λ (i : ℕ). take i w) (sub-zero z) ∙ counted w o y) ∙ ap (λ (i : ℕ). lineText i (r ∷ k ∷ take (4 * Messages.answerRecords a) w)) p
+    ∙ ap (λ (i : ℕ). lineText (Messages.answerNumber a) (i ∷ k ∷ take (4 * Messages.answerRecords a) w)) q ∙ ap (λ (i : ℕ). lineText (Messages.answerNumber a) (Messages.answerRow a ∷ i ∷ take (4 * Messages.answerRecords a) w)) o)
+    x
+
+pub no-lines : (S T : List ℕ) (room : ℕ) (m ws : List ℕ) → treeLines S T room m (take 0 ws) ≡ []
+unfolding treeLines linesFrom linesOf
+no-lines S T room m ws = refl
+
+module _ {s : Style} {S T m before w : List ℕ} {a : MessageAnswer} (h : Answered S T m before w a) where
+  said : {t : Style} → s ≡ t → answerText S T (length before) s m ≡ resultText S T (length before) t m (record { answer = a; words = w })
+  unfolding answerText
+  said {t} e = ap (λ (x : Style). answerText S T (length before) x m) e ∙ ap (resultText S T (length before) t m) (h .told)
+
+  pub says-numbers : {at e : ℕ} {old new : List ℕ} → s ≡ Numbers → Puts (resultLine (record { answer = a; words = w })) at old new e → Says s S T (length before) m at old new w 0 e
+  says-numbers q x =
+      let l : List ℕ = resultLine (record { answer = a; words = w }) in
+      record { text = l; puts = x; rest = said q ∙ sym (append-nil l) ∙ ap (λ (t : List ℕ). l ++ t) (sym (no-lines S T (length before) m w)); few = omega arith }
+
+  pub says-tree : {k z at e : ℕ} {old new : List ℕ} → s ≡ Tree → Puts (messageHead S T a) at old new e → k ≡ Messages.answerRecords a → (z ≡ min (4 * k) (length w)) × (z ≤ length w) → Says s S T (length before) m at old new w z e
+  says-tree q x o y = record {
+    text = messageHead S T a;
+    puts = x;
+    rest = said q ∙ ap (λ (l : List ℕ). messageHead S T a ++ treeLines S T (length before) m l) (sym (counted w o (y .0)));
+    few = y .1;
+  }

@@ -1,0 +1,4 @@
+-- What the contracts and theorems cite.
+pub mod Joining
+pub mod Program
+pub mod Runs

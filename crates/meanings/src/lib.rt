@@ -1,2 +1,0 @@
-// Answers in words: the first line of what the viewer shows.
-pub mod heads;

@@ -1,0 +1,82 @@
+-- Types by name, from the words and the tests that led there.
+use Prim.Native.Nat.{ℕ, zero, suc, _+_, _-_, _*_, _≤_, _<_}
+use native.Mathlib.Nat.{not-suc-le-zero}
+use native.Mathlib.Omega.{arith}
+use mathlib.Core.Path.{_≡_, refl, sym, ap, _∙_, subst}
+use mathlib.Core.Bool.{Bool, true, false}
+use mathlib.Core.List.{List, [], _∷_}
+use lib.Dec.{ltb}
+use lib.ListN.{length, take, drop, getD}
+use borrow.Author.Tests.{lt-ltb, le-ltb, ltb-true, ltb-false, eq-eqb, ne-eqb}
+use Rattle.grammar.specs.Limits.{row-words, first-row}
+use Rattle.grammar.specs.Notation.{text}
+use Rattle.rules.specs.Rows.{isStruct, nameOf}
+use Rattle.lines.specs.Text.{Puts}
+use Rattle.lines.proofs.TextLaws.{puts-as, puts-on}
+use Rattle.walker.specs.Seeing.{partOf}
+use Rattle.trees.specs.TextTable.{boundsFrom}
+use Rattle.trees.specs.Escapes.{shown}
+use Rattle.trees.specs.Typing.{builtInNames, rowText, rowName, typeName, typeText}
+use Rattle.trees.proofs.TableLaws.{Part, part-at, entry-short}
+
+pub name-part : (S T : List ℕ) (r : ℕ) {a b c d : ℕ} {n : List ℕ} → a ≡ getD T (row-words * r + 1) 0 → b ≡ a → c ≡ getD T (row-words * r + 2) 0 → d ≡ c → n ≡ partOf S b (b + d) → n ≡ nameOf S T r
+unfolding nameOf partOf
+name-part S T r {b = b} {d = d} p q u v e =
+    let f : (b + d) - b ≡ d = omega arith in
+    e ∙ ap (λ (k : ℕ). take k (drop b S)) f ∙ ap (λ (k : ℕ). take k (drop b S)) (v ∙ u) ∙ ap (λ (k : ℕ). take (getD T (row-words * r + 2) 0) (drop k S)) (q ∙ p)
+
+-- no built-in type's name is longer
+abbrev longest-built-in : ℕ
+longest-built-in = 6
+
+pub built-in-part : (t : ℕ) {j from to : ℕ} → t < first-row → j ≡ suc t → from ≡ getD (boundsFrom 0 builtInNames) t 0 → to ≡ getD (boundsFrom 0 builtInNames) j 0 → Part builtInNames t from to
+built-in-part t h i p q = part-at builtInNames t h i p q
+
+pub built-in-short : (t : ℕ) → length (getD builtInNames t []) ≤ longest-built-in
+built-in-short t = entry-short longest-built-in builtInNames t refl
+
+-- a row by its name, or without one
+by-name : (t : Bool) (n : List ℕ) → (length n ≡ 0 → ⊥) → shown n ≡ rowText t n
+by-name t [] h = absurd (h refl)
+by-name t (b ∷ n) h = refl
+
+no-name : (t : Bool) (n : List ℕ) → length n ≡ 0 → rowText t [] ≡ rowText t n
+no-name t [] h = refl
+no-name t (b ∷ n) h = let y : suc (length n) ≡ 0 = h in absurd (omega arith)
+
+module _ (S T : List ℕ) (r : ℕ) {n old new : List ℕ} {at p : ℕ} where
+  pub row-named : n ≡ nameOf S T r → (length n ≡ 0 → ⊥) → Puts (shown n) at old new p → Puts (rowName S T r) at old new p
+  unfolding rowName
+  row-named e h x = puts-as (by-name (isStruct T r) n h ∙ ap (rowText (isStruct T r)) e) x
+
+  pub row-inline : {k : ℕ} → n ≡ nameOf S T r → (length n ≡ 0) → k ≡ getD T (row-words * r + 0) 0 → k ≡ 3 → Puts (text "(inline)") at old new p → Puts (rowName S T r) at old new p
+  unfolding rowName
+  row-inline e h q s x = puts-as (ap (λ (t : Bool). rowText t []) (sym (eq-eqb (getD T (row-words * r + 0) 0) 3 (sym q ∙ s))) ∙ no-name (isStruct T r) n h ∙ ap (rowText (isStruct T r)) e) x
+
+  pub row-unknown : {k : ℕ} → n ≡ nameOf S T r → (length n ≡ 0) → k ≡ getD T (row-words * r + 0) 0 → (k ≡ 3 → ⊥) → Puts (text "(unknown)") at old new p → Puts (rowName S T r) at old new p
+  unfolding rowName
+  row-unknown e h q s x = puts-as (ap (λ (t : Bool). rowText t []) (sym (ne-eqb (getD T (row-words * r + 0) 0) 3 (λ y. s (q ∙ y)))) ∙ no-name (isStruct T r) n h ∙ ap (rowText (isStruct T r)) e) x
+
+module _ (S T : List ℕ) (t : ℕ) where
+  abbrev by-row : Bool → List ℕ
+  by-row b = elim b [ true ↦ getD builtInNames t [] | false ↦ rowName S T (t - first-row) ]
+
+  pub name-below : {old new : List ℕ} {at p : ℕ} → t < first-row → Puts (getD builtInNames t []) at old new p → Puts (typeName S T t) at old new p
+  unfolding typeName
+  name-below h x = puts-as (ap by-row (sym (lt-ltb t first-row h))) x
+
+  pub name-row : {old new : List ℕ} {at p : ℕ} → first-row ≤ t → Puts (rowName S T (t - first-row)) at old new p → Puts (typeName S T t) at old new p
+  unfolding typeName
+  name-row h x = puts-as (ap by-row (sym (le-ltb t first-row h))) x
+
+-- plain, or in brackets
+module _ (S T : List ℕ) (t : ℕ) {w : ℕ} where
+  pub type-plain : (f : ℕ) {at p : ℕ} {old new : List ℕ} → w ≡ t → f ≡ 0 → Puts (typeName S T w) at old new p → Puts (typeText S T t f) at old new p
+  unfolding typeText
+  type-plain zero e h x = puts-as (ap (typeName S T) e) x
+  type-plain (suc f) e h x = absurd (omega arith)
+
+  pub type-array : (f : ℕ) {at a b p : ℕ} {old mid end new : List ℕ} → w ≡ t → (f ≡ 0 → ⊥) → Puts (text "[") at old mid a → Puts (typeName S T w) a mid end b → Puts (text "]") b end new p → Puts (typeText S T t f) at old new p
+  unfolding typeText
+  type-array zero e h x y z = absurd (h refl)
+  type-array (suc f) e h x y z = puts-on x (puts-on (puts-as (ap (typeName S T) e) y) z)

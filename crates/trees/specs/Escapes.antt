@@ -1,0 +1,36 @@
+-- Bytes as they go to a terminal. A message may hold any bytes; only 0x20 to 0x7E go out as they are.
+use Prim.Native.Nat.{ℕ, _+_, _*_, _/_, _%_}
+use mathlib.Core.Bool.{Bool, cond}
+use mathlib.Core.List.{List, [], _∷_, _++_}
+use lib.Dec.{ltb}
+use lib.ListN.{length, take}
+use Rattle.grammar.specs.Limits.{name-bytes}
+use Rattle.grammar.specs.Notation.{text, within}
+
+abbrev pub printable : ℕ → Bool
+printable b = within 0x20 0x7E b
+
+abbrev pub hexDigit : ℕ → ℕ
+hexDigit d = cond (ltb d 10) (48 + d) (87 + d)
+
+-- any other byte is shown as \x and two hex digits; JSON has no such escape
+abbrev pub hexByte : ℕ → List ℕ
+hexByte b = 92 ∷ 120 ∷ hexDigit (b / 16 % 16) ∷ hexDigit (b % 16) ∷ []
+
+unfoldable pub shownByte : ℕ → List ℕ
+shownByte b = cond (printable b) (b ∷ []) (hexByte b)
+
+unfoldable pub shownBytes : List ℕ → List ℕ
+shownBytes [] = []
+shownBytes (b ∷ l) = shownByte b ++ shownBytes l
+
+-- what is shown of bytes has room here: the longest name, each byte escaped, and the dots
+abbrev pub escape-bytes : ℕ
+escape-bytes = 4
+
+abbrev pub shown-room : ℕ
+shown-room = escape-bytes * name-bytes + 3
+
+-- cut to the longest name, so that no name is cut; dots where there is more
+unfoldable pub shown : List ℕ → List ℕ
+shown l = shownBytes (take name-bytes l) ++ cond (ltb name-bytes (length l)) (text "...") []

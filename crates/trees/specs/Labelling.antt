@@ -1,0 +1,86 @@
+-- What a record is called: the key before its value, as it is written, or what it is of the record before it.
+use Prim.Native.Nat.{ℕ, zero, suc, _-_, _<_}
+use mathlib.Core.Bool.{Bool, true, false, cond, not, _&&_}
+use mathlib.Core.List.{List, [], _∷_}
+use mathlib.Core.Option.{Option, none, some}
+use lib.Dec.{eqb, leb}
+use Rattle.grammar.specs.Limits.{first-row}
+use Rattle.grammar.specs.Notation.{text}
+use Rattle.grammar.specs.Lexis.{blank}
+use Rattle.rules.specs.Rows.{isAlternate}
+use Rattle.walker.specs.declared.records.Seen.{Seen}
+use Rattle.walker.specs.declared.records.Seen.the-variants.{Record, Nothing}
+use Rattle.trees.specs.declared.labels.BytePlace.{BytePlace}
+use Rattle.trees.specs.declared.labels.BytePlace.the-variants.{At, Missing}
+use Rattle.trees.specs.declared.labels.Label.{Label}
+use Rattle.trees.specs.declared.labels.Label.the-variants.{Key, Element}
+use Rattle.walker.specs.Seeing.{seenAt, partOf}
+use Rattle.trees.specs.Backwards.{back, before}
+use Rattle.trees.specs.Escapes.{shown}
+
+-- bytes before a value, the nearest first
+unfoldable pub skipBlanks : List ℕ → List ℕ
+skipBlanks [] = []
+skipBlanks (b ∷ l) = elim (blank b) [ true ↦ skipBlanks l | false ↦ b ∷ l ]
+
+-- an even number of backslashes stands first
+unfoldable pub evenSlashes : List ℕ → Bool
+evenSlashes [] = true
+evenSlashes (b ∷ l) = elim (eqb b 92) [ true ↦ not (evenSlashes l) | false ↦ true ]
+
+-- a quote stands first that no backslash escapes
+unfoldable pub quoteFirst : List ℕ → Bool
+quoteFirst [] = false
+quoteFirst (b ∷ l) = eqb b 34 && evenSlashes l
+
+-- the key's bytes, from its last on: up to the quote that opens it, or all there are
+unfoldable pub keyBack : List ℕ → List ℕ → List ℕ
+keyBack k [] = k
+keyBack k (b ∷ l) = elim (quoteFirst (b ∷ l)) [ true ↦ k | false ↦ keyBack (b ∷ k) l ]
+
+-- behind a byte, blanks skipped
+abbrev pub behindByte : ℕ → List ℕ → Option (List ℕ)
+behindByte sought [] = none
+behindByte sought (b ∷ l) = cond (eqb b sought) (some l) none
+
+abbrev pub closedKey : Option (List ℕ) → Option (List ℕ)
+closedKey none = none
+closedKey (some l) = some (keyBack [] l)
+
+abbrev pub behindColon : Option (List ℕ) → Option (List ℕ)
+behindColon none = none
+behindColon (some l) = closedKey (behindByte 34 (skipBlanks l))
+
+-- the key that stands before a value, if one does: a string and a colon
+unfoldable pub keyBefore : List ℕ → Option (List ℕ)
+keyBefore l = behindColon (behindByte 58 (skipBlanks l))
+
+-- what the code found: the place of a byte, and the key's place in the message
+abbrev pub backAt : List ℕ → BytePlace → Option (List ℕ)
+backAt m (At i) = some (back m i)
+backAt m Missing = none
+
+abbrev pub PlaceIn : ℕ → BytePlace → Type 0
+PlaceIn n (At i) = i < n
+PlaceIn n Missing = Unit {0}
+
+abbrev pub keyAt : List ℕ → Label → Option (List ℕ)
+keyAt m (Key a e) = some (partOf m a e)
+keyAt m Element = none
+
+abbrev pub keyText : Option (List ℕ) → List ℕ
+keyText none = text "-"
+keyText (some k) = shown k
+
+-- a record of an alternate, no array of them
+abbrev pub alternateRef : List ℕ → ℕ → ℕ → Bool
+alternateRef T t f = eqb f 0 && leb first-row t && isAlternate T (t - first-row)
+
+abbrev pub ofAlternate : List ℕ → Seen → Bool
+ofAlternate T (Record a e t f) = alternateRef T t f
+ofAlternate T Nothing = false
+
+-- the record number n: the arguments, the alternative taken, a member by its key, or an element
+unfoldable pub labelText : List ℕ → List ℕ → List ℕ → ℕ → ℕ → List ℕ
+labelText T m ws zero start = text "arguments"
+labelText T m ws (suc n) start = elim (ofAlternate T (seenAt ws n)) [ true ↦ text "as" | false ↦ keyText (keyBefore (before m start)) ]

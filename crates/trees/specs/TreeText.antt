@@ -1,0 +1,110 @@
+-- The records of a message as a tree: a line each, indented by the records that are open around it.
+use Prim.Native.Nat.{ℕ, zero, suc, _+_, _-_, _*_, _/_, _≤_, _<_, min}
+use mathlib.Core.Logic.{_⊎_}
+use mathlib.Core.Path.{_≡_}
+use mathlib.Core.Bool.{cond}
+use mathlib.Core.List.{List, [], _∷_, _++_}
+use lib.Dec.{ltb}
+use lib.ListN.{length, replicate}
+use Rattle.grammar.specs.Limits.{record-words}
+use Rattle.grammar.specs.Notation.{text}
+use Rattle.grammar.specs.Tree.{startOf, endOf}
+use Rattle.rules.specs.Readings.{Typed}
+use Rattle.lines.specs.Text.{Puts}
+use Rattle.walker.specs.declared.records.Seen.{Seen}
+use Rattle.walker.specs.declared.records.Seen.the-variants.{Record, Nothing}
+use Rattle.walker.specs.Seeing.{seenAt, placeAfter, partOf}
+use Rattle.trees.specs.Escapes.{shown, shown-room}
+use Rattle.trees.specs.Nesting.{stillOpen, openAfter}
+use Rattle.trees.specs.Labelling.{labelText}
+use Rattle.trees.specs.Typing.{typeText, type-room}
+
+-- more than 80 open records indent no further; an accepted message has fewer
+abbrev pub deepest : ℕ
+deepest = 80
+
+-- no line is longer: the indent and the label, then the type, the text and what stands around them
+abbrev pub indent-room : ℕ
+indent-room = 2 * (1 + deepest)
+
+abbrev pub left-room : ℕ
+left-room = indent-room + shown-room
+
+abbrev pub right-room : ℕ
+right-room = type-room + shown-room + 6
+
+abbrev pub line-room : ℕ
+line-room = left-room + right-room
+
+unfoldable pub indentText : ℕ → List ℕ
+indentText k = replicate (2 * (1 + min k deepest)) 32
+
+-- the text of the value; absent arguments have none
+abbrev pub valueShown : List ℕ → List ℕ
+valueShown [] = text "(absent)"
+valueShown (b ∷ l) = shown (b ∷ l)
+
+unfoldable pub valueText : List ℕ → ℕ → ℕ → List ℕ
+valueText m start end = valueShown (partOf m start end)
+
+-- the line of the record number n, within k records: its label, then its type and its text
+unfoldable pub leftText : List ℕ → List ℕ → List ℕ → ℕ → ℕ → ℕ → List ℕ
+leftText T m ws n a k = indentText k ++ labelText T m ws n a
+
+unfoldable pub rightText : List ℕ → List ℕ → List ℕ → ℕ → ℕ → ℕ → ℕ → List ℕ
+rightText S T m a e t f = text ": " ++ (typeText S T t f ++ (text " = " ++ (valueText m a e ++ (10 ∷ []))))
+
+-- over a schema, its table, a message, its record words and the room for ends; at a place within open records
+module _ (S T m ws : List ℕ) (room : ℕ) where
+  abbrev pub recordLine : ℕ → List ℕ → Seen → List ℕ
+  recordLine n es Nothing = []
+  recordLine n es (Record a e t f) = leftText T m ws n a (length (stillOpen a es)) ++ rightText S T m a e t f
+
+  unfoldable pub lineAt : ℕ → List ℕ → List ℕ
+  lineAt n es = recordLine n es (seenAt ws n)
+
+  unfoldable pub openThen : ℕ → List ℕ → List ℕ
+  openThen n es = openAfter room (seenAt ws n) es
+
+  -- the lines of so many asks, from a place on
+  unfoldable pub linesOf : ℕ → ℕ → List ℕ → List ℕ
+  linesOf zero n es = []
+  linesOf (suc k) n es = lineAt n es ++ linesOf k (placeAfter ws n) (openThen n es)
+
+  -- the lines of all records from a place on
+  unfoldable pub linesFrom : ℕ → List ℕ → List ℕ
+  linesFrom n es = linesOf (length ws / record-words - n) n es
+
+  -- one ask: the line is put, the place is the next, and the record is open
+  pub record One (n : ℕ) (es : List ℕ) (at : ℕ) (old new : List ℕ) (next : ℕ) (es′ : List ℕ) (r : ℕ) : Type 0 where
+    pub puts : Puts (lineAt n es) at old new r
+    pub moves : next ≡ placeAfter ws n
+    pub opens : es′ ≡ openThen n es
+
+  -- the lines from a place to the next are put, from the start of the room on
+  pub record Shown (from : ℕ) (es : List ℕ) (old new : List ℕ) (next : ℕ) (es′ : List ℕ) (at : ℕ) : Type 0 where
+    pub lines : List ℕ
+    pub puts : Puts lines 0 old new at
+    pub splits : linesFrom from es ≡ lines ++ linesFrom next es′
+
+  -- and then there is nothing left, or no room for the longest line
+  pub record Tree (from : ℕ) (es : List ℕ) (old new : List ℕ) (next : ℕ) (es′ : List ℕ) (at : ℕ) : Type 0 where
+    pub so-far : Shown from es old new next es′ at
+    pub within : at ≤ length new
+    pub stops : (seenAt ws next ≡ Nothing) ⊎ (length old < at + line-room)
+    pub moves : line-room ≤ length old → from < length ws / record-words → from < next
+
+-- how many of these values are open at a place: they end after it
+abbrev pub openAt : List Typed → ℕ → ℕ
+openAt [] place = 0
+openAt (u ∷ us) place = cond (ltb place (endOf (u .value))) 1 0 + openAt us place
+
+-- The lines of a reading's values, after those before them, the last first. Each stands under as many as are open where it starts: in a message the values that it is inside of.
+module _ (S T m ws : List ℕ) where
+  abbrev pub valueLine : List Typed → Typed → List ℕ
+  valueLine us t =
+      leftText T m ws (length us) (startOf (t .value)) (openAt us (startOf (t .value))) ++ rightText S T m (startOf (t .value)) (endOf (t .value)) (t .ref) (t .array)
+
+  unfoldable pub readingLines : List Typed → List Typed → List ℕ
+  readingLines us [] = []
+  readingLines us (t ∷ ts) = valueLine us t ++ readingLines (t ∷ us) ts

@@ -1,3 +1,0 @@
-// What the operator's viewer asks: the records of a message, one after another.
-pub mod reader;
-pub mod records;

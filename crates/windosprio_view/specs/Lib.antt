@@ -1,2 +1,0 @@
--- What the contracts and theorems cite.
-pub mod Program

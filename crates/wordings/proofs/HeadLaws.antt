@@ -1,0 +1,51 @@
+-- The first line of what is shown, put piece by piece.
+use Prim.Native.Nat.{ℕ, suc, _≤_, _<_}
+use mathlib.Core.Path.{_≡_, refl, sym, ap, _∙_}
+use mathlib.Core.List.{List, [], _∷_}
+use lib.ListN.{length, getD}
+use Rattle.grammar.specs.Notation.{text}
+use Rattle.rules.specs.declared.SchemaRefusal.{SchemaRefusal}
+use Rattle.rules.specs.declared.SchemaAnswer.{SchemaAnswer}
+use Rattle.rules.specs.declared.SchemaAnswer.the-variants as SA
+use Rattle.rules.specs.declared.MessageRefusal.{MessageRefusal}
+use Rattle.rules.specs.declared.MessageAnswer.{MessageAnswer}
+use Rattle.rules.specs.declared.MessageAnswer.the-variants as MA
+use Rattle.rules.specs.Rows.{nameOf}
+use Rattle.rules.specs.SchemaAnswers as Schemas
+use Rattle.rules.specs.MessageAnswers as Messages
+use Rattle.lines.specs.Text.{Puts, decimalText}
+use Rattle.lines.proofs.TextLaws.{puts-as, puts-on, puts-none}
+use Rattle.trees.specs.TextTable.{boundsFrom}
+use Rattle.trees.specs.Escapes.{shown}
+use Rattle.trees.proofs.TableLaws.{Part, part-at, entry-short, no-entry}
+use Rattle.wordings.specs.Wordings.{meanings, meaningOf, longest-meaning, refusedLine, rowsLine, commandLine, schemaHead, messageHead}
+
+-- ---- a meaning in the table
+pub meaning-part : (n : ℕ) {j from to : ℕ} → n < length meanings → j ≡ suc n → from ≡ getD (boundsFrom 0 meanings) n 0 → to ≡ getD (boundsFrom 0 meanings) j 0 → Part meanings n from to
+meaning-part n h i p q = part-at meanings n h i p q
+
+pub meaning-short : (n : ℕ) → length (meaningOf n) ≤ longest-meaning
+meaning-short n = entry-short longest-meaning meanings n refl
+
+pub no-meaning : (n : ℕ) {at : ℕ} {out : List ℕ} → length meanings ≤ n → at ≤ length out → Puts (meaningOf n) at out out at
+no-meaning n h k = puts-as (sym (no-entry meanings n h)) (puts-none k)
+
+-- ---- lines
+pub puts-refused : (n : ℕ) {at p q e r : ℕ} {o₀ o₁ o₂ o₃ o₄ : List ℕ} → Puts (decimalText n) at o₀ o₁ p → Puts (text " ") p o₁ o₂ q → Puts (meaningOf n) q o₂ o₃ e → Puts (10 ∷ []) e o₃ o₄ r → Puts (refusedLine n) at o₀ o₄ r
+unfolding refusedLine
+puts-refused n a b c d = puts-on a (puts-on b (puts-on c d))
+
+pub schema-refused : {a : SchemaAnswer} {x : SchemaRefusal} {n at r : ℕ} {old new : List ℕ} → n ≡ Schemas.answerNumber a → a ≡ SA.Refused x → Puts (refusedLine n) at old new r → Puts (schemaHead a) at old new r
+schema-refused e f p = puts-as (ap refusedLine (e ∙ ap Schemas.answerNumber f) ∙ ap schemaHead (sym f)) p
+
+pub message-refused : (S T : List ℕ) {a : MessageAnswer} {x : MessageRefusal} {n at r : ℕ} {old new : List ℕ} → n ≡ Messages.answerNumber a → a ≡ MA.Refused x → Puts (refusedLine n) at old new r → Puts (messageHead S T a) at old new r
+message-refused S T e f p = puts-as (ap refusedLine (e ∙ ap Messages.answerNumber f) ∙ ap (messageHead S T) (sym f)) p
+
+pub puts-rows : (n : ℕ) {at p q r : ℕ} {old mid end new : List ℕ} → Puts (text "0 schema accepted, rows: ") at old mid p → Puts (decimalText n) p mid end q → Puts (10 ∷ []) q end new r → Puts (rowsLine n) at old new r
+unfolding rowsLine
+puts-rows n a b c = puts-on a (puts-on b c)
+
+pub puts-command : (S T : List ℕ) (c : ℕ) {at p q r : ℕ} {n old mid end new : List ℕ} → n ≡ nameOf S T c → Puts (text "0 ") at old mid p → Puts (shown n) p mid end q → Puts (10 ∷ []) q end new r
+    → Puts (commandLine S T c) at old new r
+unfolding commandLine
+puts-command S T c e x y z = puts-on x (puts-on (puts-as (ap shown e) y) z)

@@ -1,0 +1,83 @@
+-- The first line of what is shown: an answer in words. Every number's meaning stands here and nowhere else.
+use Prim.Native.Nat.{ℕ, _+_}
+use mathlib.Core.List.{List, [], _∷_, _++_}
+use lib.ListN.{getD, replicate}
+use Rattle.grammar.specs.Notation.{text}
+use Rattle.rules.specs.declared.SchemaAnswer.{SchemaAnswer}
+use Rattle.rules.specs.declared.SchemaAnswer.the-variants as SA
+use Rattle.rules.specs.declared.MessageAnswer.{MessageAnswer}
+use Rattle.rules.specs.declared.MessageAnswer.the-variants as MA
+use Rattle.rules.specs.Rows.{nameOf}
+use Rattle.rules.specs.SchemaAnswers as Schemas
+use Rattle.rules.specs.MessageAnswers as Messages
+use Rattle.lines.specs.Text.{decimalText, number-room}
+use Rattle.trees.specs.Escapes.{shown, shown-room}
+
+-- 01, Schema answers: the meanings of 1 to 13, in order
+abbrev pub schemaMeanings : List (List ℕ)
+schemaMeanings =
+    text "the schema is longer than 32,768 bytes"
+    ∷ text "the file is not schema text"
+    ∷ text "an object has a key twice"
+    ∷ text "not a definition: a kind, a key or a value is missing or not known"
+    ∷ text "a name that is defined is no good name"
+    ∷ text "a name is defined twice, or is that of a built-in type"
+    ∷ text "a name refers to nothing that fits"
+    ∷ text "a chain of bases has a cycle, over 16 structs or a member twice"
+    ∷ text "a union does not fit its discriminator and branches"
+    ∷ text "the alternatives of an alternate can not be told apart"
+    ∷ text "a command returns no struct, no union and no array of these"
+    ∷ text "the table would have more than 1,024 rows"
+    ∷ text "the table has more rows than there is room for"
+    ∷ []
+
+-- 01, Message answers: those of 21 to 30
+abbrev pub messageMeanings : List (List ℕ)
+messageMeanings =
+    text "the table is not sound"
+    ∷ text "the message is longer than 16,384 bytes"
+    ∷ text "the message is not JSON text"
+    ∷ text "the message nests deeper than 32 levels"
+    ∷ text "an object has a key twice"
+    ∷ text "the message is not an object with execute or exec-oob, arguments and id"
+    ∷ text "the schema has no command of that name"
+    ∷ text "the command may not run out of band"
+    ∷ text "the arguments have no reading at the command's types"
+    ∷ text "the reading has more records than there is room for"
+    ∷ []
+
+-- a meaning stands at its number; 0 and 14 to 20 refuse nothing
+abbrev pub meanings : List (List ℕ)
+meanings = [] ∷ (schemaMeanings ++ (replicate 7 [] ++ messageMeanings))
+
+abbrev pub meaningOf : ℕ → List ℕ
+meaningOf n = getD meanings n []
+
+-- no meaning is longer
+abbrev pub longest-meaning : ℕ
+longest-meaning = 71
+
+-- the number, and its meaning
+unfoldable pub refusedLine : ℕ → List ℕ
+refusedLine n = decimalText n ++ (text " " ++ (meaningOf n ++ (10 ∷ [])))
+
+abbrev pub refusal-room : ℕ
+refusal-room = number-room + longest-meaning + 1
+
+-- 0 and the count of rows; 0 and the command's name
+unfoldable pub rowsLine : ℕ → List ℕ
+rowsLine n = text "0 schema accepted, rows: " ++ (decimalText n ++ (10 ∷ []))
+
+unfoldable pub commandLine : List ℕ → List ℕ → ℕ → List ℕ
+commandLine S T c = text "0 " ++ (shown (nameOf S T c) ++ (10 ∷ []))
+
+abbrev pub command-room : ℕ
+command-room = shown-room + 3
+
+abbrev pub schemaHead : SchemaAnswer → List ℕ
+schemaHead (SA.Accepted n) = rowsLine n
+schemaHead (SA.Refused x) = refusedLine (Schemas.refusalNumber x)
+
+abbrev pub messageHead : List ℕ → List ℕ → MessageAnswer → List ℕ
+messageHead S T (MA.Accepted c n) = commandLine S T c
+messageHead S T (MA.Refused x) = refusedLine (Messages.refusalNumber x)
