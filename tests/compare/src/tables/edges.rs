@@ -1,6 +1,8 @@
 //! Fixed tables at the edges, each sound or not by the paper.
 
-use harness::{Check, Tally};
+use std::time::{Duration, Instant};
+
+use harness::{ensure, Check, Tally};
 
 use super::compare_table;
 use crate::schemas::table_of;
@@ -24,6 +26,7 @@ pub fn compare(tally: &mut Tally) -> Check {
         check(&[], &vec![b'a'; length], sound)?;
     }
     check_spans(&mut check)?;
+    check_endless_counts(&mut check)?;
     check_room_of_a_compiled_table(&mut check)?;
     check_relinked_tables(&mut check)
 }
@@ -54,6 +57,33 @@ fn check_spans(check: &mut impl FnMut(&[u32], &[u8], bool) -> Check) -> Check {
     }
     Ok(())
 }
+
+/// A count of 2^32 - 1, of each kind of row that counts, an inline struct's too: refused before a walk could run it out.
+fn check_endless_counts(check: &mut impl FnMut(&[u32], &[u8], bool) -> Check) -> Check {
+    let schema = b"{'enum':'E','data':['v']}{'struct':'S','data':{'m':'int'}}
+        {'union':'U','base':{'t':'E'},'discriminator':'t','data':{'v':'S'}}{'alternate':'A','data':{'x':'U'}}
+        {'command':'c','data':{'*a':['A']},'returns':['S']}";
+    let table = table_of(schema);
+    check(&table, schema, true)?;
+    let began = Instant::now();
+    for row in 0..table.len() / 8 {
+        let count = match table[row * 8] {
+            1 | 3 | 7 => row * 8 + 3,
+            5 => row * 8 + 4,
+            _ => continue,
+        };
+        for endless in [u32::MAX, u32::MAX - row as u32, 1 << 31] {
+            let mut words = table.clone();
+            words[count] = endless;
+            check(&words, schema, false)?;
+        }
+    }
+    let took = began.elapsed();
+    ensure(took < AT_ONCE, || format!("counts of 2^32 - 1 took {took:?}"))
+}
+
+/// Far more than the judge needs for some fifty tables of 13 rows, far less than a walk of 2^32 rows takes.
+const AT_ONCE: Duration = Duration::from_secs(1);
 
 /// The first rows of a table are sound where they end with a definition; with more of the room after them none are.
 fn check_room_of_a_compiled_table(check: &mut impl FnMut(&[u32], &[u8], bool) -> Check) -> Check {
