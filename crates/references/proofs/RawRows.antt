@@ -25,7 +25,7 @@ use Rattle.references.specs.Lookups.{wordRefers, found}
 use Rattle.references.specs.Steps.{putAt, foundAt, putData, foundData, putCommand, foundCommand, putRow, foundRow}
 use Rattle.references.proofs.SlotLaws.{row-struct, row-member, row-union, row-branch, row-alternative, row-command, row-other}
 use Rattle.rules.proofs.TableRows.{next-above}
-use Rattle.references.proofs.RawWords.{rawTag, linkRefers, types-word, types-found, data-word}
+use Rattle.references.proofs.RawWords.{rawDiscriminator, linkRefers, types-word, types-found, data-word}
 
 -- words behind r rows
 module _ (X W : List ℕ) (r : ℕ) (n : length X ≡ row-words * r) where
@@ -71,7 +71,7 @@ module _ (S : List ℕ) (ds : List Definition) where
   entryRefers (structRow n b c) = linkRefers S ds b
   entryRefers (inlineRow c) = true
   entryRefers (memberRow m) = isTypeName S ds (m .type)
-  entryRefers (unionRow n b tag c) = linkRefers S ds b
+  entryRefers (unionRow n b discriminator c) = linkRefers S ds b
   entryRefers (branchRow p) = isStructName S ds (p .type)
   entryRefers (alternativeRow p) = isTypeName S ds (one (p .type))
   entryRefers (commandRow n a t oob) = linkRefers S ds a && isTypeName S ds t
@@ -84,7 +84,7 @@ NamedRow (valueRow n) = Unit {0}
 NamedRow (structRow n b c) = isInlineData b ≡ false
 NamedRow (inlineRow c) = Unit {0}
 NamedRow (memberRow m) = Unit {0}
-NamedRow (unionRow n b tag c) = Unit {0}
+NamedRow (unionRow n b discriminator c) = Unit {0}
 NamedRow (branchRow p) = Unit {0}
 NamedRow (alternativeRow p) = Unit {0}
 NamedRow (commandRow n a t oob) = Unit {0}
@@ -107,24 +107,24 @@ module _ (S : List ℕ) (ds : List Definition) (short : length S ≤ schema-byte
       (rw (z, q, ← n) (set-behind X W i v), rw (z, q))
 
   -- its link to a base or to data
-  data-behind : (b : Data) (W : List ℕ) → LinkNames (Spans S) b → getD W 3 0 ≡ dataLink packed packed rawTag r b → Rows.owns (X ++ W) r ≡ isInlineData b
-      → (putData S T r (X ++ W) ≡ X ++ set W 3 (dataLink SL TN rawTag r b)) × (foundData S T r (X ++ W) ≡ linkRefers S ds b)
+  data-behind : (b : Data) (W : List ℕ) → LinkNames (Spans S) b → getD W 3 0 ≡ dataLink packed packed rawDiscriminator r b → Rows.owns (X ++ W) r ≡ isInlineData b
+      → (putData S T r (X ++ W) ≡ X ++ set W 3 (dataLink SL TN rawDiscriminator r b)) × (foundData S T r (X ++ W) ≡ linkRefers S ds b)
   unfolding putData foundData
   data-behind absent W p q i =
       let w = data-word S ds short spans r absent p refl in
-      let z = put-behind true 3 W (dataLink packed packed rawTag r absent) (dataLink SL TN rawTag r absent) q (w .0) in
+      let z = put-behind true 3 W (dataLink packed packed rawDiscriminator r absent) (dataLink SL TN rawDiscriminator r absent) q (w .0) in
       (rw i (z .0), rw i (z .1 ∙ w .1))
   data-behind (named m) W p q i =
       let w = data-word S ds short spans r (named m) p refl in
-      let z = put-behind true 3 W (dataLink packed packed rawTag r (named m)) (dataLink SL TN rawTag r (named m)) q (w .0) in
+      let z = put-behind true 3 W (dataLink packed packed rawDiscriminator r (named m)) (dataLink SL TN rawDiscriminator r (named m)) q (w .0) in
       (rw i (z .0), rw i (z .1 ∙ w .1))
   data-behind (inline ms) W p q i = (rw i (ap (λ l. X ++ l) (sym (set-getD W 3 0) ∙ ap (set W 3) q)), rw i)
 
   -- the row itself
   abbrev Step : Entry → List ℕ → Type 0
   Step e Y =
-      (putRow S T r (X ++ (wordsOf packed packed rawTag r e ++ Y)) ≡ X ++ (wordsOf SL TN rawTag r e ++ Y))
-      × (foundRow S T r (X ++ (wordsOf packed packed rawTag r e ++ Y)) ≡ entryRefers S ds e)
+      (putRow S T r (X ++ (wordsOf packed packed rawDiscriminator r e ++ Y)) ≡ X ++ (wordsOf SL TN rawDiscriminator r e ++ Y))
+      × (foundRow S T r (X ++ (wordsOf packed packed rawDiscriminator r e ++ Y)) ≡ entryRefers S ds e)
 
   kind-behind : (W : List ℕ) → getD W 0 0 ≡ kind (X ++ W) r
   kind-behind W = sym (word-behind X W r n 0)
@@ -134,56 +134,56 @@ module _ (S : List ℕ) (ds : List Definition) (short : length S ≤ schema-byte
   other W k p a b c d e f =
       row-other S (X ++ W) r (sym p ∙ kind-behind W) T (eqb-false k struct-kind a) (eqb-false k member-kind b) (eqb-false k union-kind c) (eqb-false k branch-kind d) (eqb-false k alternative-kind e) (eqb-false k command-kind f)
 
-  command-behind : (d : Data) (t : TypeText) (W : List ℕ) → LinkNames (Spans S) d → TypeNames (Spans S) t → getD W 3 0 ≡ dataLink packed packed rawTag r d
-      → getD (set W 3 (dataLink SL TN rawTag r d)) 5 0 ≡ typeOf packed packed rawTag t → Rows.owns (X ++ W) r ≡ isInlineData d
-      → (putCommand S T r (X ++ W) ≡ X ++ set (set W 3 (dataLink SL TN rawTag r d)) 5 (typeOf SL TN rawTag t))
+  command-behind : (d : Data) (t : TypeText) (W : List ℕ) → LinkNames (Spans S) d → TypeNames (Spans S) t → getD W 3 0 ≡ dataLink packed packed rawDiscriminator r d
+      → getD (set W 3 (dataLink SL TN rawDiscriminator r d)) 5 0 ≡ typeOf packed packed rawDiscriminator t → Rows.owns (X ++ W) r ≡ isInlineData d
+      → (putCommand S T r (X ++ W) ≡ X ++ set (set W 3 (dataLink SL TN rawDiscriminator r d)) 5 (typeOf SL TN rawDiscriminator t))
       × (foundCommand S T r (X ++ W) ≡ (linkRefers S ds d && isTypeName S ds t))
   unfolding putCommand foundCommand
   command-behind d t W p q a b i =
       let y = data-behind d W p a i in
-      let z = put-behind false 5 (set W 3 (dataLink SL TN rawTag r d)) (typeOf packed packed rawTag t) (typeOf SL TN rawTag t) b (types-word S ds short spans t q) in
+      let z = put-behind false 5 (set W 3 (dataLink SL TN rawDiscriminator r d)) (typeOf packed packed rawDiscriminator t) (typeOf SL TN rawDiscriminator t) b (types-word S ds short spans t q) in
       (ap (putAt S T false (row-words * r + returns-word)) (y .0) ∙ z .0, ap₂ _&&_ (y .1) (ap (foundAt S T false (row-words * r + returns-word)) (y .0) ∙ z .1 ∙ types-found S ds short spans t q))
 
   pub row-step : (e : Entry) (Y : List ℕ) → EntryNames (Spans S) e → NamedRow e
-      → Rows.owns (X ++ (wordsOf packed packed rawTag r e ++ Y)) r ≡ owns e → Step e Y
-  row-step (enumRow m c) Y p b i = other (wordsOf packed packed rawTag r (enumRow m c) ++ Y) 1 refl refl refl refl refl refl refl
-  row-step (alternateRow m c) Y p b i = other (wordsOf packed packed rawTag r (alternateRow m c) ++ Y) 7 refl refl refl refl refl refl refl
-  row-step (valueRow m) Y p b i = other (wordsOf packed packed rawTag r (valueRow m) ++ Y) 2 refl refl refl refl refl refl refl
+      → Rows.owns (X ++ (wordsOf packed packed rawDiscriminator r e ++ Y)) r ≡ owns e → Step e Y
+  row-step (enumRow m c) Y p b i = other (wordsOf packed packed rawDiscriminator r (enumRow m c) ++ Y) 1 refl refl refl refl refl refl refl
+  row-step (alternateRow m c) Y p b i = other (wordsOf packed packed rawDiscriminator r (alternateRow m c) ++ Y) 7 refl refl refl refl refl refl refl
+  row-step (valueRow m) Y p b i = other (wordsOf packed packed rawDiscriminator r (valueRow m) ++ Y) 2 refl refl refl refl refl refl refl
   row-step (structRow m d c) Y p b i =
-      let W : List ℕ = wordsOf packed packed rawTag r (structRow m d c) ++ Y in
+      let W : List ℕ = wordsOf packed packed rawDiscriminator r (structRow m d c) ++ Y in
       let w = data-word S ds short spans r d (p .1) b in
       let x = row-struct S (X ++ W) r (kind-behind W) T refl in
-      let y = put-behind true 4 W (dataLink packed packed rawTag r d) (dataLink SL TN rawTag r d) refl (w .0) in
+      let y = put-behind true 4 W (dataLink packed packed rawDiscriminator r d) (dataLink SL TN rawDiscriminator r d) refl (w .0) in
       (x .0 ∙ y .0, x .1 ∙ y .1 ∙ w .1)
   row-step (inlineRow c) Y p b i =
-      let W : List ℕ = wordsOf packed packed rawTag r (inlineRow c) ++ Y in
+      let W : List ℕ = wordsOf packed packed rawDiscriminator r (inlineRow c) ++ Y in
       let w = data-word S ds short spans r absent tt refl in
       let x = row-struct S (X ++ W) r (kind-behind W) T refl in
       let y = put-behind true 4 W 0 0 refl (w .0) in
       (x .0 ∙ y .0, x .1 ∙ y .1)
   row-step (memberRow m) Y p b i =
-      let W : List ℕ = wordsOf packed packed rawTag r (memberRow m) ++ Y in
+      let W : List ℕ = wordsOf packed packed rawDiscriminator r (memberRow m) ++ Y in
       let x = row-member S (X ++ W) r (kind-behind W) T refl in
-      let y = put-behind false 3 W (typeOf packed packed rawTag (m .type)) (typeOf SL TN rawTag (m .type)) refl (types-word S ds short spans (m .type) (p .1)) in
+      let y = put-behind false 3 W (typeOf packed packed rawDiscriminator (m .type)) (typeOf SL TN rawDiscriminator (m .type)) refl (types-word S ds short spans (m .type) (p .1)) in
       (x .0 ∙ y .0, x .1 ∙ y .1 ∙ types-found S ds short spans (m .type) (p .1))
-  row-step (unionRow m d tag c) Y p b i =
-      let W : List ℕ = wordsOf packed packed rawTag r (unionRow m d tag c) ++ Y in
+  row-step (unionRow m d discriminator c) Y p b i =
+      let W : List ℕ = wordsOf packed packed rawDiscriminator r (unionRow m d discriminator c) ++ Y in
       let x = row-union S (X ++ W) r (kind-behind W) T refl in
       let y = data-behind d W (p .1) refl i in
       (x .0 ∙ y .0, x .1 ∙ y .1)
   row-step (branchRow q) Y p b i =
-      let W : List ℕ = wordsOf packed packed rawTag r (branchRow q) ++ Y in
+      let W : List ℕ = wordsOf packed packed rawDiscriminator r (branchRow q) ++ Y in
       let w = data-word S ds short spans r (named (q .type)) (p .1) refl in
       let x = row-branch S (X ++ W) r (kind-behind W) T refl in
       let y = put-behind true 3 W (packed (q .type)) (SL (q .type)) refl (w .0) in
       (x .0 ∙ y .0, x .1 ∙ y .1 ∙ w .1)
   row-step (alternativeRow q) Y p b i =
-      let W : List ℕ = wordsOf packed packed rawTag r (alternativeRow q) ++ Y in
+      let W : List ℕ = wordsOf packed packed rawDiscriminator r (alternativeRow q) ++ Y in
       let x = row-alternative S (X ++ W) r (kind-behind W) T refl in
       let y = put-behind false 3 W (packed (q .type)) (TN (q .type)) refl (types-word S ds short spans (one (q .type)) (p .1)) in
       (x .0 ∙ y .0, x .1 ∙ y .1 ∙ types-found S ds short spans (one (q .type)) (p .1))
   row-step (commandRow m d t oob) Y p b i =
-      let W : List ℕ = wordsOf packed packed rawTag r (commandRow m d t oob) ++ Y in
+      let W : List ℕ = wordsOf packed packed rawDiscriminator r (commandRow m d t oob) ++ Y in
       let x = row-command S (X ++ W) r (kind-behind W) T refl in
       let y = command-behind d t W (p .1) (p .2) refl refl i in
       (x .0 ∙ y .0, x .1 ∙ y .1)

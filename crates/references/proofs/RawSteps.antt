@@ -21,7 +21,7 @@ use Rattle.rules.proofs.Cells.{table-words, length-words, words-append, every-a
 use Rattle.rules.proofs.CellRows.{Behind, owns-is}
 use Rattle.rows.proofs.ListLaws.{all-append, all-map}
 use Rattle.references.specs.Steps.{putRow, foundRow, putRows, foundRows}
-use Rattle.references.proofs.RawWords.{rawTag, linkRefers, all-behind}
+use Rattle.references.proofs.RawWords.{rawDiscriminator, linkRefers, all-behind}
 use Rattle.references.proofs.RawRows.{entryRefers, NamedRow, owns-behind, row-step}
 
 -- no entry of a struct has a base that is written out
@@ -38,7 +38,7 @@ base-named n (named m) ms p = refl
 body-named : (n : Name) (b : Body) → NamedBase b → Every NamedRow (ownEntry n b ∷ childEntries b)
 body-named n (enum vs) p = (tt, every-is valueRow NamedRow (λ _. tt) vs)
 body-named n (struct b ms) p = (base-named n b ms p, every-is memberRow NamedRow (λ _. tt) ms)
-body-named n (union b tag bs) p = (tt, every-append NamedRow (inlineEntries b) (map branchRow bs) (inline-named b) (every-is branchRow NamedRow (λ _. tt) bs))
+body-named n (union b discriminator bs) p = (tt, every-append NamedRow (inlineEntries b) (map branchRow bs) (inline-named b) (every-is branchRow NamedRow (λ _. tt) bs))
 body-named n (alternate alts) p = (tt, every-is alternativeRow NamedRow (λ _. tt) alts)
 body-named n (command a t oob) p = (tt, inline-named a)
 
@@ -83,34 +83,34 @@ module _ (S : List ℕ) (ds : List Definition) (short : length S ≤ schema-byte
   abbrev es : List Entry
   es = entries ds
 
-  pub raw-words : T ≡ wordsFrom packed packed rawTag 0 es
+  pub raw-words : T ≡ wordsFrom packed packed rawDiscriminator 0 es
   unfolding rawFrom
-  raw-words = table-words packed packed rawTag 0 ds
+  raw-words = table-words packed packed rawDiscriminator 0 ds
 
   -- the rows once those below row r are resolved
   abbrev halfway : ℕ → List ℕ
-  halfway r = wordsFrom SL TN rawTag 0 (take r es) ++ wordsFrom packed packed rawTag r (drop r es)
+  halfway r = wordsFrom SL TN rawDiscriminator 0 (take r es) ++ wordsFrom packed packed rawDiscriminator r (drop r es)
 
   owns-half : (r : ℕ) → r < length es → Rows.owns (halfway r) r ≡ owns (getD es r blank)
   owns-half r l =
       let k : r ≤ length es = omega arith in
-      owns-behind (wordsFrom SL TN rawTag 0 (take r es)) (wordsFrom packed packed rawTag 0 (take r es)) (wordsFrom packed packed rawTag r (drop r es)) r
-      (length-below SL TN rawTag es r k) (length-below packed packed rawTag es r k)
-      ∙ ap (λ u. Rows.owns u r) (sym (rows-split packed packed rawTag es r k))
-      ∙ owns-is packed packed rawTag es (entry-names Behind ds (all-behind S ds short spans)) (entries-follow ds blank refl) r l
+      owns-behind (wordsFrom SL TN rawDiscriminator 0 (take r es)) (wordsFrom packed packed rawDiscriminator 0 (take r es)) (wordsFrom packed packed rawDiscriminator r (drop r es)) r
+      (length-below SL TN rawDiscriminator es r k) (length-below packed packed rawDiscriminator es r k)
+      ∙ ap (λ u. Rows.owns u r) (sym (rows-split packed packed rawDiscriminator es r k))
+      ∙ owns-is packed packed rawDiscriminator es (entry-names Behind ds (all-behind S ds short spans)) (entries-follow ds blank refl) r l
 
   half-next : (r : ℕ) → r < length es → (putRow S T r (halfway r) ≡ halfway (suc r)) × (foundRow S T r (halfway r) ≡ entryRefers S ds (getD es r blank))
   half-next r l =
       let k : r ≤ length es = omega arith in
       let e : Entry = getD es r blank in
-      let X : List ℕ = wordsFrom SL TN rawTag 0 (take r es) in
-      let Y : List ℕ = wordsFrom packed packed rawTag (suc r) (drop (suc r) es) in
-      let m : halfway r ≡ X ++ (wordsOf packed packed rawTag r e ++ Y) = ap (λ l. X ++ l) (rows-from packed packed rawTag es r l) in
-      let i : Rows.owns (X ++ (wordsOf packed packed rawTag r e ++ Y)) r ≡ owns e = ap (λ u. Rows.owns u r) (sym m) ∙ owns-half r l in
-      let s = row-step S ds short spans X r (length-below SL TN rawTag es r k) e Y
+      let X : List ℕ = wordsFrom SL TN rawDiscriminator 0 (take r es) in
+      let Y : List ℕ = wordsFrom packed packed rawDiscriminator (suc r) (drop (suc r) es) in
+      let m : halfway r ≡ X ++ (wordsOf packed packed rawDiscriminator r e ++ Y) = ap (λ l. X ++ l) (rows-from packed packed rawDiscriminator es r l) in
+      let i : Rows.owns (X ++ (wordsOf packed packed rawDiscriminator r e ++ Y)) r ≡ owns e = ap (λ u. Rows.owns u r) (sym m) ∙ owns-half r l in
+      let s = row-step S ds short spans X r (length-below SL TN rawDiscriminator es r k) e Y
       (every-at (EntryNames (Spans S)) blank es (entry-names (Spans S) ds spans) r l) (every-at NamedRow blank es (entries-named ds bases) r l) i in
-      let n : X ++ (wordsOf SL TN rawTag r e ++ Y) ≡ halfway (suc r) =
-      sym (append-assoc X (wordsOf SL TN rawTag r e) Y) ∙ ap (λ l. l ++ Y) (sym (rows-below SL TN rawTag es r l)) in
+      let n : X ++ (wordsOf SL TN rawDiscriminator r e ++ Y) ≡ halfway (suc r) =
+      sym (append-assoc X (wordsOf SL TN rawDiscriminator r e) Y) ∙ ap (λ l. l ++ Y) (sym (rows-below SL TN rawDiscriminator es r l)) in
       (ap (putRow S T r) m ∙ s .0 ∙ n, ap (foundRow S T r) m ∙ s .1)
 
   found-next : (r : ℕ) → r < length es → all (entryRefers S ds) (take (suc r) es) ≡ (all (entryRefers S ds) (take r es) && entryRefers S ds (getD es r blank))
@@ -127,7 +127,7 @@ module _ (S : List ℕ) (ds : List Definition) (short : length S ≤ schema-byte
       (ap (putRow S T r) (s .0) ∙ n .0, ap₂ _&&_ (s .1) (ap (foundRow S T r) (s .0) ∙ n .1) ∙ sym (found-next r l))
 
   -- all rows
-  pub rows-resolved : (putRows S T (length es) ≡ wordsFrom SL TN rawTag 0 es) × (foundRows S T (length es) ≡ all (entryRefers S ds) es)
+  pub rows-resolved : (putRows S T (length es) ≡ wordsFrom SL TN rawDiscriminator 0 es) × (foundRows S T (length es) ≡ all (entryRefers S ds) es)
   unfolding wordsFrom
   rows-resolved =
       let s = steps (length es) (omega arith) in
@@ -153,7 +153,7 @@ module _ (S : List ℕ) (ds : List Definition) (short : length S ≤ schema-byte
       own absent p = refl
       own (inline ns) p = absurd p
       own (named m) p = refl
-  body-refers n (union b tag bs) p =
+  body-refers n (union b discriminator bs) p =
       ap (λ t. linkRefers S ds b && t) (all-append (entryRefers S ds) (inlineEntries b) (map branchRow bs))
       ∙ sym (and-assoc (linkRefers S ds b) (all (entryRefers S ds) (inlineEntries b)) (all (entryRefers S ds) (map branchRow bs)))
       ∙ ap₂ _&&_ (inline-refer b) (all-map branchRow (entryRefers S ds) bs)

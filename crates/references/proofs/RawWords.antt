@@ -25,8 +25,8 @@ use Rattle.table.specs.Definitions.{definitionRows}
 use Rattle.references.specs.Lookups.{nameIn, fitting, findRow, wordRefers, found}
 
 -- discriminators as raw rows have them
-abbrev pub rawTag : ℕ → Name → ℕ
-rawTag r n = packed n
+abbrev pub rawDiscriminator : ℕ → Name → ℕ
+rawDiscriminator r n = packed n
 
 module _ (S : List ℕ) (short : length S ≤ schema-bytes) (n : Name) (s : Spans S n) where
   packed-start : packed n / schema-bytes ≡ n .start
@@ -49,7 +49,7 @@ find-same S x f g e r (d ∷ ds) = rw (e (d .body), find-same S x f g e (r + row
 types-fit : (b : Body) → isType b ≡ fitting false (rowKind b)
 types-fit (enum vs) = refl
 types-fit (struct b ms) = refl
-types-fit (union b tag bs) = refl
+types-fit (union b discriminator bs) = refl
 types-fit (alternate alts) = refl
 types-fit (command a t oob) = refl
 
@@ -66,7 +66,7 @@ module _ (S : List ℕ) (ds : List Definition) (short : length S ≤ schema-byte
 
   row-found : (structs : Bool) (x : List ℕ) → findRow S (rawFrom 0 ds) structs x ≡ findFrom S (λ b. fitting structs (rowKind b)) x 0 ds
   unfolding findRow rawFrom definitionRows
-  row-found structs x = sym (find-is packed packed rawTag ds all-behind S (fitting structs) x)
+  row-found structs x = sym (find-is packed packed rawDiscriminator ds all-behind S (fitting structs) x)
 
   pub struct-word : (n : Name) → Spans S n → wordRefers S (rawFrom 0 ds) true (packed n) ≡ structLink S ds n
   unfolding wordRefers
@@ -93,20 +93,20 @@ module _ (S : List ℕ) (ds : List Definition) (short : length S ≤ schema-byte
   abbrev TN : Name → ℕ
   TN = typeNamed S ds
 
-  pub types-word : (t : TypeText) → TypeNames (Spans S) t → wordRefers S (rawFrom 0 ds) false (typeOf packed packed rawTag t) ≡ typeOf SL TN rawTag t
+  pub types-word : (t : TypeText) → TypeNames (Spans S) t → wordRefers S (rawFrom 0 ds) false (typeOf packed packed rawDiscriminator t) ≡ typeOf SL TN rawDiscriminator t
   types-word nothing p = none-word false
   types-word (one n) p = type-word n p
   types-word (listOf n) p = type-word n p
 
-  pub types-found : (t : TypeText) → TypeNames (Spans S) t → found (typeOf packed packed rawTag t) (typeOf SL TN rawTag t) ≡ isTypeName S ds t
+  pub types-found : (t : TypeText) → TypeNames (Spans S) t → found (typeOf packed packed rawDiscriminator t) (typeOf SL TN rawDiscriminator t) ≡ isTypeName S ds t
   types-found nothing p = refl
   types-found (one n) p = found-word n (TN n) p
   types-found (listOf n) p = found-word n (TN n) p
 
   -- bases and data that are not inline
   pub data-word : (r : ℕ) (b : Data) → LinkNames (Spans S) b → isInlineData b ≡ false
-      → (wordRefers S (rawFrom 0 ds) true (dataLink packed packed rawTag r b) ≡ dataLink SL TN rawTag r b)
-      × (found (dataLink packed packed rawTag r b) (dataLink SL TN rawTag r b) ≡ linkRefers S ds b)
+      → (wordRefers S (rawFrom 0 ds) true (dataLink packed packed rawDiscriminator r b) ≡ dataLink SL TN rawDiscriminator r b)
+      × (found (dataLink packed packed rawDiscriminator r b) (dataLink SL TN rawDiscriminator r b) ≡ linkRefers S ds b)
   data-word r absent p e = (none-word true, refl)
   data-word r (inline ms) p e = absurd (clash refl e)
   data-word r (named n) p e = (struct-word n p, found-word n (SL n) p)

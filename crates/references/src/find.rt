@@ -11,7 +11,7 @@ use rows::rows::word;
 use rules::SCHEMA_BYTES;
 use rules::kind;
 use rules::row;
-use table::definitions::built_in;
+use table::names::built_in;
 ghost use mathlib.Core.Path.{_≡_};
 ghost use Prim.Native.Nat.{_<_, _^_};
 ghost use lib.ListN.{length};

@@ -1,12 +1,12 @@
 // The resolver: raw rows, in which names that refer are words that name them, become the table of the schema, in place.
+pub mod discriminators;
 pub mod find;
 pub mod slots;
-pub mod tags;
 
+use crate::discriminators::put_discriminators;
 use crate::slots::resolve_rows;
-use crate::tags::tag_rows;
 use buckets::BUCKETS;
-use table::definitions::index_definitions;
+use table::names::index_definitions;
 ghost use Prim.Native.Nat.{_*_, _≤_, _<_, _^_};
 ghost use lib.ListN.{length};
 ghost use Rattle.grammar.specs.Limits.{row-words};
@@ -20,6 +20,6 @@ pub fn resolve(s: &[u8], rows: &mut [u32], links: &mut [u32]) -> bool
     let mut heads = [0u32; BUCKETS];
     index_definitions(s, rows, &mut heads, links);
     let all = resolve_rows(s, rows, &heads, links);
-    tag_rows(s, rows);
+    put_discriminators(s, rows);
     all
 }

@@ -4,6 +4,15 @@ use mathlib.Core.Path.{_≡_}
 use mathlib.Core.List.{List}
 use Rattle.rules.specs.Rows.{next, firstChild, childCount}
 
+-- A row's number as loops and words give it: a table has fewer than 2 ^ 32 words, and a link or a type reference fits one. So counting the rows of
+-- a walk from there on, of which there are at most 2 ^ 32 again, goes past no number of the machine.
+abbrev pub Near : ℕ → Type 0
+Near r = r < 2 ^ 39
+
+-- a row whose inline struct and children can still be counted, wherever a walk has led: past 2 ^ 61 a walk goes on by single rows only
+abbrev pub Countable : ℕ → Type 0
+Countable r = r < 2 ^ 61 + 2 ^ 34
+
 -- n is the next of row r; it is the row after it, or no larger than the words of a table allow
 pub record Follows (T : List ℕ) (r n : ℕ) : Type 0 where
   pub is : n ≡ next T r

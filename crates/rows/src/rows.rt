@@ -6,7 +6,7 @@ ghost use mathlib.Core.Path.{_≡_};
 ghost use Prim.Native.Nat.{_+_, _-_, _*_, _≤_, _<_, _^_};
 ghost use Rattle.rules.specs.Rows as Rows;
 ghost use Rattle.rules.specs.Rows.{past, unnamed, owns, pastChildren};
-ghost use Rattle.rows.specs.Rows.{Follows, Room, First, Counted};
+ghost use Rattle.rows.specs.Rows.{Countable, Follows, Room, First, Counted};
 
 pub fn wide(x: u32) -> usize
     ensures { λ r. ⌜ r ≡ x ⌝ }
@@ -68,7 +68,7 @@ pub fn is_unnamed(rows: &[u32], r: usize) -> bool
 
 // Whether row r is a union or a command whose inline struct follows it.
 pub fn owns_struct(rows: &[u32], r: usize) -> bool
-    requires { ⌜ r < 2 ^ 61 + 2 ^ 34 ⌝ }
+    requires { ⌜ Countable r ⌝ }
     ensures { λ b. ⌜ b ≡ owns (now (rows .entry)) r ⌝ }
 {
     let owner = word(rows, r, row::KIND);
@@ -100,7 +100,7 @@ pub fn child_count(rows: &[u32], r: usize) -> usize
 
 // The first child of row r.
 pub fn first_child(rows: &[u32], r: usize) -> usize
-    requires { ⌜ r < 2 ^ 61 + 2 ^ 34 ⌝ }
+    requires { ⌜ Countable r ⌝ }
     ensures { λ n. ⌜ First (now (rows .entry)) r n ⌝ }
 {
     let s = next_row(rows, r);
@@ -112,7 +112,7 @@ pub fn first_child(rows: &[u32], r: usize) -> usize
 
 // The row after all that belongs to row r.
 pub fn past_children(rows: &[u32], r: usize) -> usize
-    requires { ⌜ r < 2 ^ 61 + 2 ^ 34 ⌝ }
+    requires { ⌜ Countable r ⌝ }
     ensures { λ n. ⌜ n ≡ pastChildren (now (rows .entry)) r ⌝ }
 {
     past_rows(rows, first_child(rows, r), child_count(rows, r))

@@ -56,18 +56,18 @@ entries [] = []
 entries (d ∷ ds) = (ownEntry (d .name) (d .body) ∷ childEntries (d .body)) ++ entries ds
 
 -- The words of an entry at row r, and of entries from row r on.
-module _ (asStruct asType : Name → ℕ) (asTag : ℕ → Name → ℕ) where
+module _ (asStruct asType : Name → ℕ) (asDiscriminator : ℕ → Name → ℕ) where
   abbrev pub wordsOf : ℕ → Entry → List ℕ
   wordsOf r (enumRow n c) = row enum-kind n c 0 0 0
   wordsOf r (valueRow n) = row value-kind n 0 0 0 0
-  wordsOf r (structRow n b c) = row struct-kind n c (dataLink asStruct asType asTag r b) 0 0
+  wordsOf r (structRow n b c) = row struct-kind n c (dataLink asStruct asType asDiscriminator r b) 0 0
   wordsOf r (inlineRow c) = row struct-kind unnamed c 0 0 0
-  wordsOf r (memberRow m) = row member-kind (m .name) (typeOf asStruct asType asTag (m .type)) (flag (isList (m .type))) (flag (m .optional)) 0
-  wordsOf r (unionRow n b tag c) = row union-kind n (dataLink asStruct asType asTag r b) c (asTag r tag) 0
+  wordsOf r (memberRow m) = row member-kind (m .name) (typeOf asStruct asType asDiscriminator (m .type)) (flag (isList (m .type))) (flag (m .optional)) 0
+  wordsOf r (unionRow n b tag c) = row union-kind n (dataLink asStruct asType asDiscriminator r b) c (asDiscriminator r tag) 0
   wordsOf r (branchRow p) = row branch-kind (p .name) (asStruct (p .type)) 0 0 0
   wordsOf r (alternateRow n c) = row alternate-kind n c 0 0 0
   wordsOf r (alternativeRow p) = row alternative-kind (p .name) (asType (p .type)) 0 0 0
-  wordsOf r (commandRow n a t oob) = row command-kind n (dataLink asStruct asType asTag r a) (flag oob) (typeOf asStruct asType asTag t) (flag (isList t))
+  wordsOf r (commandRow n a t oob) = row command-kind n (dataLink asStruct asType asDiscriminator r a) (flag oob) (typeOf asStruct asType asDiscriminator t) (flag (isList t))
 
   unfoldable pub wordsFrom : ℕ → List Entry → List ℕ
   wordsFrom r [] = []

@@ -25,7 +25,7 @@ dataRows (named n) = 0
 abbrev pub rowsTaken : Body → ℕ
 rowsTaken (enum vs) = suc (length vs)
 rowsTaken (struct b ms) = suc (length ms)
-rowsTaken (union b tag bs) = suc (dataRows b + length bs)
+rowsTaken (union b discriminator bs) = suc (dataRows b + length bs)
 rowsTaken (alternate alts) = suc (length alts)
 rowsTaken (command a t oob) = suc (dataRows a)
 
@@ -33,7 +33,7 @@ rowsTaken (command a t oob) = suc (dataRows a)
 abbrev pub rowKind : Body → ℕ
 rowKind (enum vs) = enum-kind
 rowKind (struct b ms) = struct-kind
-rowKind (union b tag bs) = union-kind
+rowKind (union b discriminator bs) = union-kind
 rowKind (alternate alts) = alternate-kind
 rowKind (command a t oob) = command-kind
 
@@ -75,7 +75,7 @@ isList (one n) = false
 isList (listOf n) = true
 
 -- The rows, given what word each name that refers becomes: as a struct, as a type, and as the discriminator of the union at a row.
-module _ (asStruct asType : Name → ℕ) (asTag : ℕ → Name → ℕ) where
+module _ (asStruct asType : Name → ℕ) (asDiscriminator : ℕ → Name → ℕ) where
   abbrev pub typeOf : TypeText → ℕ
   typeOf nothing = 0
   typeOf (one n) = asType n
@@ -99,8 +99,8 @@ module _ (asStruct asType : Name → ℕ) (asTag : ℕ → Name → ℕ) where
   abbrev pub rowsOf : ℕ → Name → Body → List ℕ
   rowsOf r n (enum vs) = row enum-kind n (length vs) 0 0 0 ++ concat (map (λ (v : Name). row value-kind v 0 0 0 0) vs)
   rowsOf r n (struct b ms) = row struct-kind n (length ms) (dataLink r b) 0 0 ++ memberRows ms
-  rowsOf r n (union b tag bs) =
-      row 5 n (dataLink r b) (length bs) (asTag r tag) 0 ++ inlineStruct b ++ concat (map (λ (p : Pair). row branch-kind (p .name) (asStruct (p .type)) 0 0 0) bs)
+  rowsOf r n (union b discriminator bs) =
+      row union-kind n (dataLink r b) (length bs) (asDiscriminator r discriminator) 0 ++ inlineStruct b ++ concat (map (λ (p : Pair). row branch-kind (p .name) (asStruct (p .type)) 0 0 0) bs)
   rowsOf r n (alternate alts) = row alternate-kind n (length alts) 0 0 0 ++ concat (map (λ (p : Pair). row alternative-kind (p .name) (asType (p .type)) 0 0 0) alts)
   rowsOf r n (command a t oob) = row command-kind n (dataLink r a) (flag oob) (typeOf t) (flag (isList t)) ++ inlineStruct a
 
@@ -136,11 +136,11 @@ module _ (S : List ℕ) where
     typeNamed n = reference (placeIn built-ins (bytesOf n)) (findFrom isType (bytesOf n) 0 schema)
 
     -- the rows but for their discriminators, which are looked for among the members of the union's base
-    abbrev pub untagged : List ℕ
-    untagged = tableFrom structLink typeNamed (λ _ _. 0) 0 schema
+    abbrev pub withoutDiscriminators : List ℕ
+    withoutDiscriminators = tableFrom structLink typeNamed (λ _ _. 0) 0 schema
 
     abbrev pub discriminatorLink : ℕ → Name → ℕ
-    discriminatorLink r tag = memberOf untagged (bytesOf tag) (members untagged chain-structs (unionBase untagged r))
+    discriminatorLink r discriminator = memberOf withoutDiscriminators (bytesOf discriminator) (members withoutDiscriminators chain-structs (unionBase withoutDiscriminators r))
 
     -- the table of the schema
     unfoldable pub table : List ℕ
@@ -166,7 +166,7 @@ module _ (S : List ℕ) where
     abbrev pub refers : Body → Bool
     refers (enum vs) = true
     refers (struct b ms) = dataRefers b && membersRefer ms
-    refers (union b tag bs) = dataRefers b && all (λ (p : Pair). isStructName (p .type)) bs
+    refers (union b discriminator bs) = dataRefers b && all (λ (p : Pair). isStructName (p .type)) bs
     refers (alternate alts) = all (λ (p : Pair). isTypeName (one (p .type))) alts
     refers (command a t oob) = dataRefers a && isTypeName t
 

@@ -171,16 +171,16 @@ module _ (S T : List ℕ) where
     here : (b ≡ clearIn S T (r - 1) (definitionsFrom T r)) × (b ≡ true → RowIndex S T heads′ links′ (withRow T (r - 1) (definitionsFrom T r)))
     here = q .told (definitionsFrom T r) (v .index .rows) (free-before T (r - 1) r (omega arith)) (omega (arith, few-from T r))
 
-    is-clear : b ≡ definitionClear (r - 1)
-    is-clear = here .0 ∙ ap (λ k. clearIn S T (r - 1) (definitionsFrom T k)) (sym s)
+    clear-here : b ≡ definitionClear (r - 1)
+    clear-here = here .0 ∙ ap (λ k. clearIn S T (r - 1) (definitionsFrom T k)) (sym s)
 
     pub clear-hit : b ≡ false → false ≡ definitionsClear S T
-    clear-hit t = sym (clear-upTo ∙ upTo-miss definitionClear (rowCount T) (r - 1) 0 (omega arith) (omega (arith, v .index .high)) (sym is-clear ∙ t))
+    clear-hit t = sym (clear-upTo ∙ upTo-miss definitionClear (rowCount T) (r - 1) 0 (omega arith) (omega (arith, v .index .high)) (sym clear-here ∙ t))
 
     pub clear-next : b ≡ true → ClearFrom heads′ links′ (r - 1)
     clear-next t = record {
       index = index-before S T (v .index) low (here .1 t);
-      so-far = upTo-back definitionClear (rowCount T) (r - 1) (omega (arith, v .index .high)) (sym is-clear ∙ t)
+      so-far = upTo-back definitionClear (rowCount T) (r - 1) (omega (arith, v .index .high)) (sym clear-here ∙ t)
           (ap (λ k. upTo definitionClear k (rowCount T)) s ∙ v .so-far);
     }
 

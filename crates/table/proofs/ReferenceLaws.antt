@@ -74,9 +74,9 @@ module _ (T : List ℕ) (r : ℕ) where
     union-no-base e = rw (← p, e)
 
     module _ (e : owns T r || toStruct T l ≡ true) {d : ℕ} (q : d ≡ discriminator T r) where
-      pub union-no-tag : d ≡ 0 → false ≡ unionRefers T r
+      pub union-no-discriminator : d ≡ 0 → false ≡ unionRefers T r
       unfolding unionRefers
-      union-no-tag z = rw (← p, e, ← q, z)
+      union-no-discriminator z = rw (← p, e, ← q, z)
 
       pub union-is : (d ≡ 0 → ⊥) → {k : ℕ} → k ≡ kind T (d - 1) → eqb k member-kind ≡ unionRefers T r
       unfolding unionRefers

@@ -15,61 +15,61 @@ use Rattle.rules.specs.Rules.{any, is, namesOf, noClash, discriminatorRow, disc
 use Rattle.rules.proofs.Lists.{and-left, and-right}
 use Rattle.table.specs.Chains.{chainEnds, hasChild, isMember, membersApart}
 use Rattle.table.specs.declared.chains.Against.the-variants.{Members}
-use Rattle.table.specs.RuleParts.{isTag, tagFits, branchNew}
+use Rattle.table.specs.RuleParts.{canDiscriminate, discriminates, branchNew}
 use Rattle.rows.proofs.ListLaws.{all-same, any-same, any-none, is-guard}
 use Rattle.table.proofs.ChainLaws.{ends-is, is-member-is, members-apart-is}
 
--- a tag: mandatory, no array, of an enum type
+-- a row that can discriminate: mandatory, no array, of an enum type
 module _ (T : List ℕ) (d : ℕ) {o : ℕ} (p : o ≡ optional T d) where
-  pub tag-optional : (o ≡ 0 → ⊥) → false ≡ isTag T d
-  unfolding isTag
-  tag-optional n = rw (← p, ne-eqb o 0 n)
+  pub optional-fails : (o ≡ 0 → ⊥) → false ≡ canDiscriminate T d
+  unfolding canDiscriminate
+  optional-fails n = rw (← p, ne-eqb o 0 n)
 
   module _ (z : o ≡ 0) {a : ℕ} (q : a ≡ arrayMark T d) where
-    pub tag-array : (a ≡ 0 → ⊥) → false ≡ isTag T d
-    unfolding isTag
-    tag-array n = rw (← p, eq-eqb o 0 z, ← q, ne-eqb a 0 n)
+    pub array-fails : (a ≡ 0 → ⊥) → false ≡ canDiscriminate T d
+    unfolding canDiscriminate
+    array-fails n = rw (← p, eq-eqb o 0 z, ← q, ne-eqb a 0 n)
 
     module _ (y : a ≡ 0) {t : ℕ} (u : t ≡ typeRef T d) where
-      pub tag-built-in : t < 16 → false ≡ isTag T d
-      unfolding isTag
-      tag-built-in h = rw (← p, eq-eqb o 0 z, ← q, eq-eqb a 0 y, ← u, lt-leb 16 t h)
+      pub built-in-fails : t < 16 → false ≡ canDiscriminate T d
+      unfolding canDiscriminate
+      built-in-fails h = rw (← p, eq-eqb o 0 z, ← q, eq-eqb a 0 y, ← u, lt-leb 16 t h)
 
-      pub tag-is : 16 ≤ t → {k : ℕ} → k ≡ kind T (t - 16) → eqb k 1 ≡ isTag T d
-      unfolding isTag
-      tag-is h k = rw (← p, eq-eqb o 0 z, ← q, eq-eqb a 0 y, ← u, le-leb 16 t h, k)
+      pub enum-discriminates : 16 ≤ t → {k : ℕ} → k ≡ kind T (t - 16) → eqb k 1 ≡ canDiscriminate T d
+      unfolding canDiscriminate
+      enum-discriminates h k = rw (← p, eq-eqb o 0 z, ← q, eq-eqb a 0 y, ← u, le-leb 16 t h, k)
 
--- the discriminator of a union: a tag that is a member of the base
+-- the discriminator of a union: one that can discriminate, and a member of the base
 module _ (T : List ℕ) (r : ℕ) {d : ℕ} (p : d ≡ discriminator T r) where
-  pub discriminator-none : d ≡ 0 → false ≡ tagFits T r
-  unfolding tagFits
+  pub discriminator-none : d ≡ 0 → false ≡ discriminates T r
+  unfolding discriminates
   discriminator-none z = rw (← p, z)
 
   module _ (n : d ≡ 0 → ⊥) {l : ℕ} (q : l ≡ unionBase T r) where
-    pub discriminator-strange : isMember T chain-structs l (d - 1) ≡ false → false ≡ tagFits T r
-    unfolding tagFits
+    pub discriminator-strange : isMember T chain-structs l (d - 1) ≡ false → false ≡ discriminates T r
+    unfolding discriminates
     discriminator-strange e = rw (← p, lt-ltb 0 d (omega arith), ← q, e)
 
-    pub discriminator-is : isMember T chain-structs l (d - 1) ≡ true → {b : Bool} → b ≡ isTag T (d - 1) → b ≡ tagFits T r
-    unfolding tagFits
+    pub discriminator-is : isMember T chain-structs l (d - 1) ≡ true → {b : Bool} → b ≡ canDiscriminate T (d - 1) → b ≡ discriminates T r
+    unfolding discriminates
     discriminator-is e t = rw (← p, lt-ltb 0 d (omega arith), ← q, e) t
 
 module _ (T : List ℕ) (r : ℕ) where
-  pub tag-link : tagFits T r ≡ true → 0 < discriminator T r
-  unfolding tagFits
-  tag-link e = ltb-true 0 (discriminator T r) (search (and-left, and-right))
+  pub discriminator-linked : discriminates T r ≡ true → 0 < discriminator T r
+  unfolding discriminates
+  discriminator-linked e = ltb-true 0 (discriminator T r) (search (and-left, and-right))
 
-  pub tag-type : {d t : ℕ} → d ≡ discriminator T r → t ≡ typeRef T (d - 1) → tagFits T r ≡ true → 16 ≤ t
-  unfolding tagFits isTag
-  tag-type {d} {t} p q e =
+  pub discriminator-type : {d t : ℕ} → d ≡ discriminator T r → t ≡ typeRef T (d - 1) → discriminates T r ≡ true → 16 ≤ t
+  unfolding discriminates canDiscriminate
+  discriminator-type {d} {t} p q e =
       let h : first-row ≤ typeRef T (discriminatorRow T r) = leb-true first-row (typeRef T (discriminatorRow T r)) (search (and-left, and-right)) in
       rw (q, p) h
 
-  pub tag-fits-is : (ms : List ℕ) → members T chain-structs (unionBase T r) ≡ some ms → tagFits T r ≡ discriminatorFits T r ms
-  unfolding tagFits isTag
-  tag-fits-is ms e = go (discriminator T r) refl
+  pub discriminates-is : (ms : List ℕ) → members T chain-structs (unionBase T r) ≡ some ms → discriminates T r ≡ discriminatorFits T r ms
+  unfolding discriminates canDiscriminate
+  discriminates-is ms e = go (discriminator T r) refl
     where
-      go : (d : ℕ) → discriminator T r ≡ d → tagFits T r ≡ discriminatorFits T r ms
+      go : (d : ℕ) → discriminator T r ≡ d → discriminates T r ≡ discriminatorFits T r ms
       go zero q = rw (q, any-none (λ m. eqb 0 (suc m)) ms (λ m. eqb·zero-suc m))
       go (suc d) q =
           let z : suc d - 1 ≡ d = omega arith in
@@ -106,12 +106,12 @@ module _ (S T : List ℕ) where
 
   -- a union: some branch, a chain that ends, a discriminator that fits and branches that fit
   pub union-fits-is : (r : ℕ) → unionFits S T r ≡ ltb 0 (branchCount T r) && (chainEnds T chain-structs (unionBase T r)
-      && (tagFits T r && all (branchNew S T (discriminatorEnum T r) (unionBase T r)) (children T r)))
+      && (discriminates T r && all (branchNew S T (discriminatorEnum T r) (unionBase T r)) (children T r)))
   union-fits-is r =
-      let fits : Bool = tagFits T r && all (branchNew S T (discriminatorEnum T r) (unionBase T r)) (children T r) in
+      let fits : Bool = discriminates T r && all (branchNew S T (discriminatorEnum T r) (unionBase T r)) (children T r) in
       ap (λ (t : Bool). ltb 0 (branchCount T r) && t)
       (sym (rw (ends-is T chain-structs (unionBase T r)) (is-guard (members T chain-structs (unionBase T r)) _ fits
-      (λ ms m. ap₂ _&&_ (tag-fits-is T r ms m)
+      (λ ms m. ap₂ _&&_ (discriminates-is T r ms m)
       (all-same (branchNew S T (discriminatorEnum T r) (unionBase T r)) (branchFits S T r ms) (children T r) (branch-fits-is r (unionBase T r) ms m))))))
 
   module _ (r : ℕ) {n : ℕ} (p : n ≡ branchCount T r) where
@@ -119,15 +119,15 @@ module _ (S T : List ℕ) where
     union-empty z = rw (← p, z)
 
     module _ (h : n ≡ 0 → ⊥) {base : ℕ} (q : base ≡ unionBase T r) where
-      some-branch : unionFits S T r ≡ chainEnds T chain-structs base && (tagFits T r && all (branchNew S T (discriminatorEnum T r) base) (children T r))
+      some-branch : unionFits S T r ≡ chainEnds T chain-structs base && (discriminates T r && all (branchNew S T (discriminatorEnum T r) base) (children T r))
       some-branch = union-fits-is r ∙ rw (← p, lt-ltb 0 n (omega arith), ← q)
 
       pub union-endless : chainEnds T chain-structs base ≡ false → false ≡ unionFits S T r
       union-endless e = sym (some-branch ∙ rw e)
 
-      pub union-untagged : chainEnds T chain-structs base ≡ true → tagFits T r ≡ false → false ≡ unionFits S T r
-      union-untagged e t = sym (some-branch ∙ rw (e, t))
+      pub union-undiscriminated : chainEnds T chain-structs base ≡ true → discriminates T r ≡ false → false ≡ unionFits S T r
+      union-undiscriminated e t = sym (some-branch ∙ rw (e, t))
 
-      pub union-is : chainEnds T chain-structs base ≡ true → tagFits T r ≡ true → {d t : ℕ} → d ≡ discriminator T r → t ≡ typeRef T (d - 1)
+      pub union-is : chainEnds T chain-structs base ≡ true → discriminates T r ≡ true → {d t : ℕ} → d ≡ discriminator T r → t ≡ typeRef T (d - 1)
           → {b : Bool} → b ≡ all (branchNew S T (t - 16) base) (children T r) → b ≡ unionFits S T r
       union-is e t {d} u v f = f ∙ sym (some-branch ∙ rw (e, t, ← u, ← v))

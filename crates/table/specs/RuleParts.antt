@@ -44,12 +44,12 @@ module _ (T : List ℕ) where
       && (eqb (returns T r) 0 && eqb (returnsArray T r) 0 || toType T (returns T r) && isFlag T (returnsArray T r))
 
   -- row d is a mandatory member, no array, of an enum type
-  unfoldable pub isTag : ℕ → Bool
-  isTag d = eqb (optional T d) 0 && eqb (arrayMark T d) 0 && leb first-row (typeRef T d) && isEnum T (typeRef T d - first-row)
+  unfoldable pub canDiscriminate : ℕ → Bool
+  canDiscriminate d = eqb (optional T d) 0 && eqb (arrayMark T d) 0 && leb first-row (typeRef T d) && isEnum T (typeRef T d - first-row)
 
-  -- the discriminator of union r is a tag among the members of the base, as a walk up the chain finds them
-  unfoldable pub tagFits : ℕ → Bool
-  tagFits r = ltb 0 (discriminator T r) && isMember T chain-structs (unionBase T r) (discriminatorRow T r) && isTag (discriminatorRow T r)
+  -- the discriminator of union r can discriminate and is a member of the base, as a walk up the chain finds them
+  unfoldable pub discriminates : ℕ → Bool
+  discriminates r = ltb 0 (discriminator T r) && isMember T chain-structs (unionBase T r) (discriminatorRow T r) && canDiscriminate (discriminatorRow T r)
 
   -- no row of a list has a type of the JSON kind with the column k
   unfoldable pub kindNew : ℕ → List ℕ → Bool

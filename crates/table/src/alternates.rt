@@ -13,7 +13,7 @@ ghost use Prim.Native.Nat.{_<_, _^_};
 ghost use lib.ListN.{length};
 ghost use Rattle.rules.specs.Rows.{walk, typeKind};
 ghost use Rattle.rules.specs.Rules.{alternateFits, goodAlternates};
-ghost use Rattle.rows.specs.Rows.{Room};
+ghost use Rattle.rows.specs.Rows.{Near, Room};
 ghost use Rattle.table.specs.RuleParts.{columnOr6, rowColumn, kindNew, kindsFit};
 
 // The JSON kind of a type, as its column of the grid; 6 if it has none.
@@ -83,7 +83,7 @@ fn kinds_apart(rows: &[u32], a: usize, n: usize) -> bool
 }
 
 fn alternate_fits(rows: &[u32], r: usize) -> bool
-    requires { ⌜ r < 2 ^ 38 ⌝ }
+    requires { ⌜ Near r ⌝ }
     ensures { λ b. ⌜ b ≡ alternateFits (now (rows .entry)) r ⌝ }
 {
     if word(rows, r, row::COUNT) == 0 {

@@ -18,6 +18,7 @@ ghost use lib.Dec.{eqb};
 ghost use lib.ListN.{length};
 ghost use Rattle.rules.specs.Rows.{children, nameOf};
 ghost use Rattle.rules.specs.Rules.{any, chainFits, goodChains};
+ghost use Rattle.rows.specs.Rows.{Near};
 ghost use Rattle.rows.specs.Marks.{Marks};
 ghost use Rattle.table.specs.Chains.{chainEnds, hasChild, isMember, listsApart, numberOf, membersApart};
 
@@ -39,7 +40,7 @@ pub fn chain_ends(rows: &[u32], link: usize, left: usize) -> bool
 
 // Whether row r has a child with the name of row c.
 pub fn has_child(schema: &[u8], rows: &[u32], marks: &[u32], r: usize, c: usize) -> bool
-    requires { ⌜ (r < 2 ^ 39) × Marks (now schema) (now rows) (now marks) ⌝ }
+    requires { ⌜ Near r × Marks (now schema) (now rows) (now marks) ⌝ }
     ensures { λ b. ⌜ b ≡ hasChild (now (schema .entry)) (now (rows .entry)) r (nameOf (now (schema .entry)) (now (rows .entry)) c) ⌝ }
 {
     let name = name_of(schema, rows, c);
@@ -58,7 +59,7 @@ pub fn has_child(schema: &[u8], rows: &[u32], marks: &[u32], r: usize, c: usize)
 
 // Whether no child of row s clashes with one of row r.
 fn lists_apart(schema: &[u8], rows: &[u32], marks: &[u32], s: usize, r: usize) -> bool
-    requires { ⌜ (s < 2 ^ 39) × (r < 2 ^ 39) × Marks (now schema) (now rows) (now marks) ⌝ }
+    requires { ⌜ Near s × Near r × Marks (now schema) (now rows) (now marks) ⌝ }
     ensures { λ b. ⌜ b ≡ listsApart (now (schema .entry)) (now (rows .entry)) s r ⌝ }
 {
     let a = first_child(rows, s);
@@ -70,7 +71,7 @@ fn lists_apart(schema: &[u8], rows: &[u32], marks: &[u32], s: usize, r: usize) -
 
 // Whether row m is a child of row r.
 fn is_child(rows: &[u32], r: usize, m: usize) -> bool
-    requires { ⌜ r < 2 ^ 39 ⌝ }
+    requires { ⌜ Near r ⌝ }
     ensures { λ b. ⌜ b ≡ any (eqb m) (children (now (rows .entry)) r) ⌝ }
 {
     let mut c = first_child(rows, r);
@@ -87,7 +88,7 @@ fn is_child(rows: &[u32], r: usize, m: usize) -> bool
 
 // Whether row m is a member of the struct with that link, its own or inherited.
 pub fn is_member(rows: &[u32], link: usize, left: usize, m: usize) -> bool
-    requires { ⌜ link < 2 ^ 39 ⌝ }
+    requires { ⌜ Near link ⌝ }
     ensures { λ b. ⌜ b ≡ isMember (now (rows .entry)) left link m ⌝ }
 {
     if link == 0 {
@@ -118,7 +119,7 @@ pub fn members_apart(
     left: usize,
     others: Against,
 ) -> bool
-    requires { ⌜ (link < 2 ^ 39) × (numberOf others < 2 ^ 39) × Marks (now schema) (now rows) (now marks) ⌝ }
+    requires { ⌜ Near link × Near (numberOf others) × Marks (now schema) (now rows) (now marks) ⌝ }
     ensures { λ b. ⌜ b ≡ membersApart (now (schema .entry)) (now (rows .entry)) others left link ⌝ }
 {
     if link == 0 {
@@ -147,7 +148,7 @@ pub fn members_apart(
 
 // Whether the chain of struct r fits, and it repeats no inherited member.
 fn chain_fits(schema: &[u8], rows: &[u32], marks: &[u32], r: usize) -> bool
-    requires { ⌜ (r < 2 ^ 39) × Marks (now schema) (now rows) (now marks) ⌝ }
+    requires { ⌜ Near r × Marks (now schema) (now rows) (now marks) ⌝ }
     ensures { λ b. ⌜ b ≡ chainFits (now (schema .entry)) (now (rows .entry)) r ⌝ }
 {
     let base = wide(word(rows, r, row::BASE));

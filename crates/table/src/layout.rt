@@ -1,5 +1,5 @@
 // The layout: rows fall into definitions, each followed by its inline struct and its children.
-use crate::definitions::is_definition;
+use crate::names::is_definition;
 use rows::rows::child_count;
 use rows::rows::first_child;
 use rows::rows::next_row;
@@ -15,11 +15,12 @@ ghost use Prim.Native.Nat.{_+_, _<_, _^_};
 ghost use lib.ListN.{length};
 ghost use mathlib.Core.List.{[]};
 ghost use Rattle.rules.specs.Rows.{rowCount};
+ghost use Rattle.rows.specs.Rows.{Near, Countable};
 ghost use Rattle.rules.specs.Sound.{childrenFit, inlineFits, definitionAt, laidOut, wordsUsed, restZero};
 
 // Whether every child of row r is of the kind after r's.
 fn children_fit(rows: &[u32], r: usize) -> bool
-    requires { ⌜ r < 2 ^ 61 + 2 ^ 34 ⌝ }
+    requires { ⌜ Countable r ⌝ }
     ensures { λ b. ⌜ b ≡ childrenFit (now (rows .entry)) r ⌝ }
 {
     let k = wide(word(rows, r, row::KIND)) + 1;
@@ -37,7 +38,7 @@ fn children_fit(rows: &[u32], r: usize) -> bool
 
 // Whether the children of row r's inline struct fit, if it has one.
 fn inline_fits(rows: &[u32], r: usize) -> bool
-    requires { ⌜ r < 2 ^ 38 ⌝ }
+    requires { ⌜ Near r ⌝ }
     ensures { λ b. ⌜ b ≡ inlineFits (now (rows .entry)) r ⌝ }
 {
     if !owns_struct(rows, r) {
@@ -48,7 +49,7 @@ fn inline_fits(rows: &[u32], r: usize) -> bool
 
 // Whether a definition begins at row r. Its inline struct is judged before its children, which are found by a walk over that one's.
 fn definition_at(rows: &[u32], r: usize) -> bool
-    requires { ⌜ r < 2 ^ 38 ⌝ }
+    requires { ⌜ Near r ⌝ }
     ensures { λ b. ⌜ b ≡ definitionAt (now (rows .entry)) r ⌝ }
 {
     if !is_definition(rows, r) {

@@ -1,9 +1,9 @@
 // The judge of sound tables: rules 5 to 11 over rows, the layout, and references, for any words over any schema bytes.
 pub mod alternates;
 pub mod chains;
-pub mod definitions;
 pub mod layout;
-pub mod references;
+pub mod links;
+pub mod names;
 pub mod returns;
 pub mod sound;
 pub mod unions;

@@ -1,11 +1,11 @@
 // Whether a table is sound: any words, over any schema bytes.
 use crate::alternates::good_alternates;
 use crate::chains::good_chains;
-use crate::definitions::distinct_names;
-use crate::definitions::good_names;
 use crate::layout::is_laid_out;
 use crate::layout::rest_zero;
-use crate::references::references_fit;
+use crate::links::references_fit;
+use crate::names::distinct_names;
+use crate::names::good_names;
 use crate::returns::good_returns;
 use crate::unions::good_unions;
 use rows::marks::put_marks;

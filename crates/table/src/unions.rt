@@ -20,12 +20,13 @@ ghost use lib.ListN.{length};
 ghost use Rattle.grammar.specs.Notation.{all};
 ghost use Rattle.rules.specs.Rows.{children};
 ghost use Rattle.rules.specs.Rules.{unionFits, goodUnions};
+ghost use Rattle.rows.specs.Rows.{Near};
 ghost use Rattle.rows.specs.Marks.{Marks};
-ghost use Rattle.table.specs.RuleParts.{isTag, tagFits, branchNew};
+ghost use Rattle.table.specs.RuleParts.{canDiscriminate, discriminates, branchNew};
 
 // Whether row d is a mandatory member, no array, of an enum type.
-fn is_tag(rows: &[u32], d: usize) -> bool
-    ensures { λ b. ⌜ b ≡ isTag (now (rows .entry)) d ⌝ }
+fn can_discriminate(rows: &[u32], d: usize) -> bool
+    ensures { λ b. ⌜ b ≡ canDiscriminate (now (rows .entry)) d ⌝ }
 {
     if word(rows, d, row::OPTIONAL) != 0 {
         return false;
@@ -40,9 +41,9 @@ fn is_tag(rows: &[u32], d: usize) -> bool
     word(rows, t - FIRST_ROW, row::KIND) == kind::ENUM
 }
 
-// Whether the discriminator of union r fits: a tag that is a member of the base.
+// Whether the discriminator of union r is a member of the base that can discriminate.
 fn discriminator_fits(rows: &[u32], r: usize) -> bool
-    ensures { λ b. ⌜ b ≡ tagFits (now (rows .entry)) r ⌝ }
+    ensures { λ b. ⌜ b ≡ discriminates (now (rows .entry)) r ⌝ }
 {
     let link = wide(word(rows, r, row::DISCRIMINATOR));
     if link == 0 {
@@ -56,12 +57,12 @@ fn discriminator_fits(rows: &[u32], r: usize) -> bool
     ) {
         return false;
     }
-    is_tag(rows, link - 1)
+    can_discriminate(rows, link - 1)
 }
 
 // Whether branch b is named by a value of the enum at row e, and its struct repeats no member of the one with the link `base`.
 fn branch_fits(schema: &[u8], rows: &[u32], marks: &[u32], b: usize, e: usize, base: usize) -> bool
-    requires { ⌜ (e < 2 ^ 39) × (base < 2 ^ 39) × Marks (now schema) (now rows) (now marks) ⌝ }
+    requires { ⌜ Near e × Near base × Marks (now schema) (now rows) (now marks) ⌝ }
     ensures { λ r. ⌜ r ≡ branchNew (now (schema .entry)) (now (rows .entry)) e base b ⌝ }
 {
     if !has_child(schema, rows, marks, e, b) {
@@ -77,7 +78,7 @@ fn branch_fits(schema: &[u8], rows: &[u32], marks: &[u32], b: usize, e: usize, b
 
 // Whether every branch of union r fits.
 fn branches_fit(schema: &[u8], rows: &[u32], marks: &[u32], r: usize, e: usize, base: usize) -> bool
-    requires { ⌜ (r < 2 ^ 38) × (e < 2 ^ 39) × (base < 2 ^ 39) × Marks (now schema) (now rows) (now marks) ⌝ }
+    requires { ⌜ Near r × Near e × Near base × Marks (now schema) (now rows) (now marks) ⌝ }
     ensures { λ b. ⌜ b ≡ all (branchNew (now (schema .entry)) (now (rows .entry)) e base) (children (now (rows .entry)) r) ⌝ }
 {
     let mut b = first_child(rows, r);
@@ -93,7 +94,7 @@ fn branches_fit(schema: &[u8], rows: &[u32], marks: &[u32], r: usize, e: usize, 
 }
 
 fn union_is_good(schema: &[u8], rows: &[u32], marks: &[u32], r: usize) -> bool
-    requires { ⌜ (r < 2 ^ 38) × Marks (now schema) (now rows) (now marks) ⌝ }
+    requires { ⌜ Near r × Marks (now schema) (now rows) (now marks) ⌝ }
     ensures { λ b. ⌜ b ≡ unionFits (now (schema .entry)) (now (rows .entry)) r ⌝ }
 {
     if word(rows, r, row::BRANCH_COUNT) == 0 {
@@ -106,8 +107,8 @@ fn union_is_good(schema: &[u8], rows: &[u32], marks: &[u32], r: usize) -> bool
     if !discriminator_fits(rows, r) {
         return false;
     }
-    let tag = wide(word(rows, r, row::DISCRIMINATOR)) - 1;
-    let e = wide(word(rows, tag, row::TYPE_REF)) - FIRST_ROW;
+    let discriminator = wide(word(rows, r, row::DISCRIMINATOR)) - 1;
+    let e = wide(word(rows, discriminator, row::TYPE_REF)) - FIRST_ROW;
     branches_fit(schema, rows, marks, r, e, base)
 }
 

@@ -12,8 +12,8 @@ index-definitions-requires c κs = let p = c .before .before .before .before .be
 resolve-rows-requires : tie.Need-resolve-rows-requires
 resolve-rows-requires c κs = search needs
 
-tag-rows-requires : tie.Need-tag-rows-requires
-tag-rows-requires c κs = search needs
+put-discriminators-requires : tie.Need-put-discriminators-requires
+put-discriminators-requires c κs = search needs
 
 same-length : tie.Need-same-length
 same-length c = search needs
@@ -22,7 +22,7 @@ same-length-2 : tie.Need-same-length-2
 same-length-2 c = search needs
 
 returns : tie.Need-returns
-returns c = resolves (omega arith) (c .before .before .before .before .before .before .resolve-rows .ensures .0) (c .before .before .before .before .before .before .resolve-rows .ensures .1) (c .before .before .tag-rows .ensures)
+returns c = resolves (omega arith) (c .before .before .before .before .before .before .resolve-rows .ensures .0) (c .before .before .before .before .before .before .resolve-rows .ensures .1) (c .before .before .put-discriminators .ensures)
 
 pub resolve-spec : {M : Type 1} → statement M
 resolve-spec =
@@ -30,7 +30,7 @@ resolve-spec =
     (tie.spec
     index-definitions-requires
     resolve-rows-requires
-    tag-rows-requires
+    put-discriminators-requires
     same-length
     same-length-2
     returns)

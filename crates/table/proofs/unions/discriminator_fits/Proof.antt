@@ -1,5 +1,5 @@
 -- `discriminator_fits` meets its contract.
--- A law for each return: no link, no member of the base, or whether it is a tag.
+-- A law for each return: no link, no member of the base, or whether it can discriminate.
 use mathlib.Core.Path.{_∙_}
 use borrow.Author.Needs.{needs}
 use Rattle.rows.proofs.Walks.{denied, granted}
@@ -35,11 +35,11 @@ returns-2 c =
     (c .before .before .before .before .if1 .left) (c .before .before .wide2 .ensures ∙ c .before .before .before .word2 .ensures)
     (denied (c .before .is-member .ensures) (c .if2 .taken))
 
-sub-is-tag : tie.Need-sub-is-tag
-sub-is-tag c = search needs
+sub-can-discriminate : tie.Need-sub-can-discriminate
+sub-can-discriminate c = search needs
 
-is-tag-requires : tie.Need-is-tag-requires
-is-tag-requires c κs = search needs
+can-discriminate-requires : tie.Need-can-discriminate-requires
+can-discriminate-requires c κs = search needs
 
 returns-3 : tie.Need-returns-3
 returns-3 c =
@@ -47,7 +47,7 @@ returns-3 c =
     (c .before .before .before .before .before .before .wide .ensures ∙ c .before .before .before .before .before .before .before .word .ensures)
     (c .before .before .before .before .before .if1 .left)
     (c .before .before .before .wide2 .ensures ∙ c .before .before .before .before .word2 .ensures)
-    (granted (c .before .before .is-member .ensures) (c .before .if2 .left)) (c .is-tag .ensures)
+    (granted (c .before .before .is-member .ensures) (c .before .if2 .left)) (c .can-discriminate .ensures)
 
 pub discriminator-fits-spec : {M : Type 1} → statement M
 discriminator-fits-spec =
@@ -61,6 +61,6 @@ discriminator-fits-spec =
     sub-is-member
     is-member-requires
     returns-2
-    sub-is-tag
-    is-tag-requires
+    sub-can-discriminate
+    can-discriminate-requires
     returns-3)

@@ -4,7 +4,7 @@ use mathlib.Core.Path.{_∙_}
 use native.Mathlib.Omega.{arith}
 use borrow.Author.Needs.{needs}
 use Rattle.rows.proofs.Walks.{denied, granted}
-use Rattle.table.proofs.UnionLaws.{tag-link, tag-type, union-empty, union-endless, union-untagged, union-is}
+use Rattle.table.proofs.UnionLaws.{discriminator-linked, discriminator-type, union-empty, union-endless, union-undiscriminated, union-is}
 use Rattle.table.proofs.unions.union_is_good.Statement.{statement}
 use Rattle.table.proofs.unions.union_is_good.Tie as tie
 
@@ -38,7 +38,7 @@ discriminator-fits-requires c κs = search needs
 
 returns-3 : tie.Need-returns-3
 returns-3 c =
-    union-untagged (c .before .before .before .before .before .before .before .before .before .before .before .args .schema .now)
+    union-undiscriminated (c .before .before .before .before .before .before .before .before .before .before .before .args .schema .now)
     (c .before .before .before .before .before .before .before .before .before .before .before .args .rows .now)
     (c .before .before .before .before .before .before .before .before .before .before .before .args .r)
     (c .before .before .before .before .before .before .before .word .ensures) (c .before .before .before .before .before .before .if1 .left)
@@ -52,8 +52,8 @@ word-requires-3 c κs = search needs
 wide-requires-2 : tie.Need-wide-requires-2
 wide-requires-2 c κs = search needs
 
-sub-tag : tie.Need-sub-tag
-sub-tag c = omega (arith, tag-link _ _ (granted (c .before .before .before .discriminator-fits .ensures) (c .before .before .if3 .left)))
+sub-discriminator : tie.Need-sub-discriminator
+sub-discriminator c = omega (arith, discriminator-linked _ _ (granted (c .before .before .before .discriminator-fits .ensures) (c .before .before .if3 .left)))
 
 word-requires-4 : tie.Need-word-requires-4
 word-requires-4 c κs = search needs
@@ -63,7 +63,7 @@ wide-requires-3 c κs = search needs
 
 sub-e : tie.Need-sub-e
 sub-e c =
-    tag-type _ _ (c .before .before .wide2 .ensures ∙ c .before .before .before .word3 .ensures) (c .wide3 .ensures ∙ c .before .word4 .ensures)
+    discriminator-type _ _ (c .before .before .wide2 .ensures ∙ c .before .before .before .word3 .ensures) (c .wide3 .ensures ∙ c .before .word4 .ensures)
     (granted (c .before .before .before .before .before .discriminator-fits .ensures) (c .before .before .before .before .if3 .left))
 
 branches-fit-requires : tie.Need-branches-fit-requires
@@ -99,7 +99,7 @@ union-is-good-spec =
     returns-3
     word-requires-3
     wide-requires-2
-    sub-tag
+    sub-discriminator
     word-requires-4
     wide-requires-3
     sub-e
