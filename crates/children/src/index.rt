@@ -1,5 +1,5 @@
 // An index of long lists of children by their row and name, over lent words: heads of buckets; then for each row a link, its owner and a count.
-use crate::children::scanned_mandatory;
+use crate::lists::scanned_mandatory;
 use crate::marks::name_mark;
 use crate::marks::owner_mark;
 use buckets::BUCKETS;

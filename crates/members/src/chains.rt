@@ -1,5 +1,5 @@
 // Members up a chain of bases, as the keys of a message ask for them.
-use children::children::child_meant;
+use children::lists::child_meant;
 use rows::rows::wide;
 use rows::rows::word;
 use rules::CHAIN_STRUCTS;

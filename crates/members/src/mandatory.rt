@@ -1,5 +1,5 @@
 // How many mandatory members the structs of an object have.
-use children::children::own_mandatory;
+use children::lists::own_mandatory;
 use rows::rows::wide;
 use rows::rows::word;
 use rules::CHAIN_STRUCTS;

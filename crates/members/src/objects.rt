@@ -1,5 +1,5 @@
 // The structs whose members an object has at a type.
-use children::children::child_meant;
+use children::lists::child_meant;
 use lookups::values::is_string;
 use lookups::values::value_at;
 use rows::names::name_of;

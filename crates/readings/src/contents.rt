@@ -1,6 +1,6 @@
 // What is read inside a value at a type that is no alternate.
 use crate::builtins::built_in_takes;
-use children::children::child_meant;
+use children::lists::child_meant;
 use lookups::values::is_string;
 use members::objects::FIRST_REFERENCE;
 use members::objects::Structs;

@@ -4,7 +4,7 @@ use crate::contents::content_at;
 use crate::records::put_record;
 use crate::types::Choice;
 use crate::types::type_for;
-use children::children::mandatory_one;
+use children::lists::mandatory_one;
 use members::chains::field_member;
 use members::mandatory::mandatory_members;
 use rows::rows::word;

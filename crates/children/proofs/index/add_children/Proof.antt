@@ -36,10 +36,16 @@ owner-mark-requires : tie.Need-owner-mark-requires Inv-loop μ-loop
 owner-mark-requires c κs = search needs
 
 put-child-requires : tie.Need-put-child-requires Inv-loop μ-loop
-put-child-requires c κs = (c .before .before .before .before .before .loop .inv .1 .room ∙ c .before .before .before .before .before .before .before .before .before .before .before .pre .0, run-within (c .before .before .before .before .before .loop .inv .1) (c .before .before .before .before .loop-test .taken) (c .before .before .before .before .before .before .before .before .before .before .before .pre .1))
+put-child-requires c κs =
+    let d = c .before .before .before .before .before in
+    let f = d .before .before .before .before .before .before in
+    (d .loop .inv .1 .room ∙ f .pre .0, run-within (d .loop .inv .1) (c .before .before .before .before .loop-test .taken) (f .pre .1))
 
 put-owner-requires : tie.Need-put-owner-requires Inv-loop μ-loop
-put-owner-requires c κs = (put-room (run-within (c .before .before .before .before .before .before .before .before .before .loop .inv .1) (c .before .before .before .before .before .before .before .before .loop-test .taken) (c .before .before .before .before .before .before .before .before .before .before .before .before .before .before .before .pre .1)) (c .before .before .before .put-child .ensures) ∙ c .before .before .before .before .before .before .before .before .before .loop .inv .1 .room ∙ c .before .before .before .before .before .before .before .before .before .before .before .before .before .before .before .pre .0, run-within (c .before .before .before .before .before .before .before .before .before .loop .inv .1) (c .before .before .before .before .before .before .before .before .loop-test .taken) (c .before .before .before .before .before .before .before .before .before .before .before .before .before .before .before .pre .1), omega (arith, c .before .before .before .before .before .before .before .before .before .before .before .before .before .before .before .pre .1, past-children-above (c .before .before .before .before .before .before .before .before .before .before .before .before .before .before .before .args .rows .now) (c .before .before .before .before .before .before .before .before .before .before .before .before .before .before .before .args .r)))
+put-owner-requires c κs =
+    let d = c .before .before .before .before .before .before .before .before in
+    let f = d .before .before .before .before .before .before .before in
+    (put-room (run-within (d .before .loop .inv .1) (d .loop-test .taken) (f .pre .1)) (c .before .before .before .put-child .ensures) ∙ d .before .loop .inv .1 .room ∙ f .pre .0, run-within (d .before .loop .inv .1) (d .loop-test .taken) (f .pre .1), omega (arith, f .pre .1, past-children-above (f .args .rows .now) (f .args .r)))
 
 next-row-requires : tie.Need-next-row-requires Inv-loop μ-loop
 next-row-requires c κs = search needs
@@ -52,9 +58,11 @@ loop-less c = search needs
 
 loop-again : tie.Need-loop-again Inv-loop μ-loop
 loop-again c =
-    let l = c .before .before .before .before .before .before .before .before .before .before .before .before .loop-test .taken in
+    let d = c .before .before .before .before .before .before .before in
+    let e = d .before .before .before .before .before in
+    let l = e .loop-test .taken in
     let f = c .next-row .ensures in
-    (room-next (c .before .before .before .before .before .before .before .before .before .before .before .before .before .loop .inv .0) l f, run-more (c .before .before .before .before .before .before .before .before .before .before .before .before .before .loop .inv .1) l (c .before .before .before .before .before .before .before .before .before .before .before .before .before .before .before .before .before .before .before .pre .1) (c .before .before .before .before .before .before .before .before .before .before .before .name-of .ensures) (c .before .before .before .before .before .before .before .before .before .before .name-mark .ensures) (c .before .before .before .before .before .before .before .before .before .owner-mark .ensures) (c .before .before .before .before .before .before .before .put-child .ensures) (c .before .before .before .put-owner .ensures) f)
+    (room-next (e .before .loop .inv .0) l f, run-more (e .before .loop .inv .1) l (e .before .before .before .before .before .before .before .pre .1) (d .before .before .before .before .name-of .ensures) (d .before .before .before .name-mark .ensures) (d .before .before .owner-mark .ensures) (d .put-child .ensures) (c .before .before .before .put-owner .ensures) f)
 
 same-length : tie.Need-same-length Inv-loop μ-loop
 same-length c = search needs

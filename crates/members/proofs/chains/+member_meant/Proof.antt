@@ -8,7 +8,7 @@ use borrow.Fn.PlainCycle.{Measures, is, falls, and}
 use Rattle.members.proofs.chains.member_meant.Reads as member-meant
 use Rattle.members.proofs.chains.member_meant.Kinds as member-meant-kinds
 use Rattle.members.proofs.chains.+member_meant.Lts-member_meant as member-meant-lts
-use Rattle.children.proofs.children.child_meant.Reads as child-meant-reads
+use Rattle.children.proofs.lists.child_meant.Reads as child-meant-reads
 use Rattle.rows.proofs.rows.wide.Reads as wide-reads
 use Rattle.rows.proofs.rows.word.Reads as word-reads
 use Rattle.members.proofs.chains.+member_meant.{statement}

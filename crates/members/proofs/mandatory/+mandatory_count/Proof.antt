@@ -8,7 +8,7 @@ use borrow.Fn.PlainCycle.{Measures, is, falls, and}
 use Rattle.members.proofs.mandatory.mandatory_count.Reads as mandatory-count
 use Rattle.members.proofs.mandatory.mandatory_count.Kinds as mandatory-count-kinds
 use Rattle.members.proofs.mandatory.+mandatory_count.Lts-mandatory_count as mandatory-count-lts
-use Rattle.children.proofs.children.own_mandatory.Reads as own-mandatory-reads
+use Rattle.children.proofs.lists.own_mandatory.Reads as own-mandatory-reads
 use Rattle.rows.proofs.rows.wide.Reads as wide-reads
 use Rattle.rows.proofs.rows.word.Reads as word-reads
 use Rattle.members.proofs.mandatory.+mandatory_count.{statement}

@@ -22,7 +22,7 @@ use Rattle.readings.proofs.readings.+read_fields+read_items+read_plain+
 use Rattle.readings.proofs.readings.read_value.Reads as read-value
 use Rattle.readings.proofs.readings.read_value.Kinds as read-value-kinds
 use Rattle.readings.proofs.readings.+read_fields+read_items+read_plain+read_value.Lts-read_value as read-value-lts
-use Rattle.children.proofs.children.mandatory_one.Reads as mandatory-one-reads
+use Rattle.children.proofs.lists.mandatory_one.Reads as mandatory-one-reads
 use Rattle.members.proofs.chains.field_member.Reads as field-member-reads
 use Rattle.members.proofs.mandatory.mandatory_members.Reads as mandatory-members-reads
 use Rattle.readings.proofs.contents.content_at.Reads as content-at-reads
@@ -127,7 +127,9 @@ read-fields-word-requires-2 : (t : ℕ) → read-fields-lts.Need-word-requires-2
 read-fields-word-requires-2 t c κs = search needs
 
 read-fields-read-value-requires : (t : ℕ) → read-fields-lts.Need-read-value-requires (read-fields-calls t) (read-fields-at t) read-fields.Post read-fields-Inv-loop read-fields-μ-loop
-read-fields-read-value-requires t c κs = let b = c .before .before .before .before .before .before .before .before .before .before .shared-slice-known4 .given (node-words * (c .before .before .before .before .before .before .before .before .before .before .before .before .before .before .args .at .node) + 3) in search needs
+read-fields-read-value-requires t c κs =
+    let d = c .before .before .before .before .before .before .before .before .before .before in
+    let b = d .shared-slice-known4 .given (node-words * (d .before .before .before .before .args .at .node) + 3) in search needs
 
 read-fields-enum-known-v : (t : ℕ) → read-fields-lts.Need-enum-known-v (read-fields-calls t) (read-fields-at t) read-fields.Post read-fields-Inv-loop read-fields-μ-loop
 read-fields-enum-known-v t c = search needs
@@ -140,8 +142,10 @@ read-fields-same-length-2 t c = search needs
 
 read-fields-returns-2 : (t : ℕ) → read-fields-lts.Need-returns-2 (read-fields-calls t) (read-fields-at t) read-fields.Post read-fields-Inv-loop read-fields-μ-loop
 read-fields-returns-2 t c =
-    fields-fail (c .before .before .before .before .before .before .before .before .before .before .before .loop .inv) (c .before .before .before .before .before .before .before .before .before .before .before .before .node-number .ensures)
-    (fields-none (c .before .before .before .before .before .before .before .before .before .field-member .ensures) (omega arith) (c .before .before .before .before .before .before .before .before .if1 .left) refl (c .before .before .before .before .before .before .before .word .ensures) (c .before .before .before .before .before .before .word2 .ensures) (c .before .before .before .before .read-value .ensures) (c .enum-told .given .1))
+    let d = c .before .before .before .before .before .before in
+    let f = d .before .before .before .before .before in
+    fields-fail (f .loop .inv) (f .before .node-number .ensures)
+    (fields-none (d .before .before .before .field-member .ensures) (omega arith) (d .before .before .if1 .left) refl (d .before .word .ensures) (d .word2 .ensures) (c .before .before .before .before .read-value .ensures) (c .enum-told .given .1))
 
 read-fields-node-number-requires-2 : (t : ℕ) → read-fields-lts.Need-node-number-requires-2 (read-fields-calls t) (read-fields-at t) read-fields.Post read-fields-Inv-loop read-fields-μ-loop
 read-fields-node-number-requires-2 t c κs = search needs
@@ -151,22 +155,28 @@ read-fields-same-length-3 t c = search needs
 
 read-fields-returns-3 : (t : ℕ) → read-fields-lts.Need-returns-3 (read-fields-calls t) (read-fields-at t) read-fields.Post read-fields-Inv-loop read-fields-μ-loop
 read-fields-returns-3 t c =
-    fields-fail (c .before .before .before .before .before .before .before .before .before .before .before .before .before .before .loop .inv) (c .before .before .before .before .before .before .before .before .before .before .before .before .before .before .before .node-number .ensures)
-    (fields-stuck (c .before .before .before .before .before .before .before .before .before .before .before .before .field-member .ensures) (omega arith) (c .before .before .before .before .before .before .before .before .before .before .before .if1 .left) refl (c .before .before .before .before .before .before .before .before .before .before .word .ensures) (c .before .before .before .before .before .before .before .before .before .word2 .ensures) (c .before .before .before .before .before .before .before .read-value .ensures) (c .before .node-number2 .ensures) (c .if2 .taken))
+    let d = c .before .before .before .before .before .before .before in
+    let f = d .before .before .before .before .before in
+    fields-fail (f .before .before .loop .inv) (f .before .before .before .node-number .ensures)
+    (fields-stuck (f .field-member .ensures) (omega arith) (d .before .before .before .before .if1 .left) refl (d .before .before .before .word .ensures) (d .before .before .word2 .ensures) (d .read-value .ensures) (c .before .node-number2 .ensures) (c .if2 .taken))
 
 read-fields-mandatory-one-requires : (t : ℕ) → read-fields-lts.Need-mandatory-one-requires (read-fields-calls t) (read-fields-at t) read-fields.Post read-fields-Inv-loop read-fields-μ-loop
 read-fields-mandatory-one-requires t c κs = search needs
 
 read-fields-add-met : (t : ℕ) → read-fields-lts.Need-add-met (read-fields-calls t) (read-fields-at t) read-fields.Post read-fields-Inv-loop read-fields-μ-loop
-read-fields-add-met t c = omega (arith, met-fits (c .before .before .before .before .before .before .before .before .before .before .before .before .before .before .before .loop .inv) _ (c .mandatory-one .ensures))
+read-fields-add-met t c =
+    let d = c .before .before .before .before .before .before .before .before .before .before .before .before .before .before .before in
+    omega (arith, met-fits (d .loop .inv) _ (c .mandatory-one .ensures))
 
 read-fields-loop-less : (t : ℕ) → read-fields-lts.Need-loop-less (read-fields-calls t) (read-fields-at t) read-fields.Post read-fields-Inv-loop read-fields-μ-loop
 read-fields-loop-less t c = search needs
 
 read-fields-loop-again : (t : ℕ) → read-fields-lts.Need-loop-again (read-fields-calls t) (read-fields-at t) read-fields.Post read-fields-Inv-loop read-fields-μ-loop
 read-fields-loop-again t c =
-    fields-again (c .before .before .before .before .before .before .before .before .before .before .before .before .before .before .before .loop .inv) (c .before .before .before .before .before .before .before .before .before .before .before .before .before .field-member .ensures) (omega arith) (c .before .before .before .before .before .before .before .before .before .before .before .before .if1 .left) refl (c .before .before .before .before .before .before .before .before .before .before .before .word .ensures) (c .before .before .before .before .before .before .before .before .before .before .word2 .ensures) (c .before .before .before .before .before .before .before .before .read-value .ensures)
-    (omega (arith, c .before .before .before .before .before .before .before .before .read-value .kept)) (c .before .before .node-number2 .ensures) (c .before .if2 .left) (c .before .before .before .before .v .given .1) (c .mandatory-one .ensures)
+    let d = c .before .before .before .before .before .before .before .before in
+    let f = d .before .before .before .before .before in
+    fields-again (f .before .before .loop .inv) (f .field-member .ensures) (omega arith) (d .before .before .before .before .if1 .left) refl (d .before .before .before .word .ensures) (d .before .before .word2 .ensures) (d .read-value .ensures)
+    (omega (arith, d .read-value .kept)) (c .before .before .node-number2 .ensures) (c .before .if2 .left) (c .before .before .before .before .v .given .1) (c .mandatory-one .ensures)
 
 read-fields-same-length-4 : (t : ℕ) → read-fields-lts.Need-same-length-4 (read-fields-calls t) (read-fields-at t) read-fields.Post read-fields-Inv-loop read-fields-μ-loop
 read-fields-same-length-4 t c = search needs
@@ -208,7 +218,9 @@ read-items-loop-holds : (t : ℕ) → read-items-lts.Need-loop-holds (read-items
 read-items-loop-holds t c = items-start _ _ _ _ _ _ (c .before .before .before .before .before .before .before .pre .1 .1)
 
 read-items-read-value-requires : (t : ℕ) → read-items-lts.Need-read-value-requires (read-items-calls t) (read-items-at t) read-items.Post read-items-Inv-loop read-items-μ-loop
-read-items-read-value-requires t c κs = let b = c .before .before .before .before .before .before .shared-slice-known4 .given (node-words * (c .before .before .before .before .before .before .before .before .before .before .args .at .node) + 3) in search needs
+read-items-read-value-requires t c κs =
+    let d = c .before .before .before .before .before .before in
+    let b = d .shared-slice-known4 .given (node-words * (d .before .before .before .before .args .at .node) + 3) in search needs
 
 read-items-enum-known-v : (t : ℕ) → read-items-lts.Need-enum-known-v (read-items-calls t) (read-items-at t) read-items.Post read-items-Inv-loop read-items-μ-loop
 read-items-enum-known-v t c = search needs
@@ -221,7 +233,8 @@ read-items-same-length t c = search needs
 
 read-items-returns : (t : ℕ) → read-items-lts.Need-returns (read-items-calls t) (read-items-at t) read-items.Post read-items-Inv-loop read-items-μ-loop
 read-items-returns t c =
-    items-fail (c .before .before .before .before .before .before .before .loop .inv) (c .before .before .before .before .before .before .before .before .node-number .ensures) (items-none (c .before .before .before .before .read-value .ensures) (omega arith) (c .enum-told .given .1))
+    let d = c .before .before .before .before .before .before .before in
+    items-fail (d .loop .inv) (d .before .node-number .ensures) (items-none (c .before .before .before .before .read-value .ensures) (omega arith) (c .enum-told .given .1))
 
 read-items-node-number-requires-2 : (t : ℕ) → read-items-lts.Need-node-number-requires-2 (read-items-calls t) (read-items-at t) read-items.Post read-items-Inv-loop read-items-μ-loop
 read-items-node-number-requires-2 t c κs = search needs
@@ -231,15 +244,17 @@ read-items-same-length-2 t c = search needs
 
 read-items-returns-2 : (t : ℕ) → read-items-lts.Need-returns-2 (read-items-calls t) (read-items-at t) read-items.Post read-items-Inv-loop read-items-μ-loop
 read-items-returns-2 t c =
-    items-fail (c .before .before .before .before .before .before .before .before .before .before .loop .inv) (c .before .before .before .before .before .before .before .before .before .before .before .node-number .ensures) (items-stuck (c .before .before .before .before .before .before .before .read-value .ensures) (omega arith) (c .before .node-number2 .ensures) (c .if1 .taken))
+    let d = c .before .before .before .before .before .before .before in
+    items-fail (d .before .before .before .loop .inv) (d .before .before .before .before .node-number .ensures) (items-stuck (d .read-value .ensures) (omega arith) (c .before .node-number2 .ensures) (c .if1 .taken))
 
 read-items-loop-less : (t : ℕ) → read-items-lts.Need-loop-less (read-items-calls t) (read-items-at t) read-items.Post read-items-Inv-loop read-items-μ-loop
 read-items-loop-less t c = search needs
 
 read-items-loop-again : (t : ℕ) → read-items-lts.Need-loop-again (read-items-calls t) (read-items-at t) read-items.Post read-items-Inv-loop read-items-μ-loop
 read-items-loop-again t c =
-    items-again (c .before .before .before .before .before .before .before .before .before .before .loop .inv) (c .before .before .before .before .before .before .before .before .before .before .before .node-number .ensures) (c .before .before .before .before .before .before .before .read-value .ensures)
-    (omega (arith, c .before .before .before .before .before .before .before .read-value .kept)) (omega arith) (c .before .node-number2 .ensures) (c .if1 .left) (c .before .before .before .v .given .1)
+    let d = c .before .before .before .before .before .before .before in
+    items-again (d .before .before .before .loop .inv) (d .before .before .before .before .node-number .ensures) (d .read-value .ensures)
+    (omega (arith, d .read-value .kept)) (omega arith) (c .before .node-number2 .ensures) (c .if1 .left) (c .before .before .before .v .given .1)
 
 read-items-same-length-3 : (t : ℕ) → read-items-lts.Need-same-length-3 (read-items-calls t) (read-items-at t) read-items.Post read-items-Inv-loop read-items-μ-loop
 read-items-same-length-3 t c = search needs
@@ -277,7 +292,8 @@ read-plain-same-length t c = search needs
 
 read-plain-returns : (t : ℕ) → read-plain-lts.Need-returns (read-plain-calls t) (read-plain-at t) read-plain.Post
 read-plain-returns t c =
-    plain-flat-array (c .before .before .before .before .before .before .before .content-at .ensures) _ _ _ _ (c .before .before .before .before .before .put-node-record .ensures) (c .before .enum-told3 .given .1) (c .if1 .taken)
+    let d = c .before .before .before .before .before in
+    plain-flat-array (d .before .before .content-at .ensures) _ _ _ _ (d .put-node-record .ensures) (c .before .enum-told3 .given .1) (c .if1 .taken)
 
 read-plain-sub-t27 : (t : ℕ) → read-plain-lts.Need-sub-t27 (read-plain-calls t) (read-plain-at t) read-plain.Post
 read-plain-sub-t27 t c = search needs
@@ -293,7 +309,8 @@ read-plain-same-length-2 t c = search needs
 
 read-plain-returns-2 : (t : ℕ) → read-plain-lts.Need-returns-2 (read-plain-calls t) (read-plain-at t) read-plain.Post
 read-plain-returns-2 t c =
-    plain-flat-object (c .before .before .before .before .before .before .before .before .content-at .ensures) _ _ _ _ (c .before .before .before .before .before .before .put-node-record .ensures) (c .before .before .content .given .1) (c .if2 .taken)
+    let d = c .before .before .before .before .before .before in
+    plain-flat-object (d .before .before .content-at .ensures) _ _ _ _ (d .put-node-record .ensures) (c .before .before .content .given .1) (c .if2 .taken)
 
 read-plain-sub-t31 : (t : ℕ) → read-plain-lts.Need-sub-t31 (read-plain-calls t) (read-plain-at t) read-plain.Post
 read-plain-sub-t31 t c = search needs
@@ -312,21 +329,27 @@ read-plain-same-length-4 t c = search needs
 
 read-plain-returns-4 : (t : ℕ) → read-plain-lts.Need-returns-4 (read-plain-calls t) (read-plain-at t) read-plain.Post
 read-plain-returns-4 t c =
-    plain-alone (c .before .before .before .before .before .before .content-at .ensures) _ _ _ _ (c .before .before .before .before .put-node-record .ensures) refl (c .enum-told2 .given .1) (c .before .before .before .before .before .before .before .before .before .before .before .before .before .pre .1 .1)
+    let d = c .before .before .before .before .before .before in
+    let f = d .before .before .before .before .before .before .before in
+    plain-alone (d .content-at .ensures) _ _ _ _ (c .before .before .before .before .put-node-record .ensures) refl (c .enum-told2 .given .1) (f .pre .1 .1)
 
 read-plain-same-length-5 : (t : ℕ) → read-plain-lts.Need-same-length-5 (read-plain-calls t) (read-plain-at t) read-plain.Post
 read-plain-same-length-5 t c = search needs
 
 read-plain-returns-5 : (t : ℕ) → read-plain-lts.Need-returns-5 (read-plain-calls t) (read-plain-at t) read-plain.Post
 read-plain-returns-5 t c =
-    plain-elements (c .before .before .before .before .before .before .before .before .before .before .before .content-at .ensures) _ _ _ _ (c .before .before .before .before .before .before .before .before .before .put-node-record .ensures) refl (c .before .before .before .before .before .enum-told3 .given .1) (c .before .before .before .before .if1 .left) (c .before .before .read-items .ensures)
+    let d = c .before .before .before .before .before in
+    let f = d .before .before .before .before .before .before in
+    plain-elements (f .content-at .ensures) _ _ _ _ (d .before .before .before .before .put-node-record .ensures) refl (d .enum-told3 .given .1) (c .before .before .before .before .if1 .left) (c .before .before .read-items .ensures)
 
 read-plain-same-length-6 : (t : ℕ) → read-plain-lts.Need-same-length-6 (read-plain-calls t) (read-plain-at t) read-plain.Post
 read-plain-same-length-6 t c = search needs
 
 read-plain-returns-6 : (t : ℕ) → read-plain-lts.Need-returns-6 (read-plain-calls t) (read-plain-at t) read-plain.Post
 read-plain-returns-6 t c =
-    plain-members (c .before .before .before .before .before .before .before .before .before .before .before .before .content-at .ensures) _ _ _ _ (c .before .before .before .before .before .before .before .before .before .before .put-node-record .ensures) refl (c .before .before .before .before .before .before .content .given .1) (c .before .before .before .before .if2 .left) (c .before .before .read-fields .ensures)
+    let d = c .before .before .before .before .before .before in
+    let f = d .before .before .before .before .before .before in
+    plain-members (f .content-at .ensures) _ _ _ _ (d .before .before .before .before .put-node-record .ensures) refl (d .content .given .1) (c .before .before .before .before .if2 .left) (c .before .before .read-fields .ensures)
 
 read-value-type-for-requires : (t : ℕ) → read-value-lts.Need-type-for-requires (read-value-calls t) (read-value-at t) read-value.Post
 read-value-type-for-requires t c κs = search needs
@@ -366,7 +389,9 @@ read-value-same-length-2 t c = search needs
 
 read-value-returns-3 : (t : ℕ) → read-value-lts.Need-returns-3 (read-value-calls t) (read-value-at t) read-value.Post
 read-value-returns-3 t c =
-    value-alternative _ _ _ _ (c .before .before .before .before .before .before .before .before .before .before .before .type-for .ensures) _ (c .before .before .before .before .before .before .before .before .before .reference .given .1) (c .before .before .before .before .before .before .put-node-record .ensures) (c .before .before .read-plain2 .ensures)
+    let d = c .before .before .before .before .before .before in
+    let f = d .before .before .before .before .before in
+    value-alternative _ _ _ _ (f .type-for .ensures) _ (d .before .before .before .reference .given .1) (d .put-node-record .ensures) (c .before .before .read-plain2 .ensures)
 
 pub +read-fields+read-items+read-plain+read-value-spec : {M : Type 1} → statement M
 +read-fields+read-items+read-plain+read-value-spec =

@@ -1,8 +1,8 @@
--- `children::own_mandatory` meets its contract: a long list is counted in the index, a short one looked through.
+-- `lists::own_mandatory` meets its contract: a long list is counted in the index, a short one looked through.
 use borrow.Author.Needs.{needs}
 use Rattle.children.proofs.CountLaws.{own-indexed, own-scanned}
-use Rattle.children.proofs.children.own_mandatory.Statement.{statement}
-use Rattle.children.proofs.children.own_mandatory.Tie as tie
+use Rattle.children.proofs.lists.own_mandatory.Statement.{statement}
+use Rattle.children.proofs.lists.own_mandatory.Tie as tie
 
 is-long-requires : tie.Need-is-long-requires
 is-long-requires c κs = search needs

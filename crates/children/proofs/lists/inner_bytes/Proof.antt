@@ -1,11 +1,11 @@
--- `children::inner_bytes` meets its contract: the words of the node say where the token stands.
+-- `lists::inner_bytes` meets its contract: the words of the node say where the token stands.
 use Prim.Native.Nat.{_+_, _*_}
 use mathlib.Core.Path.{refl}
 use native.Mathlib.Omega.{arith}
 use Rattle.children.proofs.MarkLaws.{token-bytes}
 use borrow.Author.Needs.{needs}
-use Rattle.children.proofs.children.inner_bytes.Statement.{statement}
-use Rattle.children.proofs.children.inner_bytes.Tie as tie
+use Rattle.children.proofs.lists.inner_bytes.Statement.{statement}
+use Rattle.children.proofs.lists.inner_bytes.Tie as tie
 use Rattle.text.specs.Nodes.{node-words}
 
 node-number-requires : tie.Need-node-number-requires

@@ -1,11 +1,11 @@
--- `children::scanned_child` meets its contract: of the children, those left to look at.
+-- `lists::scanned_child` meets its contract: of the children, those left to look at.
 use Rattle.rows.specs.Rows.{Room}
 use Rattle.rows.proofs.LoopLaws.{room-next}
 use Rattle.rows.proofs.ChildLaws.{children-room}
 use Rattle.children.proofs.ScanLaws.{ChildLeft, child-start, child-hit, child-on, child-end}
 use borrow.Author.Needs.{needs}
-use Rattle.children.proofs.children.scanned_child.Statement.{statement}
-use Rattle.children.proofs.children.scanned_child.Tie as tie
+use Rattle.children.proofs.lists.scanned_child.Statement.{statement}
+use Rattle.children.proofs.lists.scanned_child.Tie as tie
 
 abbrev Inv-loop : tie.InvT-loop
 Inv-loop schema rows m nodes r k c₀ left₀ c left = Room c left × ChildLeft schema rows m nodes r k c left

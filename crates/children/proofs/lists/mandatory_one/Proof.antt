@@ -1,8 +1,8 @@
--- `children::mandatory_one` meets its contract.
+-- `lists::mandatory_one` meets its contract.
 use Rattle.children.proofs.CountLaws.{one-mandatory, one-optional}
 use borrow.Author.Needs.{needs}
-use Rattle.children.proofs.children.mandatory_one.Statement.{statement}
-use Rattle.children.proofs.children.mandatory_one.Tie as tie
+use Rattle.children.proofs.lists.mandatory_one.Statement.{statement}
+use Rattle.children.proofs.lists.mandatory_one.Tie as tie
 
 word-requires : tie.Need-word-requires
 word-requires c κs = search needs

@@ -1,9 +1,9 @@
--- `children::is_named` meets its contract: names of other sizes differ.
+-- `lists::is_named` meets its contract: names of other sizes differ.
 use mathlib.Core.Path.{_∙_}
 use Rattle.children.proofs.NameSizes.{named-other, named-same}
 use borrow.Author.Needs.{needs}
-use Rattle.children.proofs.children.is_named.Statement.{statement}
-use Rattle.children.proofs.children.is_named.Tie as tie
+use Rattle.children.proofs.lists.is_named.Statement.{statement}
+use Rattle.children.proofs.lists.is_named.Tie as tie
 
 word-requires : tie.Need-word-requires
 word-requires c κs = search needs

@@ -1,8 +1,8 @@
--- `children::child_meant` meets its contract: a long list is looked up, a short one looked through.
+-- `lists::child_meant` meets its contract: a long list is looked up, a short one looked through.
 use borrow.Author.Needs.{needs}
 use mathlib.Core.Path.{sym, _∙_}
-use Rattle.children.proofs.children.child_meant.Statement.{statement}
-use Rattle.children.proofs.children.child_meant.Tie as tie
+use Rattle.children.proofs.lists.child_meant.Statement.{statement}
+use Rattle.children.proofs.lists.child_meant.Tie as tie
 
 is-long-requires : tie.Need-is-long-requires
 is-long-requires c κs = search needs

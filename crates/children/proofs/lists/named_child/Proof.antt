@@ -1,11 +1,11 @@
--- `children::named_child` meets its contract: of the children, those left to look at.
+-- `lists::named_child` meets its contract: of the children, those left to look at.
 use Rattle.rows.specs.Rows.{Room}
 use Rattle.rows.proofs.LoopLaws.{room-next}
 use Rattle.rows.proofs.ChildLaws.{children-room}
 use Rattle.children.proofs.ScanLaws.{NameLeft, name-start, name-hit, name-on, name-end}
 use borrow.Author.Needs.{needs}
-use Rattle.children.proofs.children.named_child.Statement.{statement}
-use Rattle.children.proofs.children.named_child.Tie as tie
+use Rattle.children.proofs.lists.named_child.Statement.{statement}
+use Rattle.children.proofs.lists.named_child.Tie as tie
 
 abbrev Inv-loop : tie.InvT-loop
 Inv-loop schema rows r name c₀ left₀ c left = Room c left × NameLeft schema rows name r c left

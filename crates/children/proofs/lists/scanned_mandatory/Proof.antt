@@ -1,11 +1,11 @@
--- `children::scanned_mandatory` meets its contract: of the children, those left to look at.
+-- `lists::scanned_mandatory` meets its contract: of the children, those left to look at.
 use Rattle.rows.specs.Rows.{Room}
 use Rattle.rows.proofs.LoopLaws.{room-next}
 use Rattle.rows.proofs.ChildLaws.{children-room}
 use Rattle.children.proofs.CountLaws.{CountLeft, count-start, count-on, count-end, count-fits}
 use borrow.Author.Needs.{needs}
-use Rattle.children.proofs.children.scanned_mandatory.Statement.{statement}
-use Rattle.children.proofs.children.scanned_mandatory.Tie as tie
+use Rattle.children.proofs.lists.scanned_mandatory.Statement.{statement}
+use Rattle.children.proofs.lists.scanned_mandatory.Tie as tie
 
 abbrev Inv-loop : tie.InvT-loop
 Inv-loop rows r n₀ c₀ left₀ n c left = Room c left × CountLeft rows r n c left

@@ -1,4 +1,4 @@
-// The values, members and branches of a row, as keys and strings of a message ask for them.
+// A row's list of children, its values, members or branches, as keys and strings of a message ask for them.
 use crate::index::is_long;
 use crate::lookup::indexed_child;
 use crate::lookup::indexed_mandatory;

@@ -1,8 +1,8 @@
--- `children::short_child` meets its contract: a plain key or string means its bytes.
+-- `lists::short_child` meets its contract: a plain key or string means its bytes.
 use Rattle.children.proofs.ScanLaws.{scan-plain}
 use borrow.Author.Needs.{needs}
-use Rattle.children.proofs.children.short_child.Statement.{statement}
-use Rattle.children.proofs.children.short_child.Tie as tie
+use Rattle.children.proofs.lists.short_child.Statement.{statement}
+use Rattle.children.proofs.lists.short_child.Tie as tie
 
 node-word-requires : tie.Need-node-word-requires
 node-word-requires c κs = search needs
