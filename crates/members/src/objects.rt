@@ -49,7 +49,13 @@ fn branch_of(
     ensures { λ x. ⌜ BranchOf (now (schema .entry)) (now (rows .entry)) (now (m .entry)) (now (nodes .entry)) (now (index .entry)) r k x ⌝ }
 {
     let discriminator = row_of(word(rows, r, row::DISCRIMINATOR));
-    let v = value_at(m, Dialect::Message, nodes, k, name_of(schema, rows, discriminator));
+    let v = value_at(
+        m,
+        Dialect::Message,
+        nodes,
+        k,
+        name_of(schema, rows, discriminator),
+    );
     if v == 0 {
         return Structs::NoObject;
     }

@@ -43,7 +43,6 @@ abbrev pub isNone : {A : Type 0} → Option A → Bool
 isNone none = true
 isNone (some a) = false
 
-
 -- an outcome: the answer and the lent words
 pub record SchemaResult : Type 0 where
   pub answer : SchemaAnswer
