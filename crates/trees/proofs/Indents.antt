@@ -14,6 +14,7 @@ use Rattle.grammar.specs.Limits.{record-words}
 use Rattle.grammar.specs.Tree.{startOf, endOf}
 use Rattle.rules.specs.declared.MessageAnswer.the-variants.{Accepted}
 use Rattle.rules.specs.Readings.{Typed, recordsOf}
+use Rattle.rules.specs.Envelope.{Asked}
 use Rattle.rules.specs.MessageAnswers.{Readable}
 use Rattle.rules.specs.Answers.{messageResult}
 use Rattle.rules.proofs.Acceptance.{Gives, accepted-gives}
@@ -210,7 +211,9 @@ module _ (S T m ws : List ℕ) (room : ℕ) where
 -- ---- of an accepted answer: the words that it counts, with room for the end of each record or more
 pub record Tells (S T m : List ℕ) (c n : ℕ) (words : List ℕ) : Type 0 where
   pub reading : List Typed
-  pub readable : Readable S T m c reading
+  pub asked : Asked
+  pub row : c ≡ asked .second
+  pub readable : Readable S T m asked reading
   pub count : n ≡ length reading
   pub lines : (ends : ℕ) → n ≤ ends → linesFrom S T m (take (record-words * n) words) ends 0 [] ≡ readingLines S T m (take (record-words * n) words) [] reading
   pub nested : Nested reading
@@ -227,6 +230,8 @@ accepted-tree S T m room c n e =
     let o = reading-nested (g .readable-so) in
     record {
       reading = ts;
+      asked = g .asked;
+      row = g .row;
       readable = g .readable-so;
       count = g .count;
       lines = λ ends h. ap (λ (i : ℕ). linesOf S T m ws ends i 0 []) k ∙ lines-are S T m ws ends ts (record {

@@ -9,6 +9,7 @@ use lib.ListN.{length, take, drop, replicate}
 use Rattle.grammar.specs.Limits.{record-words}
 use Rattle.rules.specs.declared.MessageAnswer.the-variants.{Accepted}
 use Rattle.rules.specs.Readings.{Typed, recordOf, recordsOf}
+use Rattle.rules.specs.Envelope.{Asked}
 use Rattle.rules.specs.MessageAnswers.{Readable}
 use Rattle.rules.specs.Answers.{messageResult}
 use Rattle.rules.proofs.Acceptance.{Gives, accepted-gives}
@@ -90,7 +91,9 @@ counted (t ∷ ts) zs = ap (λ (k : ℕ). take k (recordsOf (t ∷ ts) ++ zs)) (
 -- ---- an accepted answer: the words that it counts
 pub record Walked (S T m : List ℕ) (c n : ℕ) (words : List ℕ) : Type 0 where
   pub reading : List Typed
-  pub readable : Readable S T m c reading
+  pub wanted : Asked
+  pub row : c ≡ wanted .second
+  pub readable : Readable S T m wanted reading
   pub count : n ≡ length reading
   pub gives : (k : ℕ) → asked (take (record-words * n) words) (n + k) 0 ≡ map seenOf reading ++ replicate k Nothing
   pub stays-there : (k : ℕ) → placeThen (take (record-words * n) words) (n + k) 0 ≡ n
@@ -102,6 +105,8 @@ gives-walked {words = words} {room = room} {n = n} g =
     ap (λ (l : List ℕ). take (record-words * n) l) (g .records) ∙ ap (λ (i : ℕ). take (record-words * i) (recordsOf (g .reading) ++ zs)) (g .count) ∙ counted (g .reading) zs in
     record {
       reading = g .reading;
+      wanted = g .asked;
+      row = g .row;
       readable = g .readable-so;
       count = g .count;
       gives = λ k. ap (λ (l : List ℕ). asked l (n + k) 0) w ∙ ap (λ (i : ℕ). asked (recordsOf (g .reading)) (i + k) 0) (g .count) ∙ gives-records (g .reading) k;
