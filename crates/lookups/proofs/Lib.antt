@@ -1,5 +1,4 @@
 -- Laws of looking into nodes.
 pub mod NodeLaws
 pub mod FieldLaws
-pub mod KeyTests
 pub mod KeyCounts

@@ -31,14 +31,6 @@ pub record NodeMeans (D : Dialect) (s w : List ℕ) (k : ℕ) (name : List ℕ) 
   pub key : (cs : List ℕ) → KeyAt D s w k cs → r ≡ same cs name
   pub string : (a e l : ℕ) (cs : List ℕ) → Holds D s w (leaf a e (str cs)) l k → r ≡ same cs name
 
--- the key at node a is one of these
-pub record OneOf (D : Dialect) (s w : List ℕ) (a : ℕ) (names : List (List ℕ)) (r : Bool) : Type 0 where
-  pub told : (cs : List ℕ) → KeyAt D s w a cs → r ≡ anyOf names cs
-
--- the object at node k has no key but these
-pub record OnlyKeys (D : Dialect) (s w : List ℕ) (k : ℕ) (names : List (List ℕ)) (r : Bool) : Type 0 where
-  pub told : (fs : Fields) (l : ℕ) → HoldsFields D s w fs l (suc k) (next w k) → r ≡ all (anyOf names) (keysOf fs)
-
 -- where the value under a key stands: at a node, or nowhere
 abbrev pub ValueFound : Dialect → List ℕ → List ℕ → ℕ → Option Json → ℕ → Type 0
 ValueFound D s w l none r = r ≡ 0

@@ -56,7 +56,7 @@ small-link S T c ok k = go (arguments T c) refl
 module _ {S T m w : List ℕ} {v : E.Envelope} (f : ReadsEnvelope m w v) where
   -- an improper envelope
   pub improper : v ≡ Improper → AsksFor S T m w (Refuses M.NotEnvelope)
-  improper e = record { told = λ ok j l h. go (l - 1) (envelope j) (f .told j l h) }
+  improper e = record { told = λ ok j l h k. go (l - 1) (envelope j) (f .told j l h k) }
     where
       go : (l : ℕ) (o : Option Envelope) → EnvelopeTold m w l o v → AskingTold m w l (envelopeAsking S T o) (Refuses M.NotEnvelope)
       go l none t = refl
@@ -72,8 +72,8 @@ module _ {S T m w : List ℕ} {v : E.Envelope} (f : ReadsEnvelope m w v) where
       band : oob ≡ says .outOfBand
       args-at : at .arguments ≡ args
 
-    said : (j : Json) (l : ℕ) → Holds message m w j l 0 → Said j (l - 1)
-    said j l h = go (envelope j) refl (f .told j l h)
+    said : (j : Json) (l : ℕ) → Holds message m w j l 0 → keysOnce j ≡ true → Said j (l - 1)
+    said j l h k = go (envelope j) refl (f .told j l h k)
       where
         go : (o : Option Envelope) → envelope j ≡ o → EnvelopeTold m w (l - 1) o v → Said j (l - 1)
         go none p t = let z : Call name oob args ≡ Improper = sym e ∙ t in let y : _≡_ {A = ℕ} 0 1 = cc in absurd (omega arith)
@@ -91,7 +91,7 @@ module _ {S T m w : List ℕ} {v : E.Envelope} (f : ReadsEnvelope m w v) where
             }
 
     pub unknown : q ≡ Unknown → AsksFor S T m w (Refuses M.UnknownCommand)
-    unknown p = record { told = λ ok j l h. go j (l - 1) (said j l h) }
+    unknown p = record { told = λ ok j l h o. go j (l - 1) (said j l h o) }
       where
         missed : (o : Option ℕ) → q ≡ asCommand o → o ≡ none
         missed none t = refl
@@ -113,14 +113,14 @@ module _ {S T m w : List ℕ} {v : E.Envelope} (f : ReadsEnvelope m w v) where
         used s = u ∙ ap (mayUse T c) (s .band)
 
         pub not-allowed : b ≡ false → AsksFor S T m w (Refuses M.NotOutOfBand)
-        not-allowed t = record { told = λ ok j l h. go j (l - 1) (said j l h) }
+        not-allowed t = record { told = λ ok j l h o. go j (l - 1) (said j l h o) }
           where
             go : (j : Json) (l : ℕ) → Said j l → AskingTold m w l (asking S T j) (Refuses M.NotOutOfBand)
             go j l s = rw (s .proper, found s, sym (used s) ∙ t) refl
 
         pub allowed : b ≡ true → {x : Asked} {t k : ℕ} → k ≡ arguments T c → (k + first-row < 2 ^ 32 → t ≡ linkRef k) → x .node ≡ args → x .how .reference ≡ t → x .how .array ≡ 0
             → x .how .passes ≡ false → x .second ≡ c → AsksFor S T m w (Asks x)
-        allowed y {x} {t} {k} a r n i o z d = record { told = λ ok j l h. go ok j (l - 1) (said j l h) }
+        allowed y {x} {t} {k} a r n i o z d = record { told = λ ok j l h o. go ok j (l - 1) (said j l h o) }
           where
             go : sound S T ≡ true → (j : Json) (l : ℕ) → Said j l → AskingTold m w l (asking S T j) (Asks x)
             go ok j l s =

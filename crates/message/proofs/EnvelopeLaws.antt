@@ -8,21 +8,21 @@ use mathlib.Core.List.{List}
 use mathlib.Core.Option.{Option, none, some}
 use lib.Dec.{eqb}
 use borrow.Author.Tests.{eqb-true, ne-eqb, eq-eqb}
-use Rattle.grammar.specs.Notation.{text, all}
+use Rattle.grammar.specs.Notation.{text, same, all, apart}
 use Rattle.grammar.specs.Tree.{Scalar, Json, Fields, kindOf}
 use Rattle.grammar.specs.Tree.Scalar.{null, bool, num, str}
 use Rattle.grammar.specs.Tree.Json.{leaf, arr, obj}
 use Rattle.grammar.specs.Tree.Fields.{no-fields}
 use Rattle.grammar.specs.Tree.Kind.{string}
-use Rattle.grammar.specs.Keys.{keysOf}
+use Rattle.grammar.specs.Keys.{keysOf, keysOnce, keysOnceF}
 use Rattle.grammar.specs.Machine.Message.{message}
 use Rattle.rules.specs.Types.{sameKind}
 use Rattle.rules.specs.Values.{_>>=_, asString, valueAt, anyOf}
 use Rattle.rules.specs.Envelope.{Envelope, asArguments, asName, envelope}
-use Rattle.rules.proofs.Lists.{clash}
+use Rattle.rules.proofs.Lists.{clash, and-left}
 use Rattle.text.specs.Nodes.{node, next, Holds, HoldsFields, nodeKind}
 use Rattle.text.proofs.KeyLaws.{scalar-no-object}
-use Rattle.lookups.specs.Lookups.{stringKind, ValueFound, FindsValue, OnlyKeys}
+use Rattle.lookups.specs.Lookups.{stringKind, ValueFound, FindsValue, NoOtherKeys}
 use Rattle.lookups.proofs.NodeLaws.{string-node}
 use Rattle.message.specs.declared.envelope.Envelope as E
 use Rattle.message.specs.declared.envelope.Envelope.the-variants.{Call, Improper}
@@ -51,23 +51,26 @@ pub present : (w : List ℕ) {k i : ℕ} → (k ≡ 0 → ⊥) → i ≡ nodeKin
 unfolding properArguments
 present w {k} h e = rw (ne-eqb k 0 h) (ap (λ (n : ℕ). eqb n 9) e)
 
+pub keys-said : {m w : List ℕ} {b v : Bool} → NoOtherKeys message m w 0 envelopeKeys b → b ≡ v → NoOtherKeys message m w 0 envelopeKeys v
+keys-said {m} {w} h e = subst (NoOtherKeys message m w 0 envelopeKeys) e h
+
 module _ (m w : List ℕ) where
   -- refused for what is said of an object
-  refused : ((a e : ℕ) (fs : Fields) (l : ℕ) → Holds message m w (obj a e fs) l 0 → envelope (obj a e fs) ≡ none) → ReadsEnvelope m w Improper
+  refused : ((a e : ℕ) (fs : Fields) (l : ℕ) → Holds message m w (obj a e fs) l 0 → apart same (keysOf fs) ≡ true → envelope (obj a e fs) ≡ none) → ReadsEnvelope m w Improper
   unfolding envelope
-  refused h = record { told = λ j l x. go j l x }
+  refused h = record { told = λ j l x k. go j l x k }
     where
-      go : (j : Json) (l : ℕ) → Holds message m w j l 0 → EnvelopeTold m w (l - 1) (envelope j) Improper
-      go (leaf a e v) l x = refl
-      go (arr a e js) l x = refl
-      go (obj a e fs) l x = subst (λ (o : Option Envelope). EnvelopeTold m w (l - 1) o Improper) (sym (h a e fs l x)) refl
+      go : (j : Json) (l : ℕ) → Holds message m w j l 0 → keysOnce j ≡ true → EnvelopeTold m w (l - 1) (envelope j) Improper
+      go (leaf a e v) l x k = refl
+      go (arr a e js) l x k = refl
+      go (obj a e fs) l x k = subst (λ (o : Option Envelope). EnvelopeTold m w (l - 1) o Improper) (sym (h a e fs l x (and-left (apart same (keysOf fs)) (keysOnceF fs) k))) refl
 
   pub not-object : (node w 0 0 ≡ 9 → ⊥) → ReadsEnvelope m w Improper
-  not-object h = refused (λ a e fs l x. absurd (h (x .0 .has-kind)))
+  not-object h = refused (λ a e fs l x k. absurd (h (x .0 .has-kind)))
 
-  pub other-key : OnlyKeys message m w 0 envelopeKeys false → ReadsEnvelope m w Improper
+  pub other-key : NoOtherKeys message m w 0 envelopeKeys false → ReadsEnvelope m w Improper
   unfolding envelope
-  other-key h = refused (λ a e fs l x. rw (sym (h .told fs (l - 1) (x .3))) refl)
+  other-key h = refused (λ a e fs l x k. rw (sym (h .told fs (l - 1) (x .3) k)) refl)
 
   module _ (l : ℕ) where
     -- the value at node k is an object exactly when its kind says so
@@ -142,27 +145,27 @@ module _ (m w : List ℕ) where
     no-arguments none (some j) v e = nothing-said v true (asString j) e
     no-arguments (some i) (some j) v e = refl
 
-  module _ {x y k : ℕ} (o : OnlyKeys message m w 0 envelopeKeys true) (f : FindsValue message m w 0 (text "execute") x)
+  module _ {x y k : ℕ} (o : NoOtherKeys message m w 0 envelopeKeys true) (f : FindsValue message m w 0 (text "execute") x)
       (g : FindsValue message m w 0 (text "exec-oob") y) (h : FindsValue message m w 0 (text "arguments") k) where
     pub bad-arguments : properArguments w k ≡ false → ReadsEnvelope m w Improper
     unfolding envelope
     bad-arguments t =
-        refused (λ a e fs l z.
-        rw (sym (o .told fs (l - 1) (z .3))) (no-arguments (l - 1) (valueAt (text "execute") fs) (valueAt (text "exec-oob") fs) (valueAt (text "arguments") fs)
+        refused (λ a e fs l z i.
+        rw (sym (o .told fs (l - 1) (z .3) i)) (no-arguments (l - 1) (valueAt (text "execute") fs) (valueAt (text "exec-oob") fs) (valueAt (text "arguments") fs)
         (arguments-not (l - 1) (valueAt (text "arguments") fs) k (h .told fs (l - 1) (z .3)) t)))
 
     -- the whole envelope
     read-so : node w 0 0 ≡ 9 → properArguments w k ≡ true → ReadsEnvelope m w (cond (eqb y 0) (callOf w x false k) (cond (eqb x 0) (callOf w y true k) Improper))
     unfolding envelope
-    read-so q t = record { told = λ j l z. go j l z }
+    read-so q t = record { told = λ j l z i. go j l z i }
       where
-        go : (j : Json) (l : ℕ) → Holds message m w j l 0
+        go : (j : Json) (l : ℕ) → Holds message m w j l 0 → keysOnce j ≡ true
             → EnvelopeTold m w (l - 1) (envelope j) (cond (eqb y 0) (callOf w x false k) (cond (eqb x 0) (callOf w y true k) Improper))
-        go (leaf a e v) l z = absurd (scalar-no-object m a e v (sym (z .0 .has-kind) ∙ q))
-        go (arr a e js) l z = absurd (omega (arith, z .0 .has-kind, q))
-        go (obj a e fs) l z =
+        go (leaf a e v) l z i = absurd (scalar-no-object m a e v (sym (z .0 .has-kind) ∙ q))
+        go (arr a e js) l z i = absurd (omega (arith, z .0 .has-kind, q))
+        go (obj a e fs) l z i =
             let u = z .3 in
-            rw (sym (o .told fs (l - 1) u)) (by-keys (l - 1) (valueAt (text "execute") fs) (valueAt (text "exec-oob") fs) (valueAt (text "arguments") fs) x y k
+            rw (sym (o .told fs (l - 1) u (and-left (apart same (keysOf fs)) (keysOnceF fs) i))) (by-keys (l - 1) (valueAt (text "execute") fs) (valueAt (text "exec-oob") fs) (valueAt (text "arguments") fs) x y k
             (f .told fs (l - 1) u) (g .told fs (l - 1) u) (arguments-at (l - 1) (valueAt (text "arguments") fs) k (h .told fs (l - 1) u) t))
 
     module _ (q : node w 0 0 ≡ 9) (t : properArguments w k ≡ true) where

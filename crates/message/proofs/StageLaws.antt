@@ -99,7 +99,7 @@ module _ {m v w : List ℕ} {r : TextFound} (t : ReadsText m v w r) where
 -- what is asked
 module _ {S T m w ix : List ℕ} (g : Given S T ix) (v : ValueRead m w) {r : Asking} (q : AsksFor S T m w r) where
   told : AskingTold m w (message-levels - 1) (asking S T (v .value)) r
-  told = q .told (g .sound-table) (v .value) message-levels (v .holds)
+  told = q .told (g .sound-table) (v .value) message-levels (v .holds) (v .once)
 
   pub refuses : {x : MessageRefusal} → r ≡ Refuses x → (room : ℕ) → textResult S T room (readMessage m) ≡ refusedBy room x
   refuses {x} e room = rw (v .text, v .once) (go (asking S T (v .value)) (subst (λ (y : Asking). AskingTold m w (message-levels - 1) (asking S T (v .value)) y) e told))

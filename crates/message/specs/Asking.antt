@@ -7,6 +7,7 @@ use mathlib.Core.List.{List}
 use Rattle.grammar.specs.Tree.{Json}
 use Rattle.grammar.specs.Tree.Json.{obj}
 use Rattle.grammar.specs.Tree.Fields.{no-fields}
+use Rattle.grammar.specs.Keys.{keysOnce}
 use Rattle.grammar.specs.Machine.Message.{message}
 use Rattle.rules.specs.Sound.{sound}
 use Rattle.rules.specs.Readings.{strict}
@@ -37,4 +38,4 @@ AskingTold m w l (Answers.Asking.refuses z) (Refuses y) = z ≡ y
 
 -- what the message whose value stands at node 0 asks of a sound table
 pub record AsksFor (S T m w : List ℕ) (r : Asking) : Type 0 where
-  pub told : sound S T ≡ true → (j : Json) (l : ℕ) → Holds message m w j l 0 → AskingTold m w (l - 1) (Answers.asking S T j) r
+  pub told : sound S T ≡ true → (j : Json) (l : ℕ) → Holds message m w j l 0 → keysOnce j ≡ true → AskingTold m w (l - 1) (Answers.asking S T j) r

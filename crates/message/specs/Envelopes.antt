@@ -11,6 +11,7 @@ use Rattle.grammar.specs.Tree.{Json}
 use Rattle.grammar.specs.Tree.Scalar.{str}
 use Rattle.grammar.specs.Tree.Json.{leaf, obj}
 use Rattle.grammar.specs.Tree.Fields.{no-fields}
+use Rattle.grammar.specs.Keys.{keysOnce}
 use Rattle.grammar.specs.Machine.Message.{message}
 use Rattle.rules.specs.Envelope.{Envelope, envelope}
 use Rattle.text.specs.Nodes.{node, Holds, nodeKind}
@@ -46,4 +47,4 @@ EnvelopeTold m w l none r = r ≡ Improper
 EnvelopeTold m w l (some v) r = SaidAt m w l v r
 
 pub record ReadsEnvelope (m w : List ℕ) (r : E.Envelope) : Type 0 where
-  pub told : (j : Json) (l : ℕ) → Holds message m w j l 0 → EnvelopeTold m w (l - 1) (envelope j) r
+  pub told : (j : Json) (l : ℕ) → Holds message m w j l 0 → keysOnce j ≡ true → EnvelopeTold m w (l - 1) (envelope j) r

@@ -1,16 +1,15 @@
 // The envelope: execute or exec-oob, arguments, id, and no other key.
+use lookups::counts::field_count;
+use lookups::counts::four_keys;
 use lookups::values::is_string;
-use lookups::values::node_means;
 use lookups::values::value_at;
 use strings::dialects::Dialect;
 use text::nodes::NODE_KIND;
-use text::nodes::NODE_NEXT;
-use text::nodes::node_number;
 use text::nodes::node_word;
 use tokens::node;
 ghost use mathlib.Core.Path.{_≡_};
 ghost use Rattle.grammar.specs.Machine.Message.{message};
-ghost use Rattle.lookups.specs.Lookups.{OneOf, OnlyKeys};
+ghost use Rattle.lookups.specs.Lookups.{NoOtherKeys};
 ghost use Rattle.message.specs.Envelopes.{envelopeKeys, callOf, properArguments, ReadsEnvelope};
 
 // The node of the command's name, whether it is out of band, and the node of the arguments, 0 if they are absent.
@@ -19,42 +18,12 @@ pub enum Envelope {
     Improper,
 }
 
-// Whether the key at node a is one that an envelope may have.
-fn is_key(m: &[u8], nodes: &[u32], a: usize) -> bool
-    ensures { λ r. ⌜ OneOf message (now (m .entry)) (now (nodes .entry)) a envelopeKeys r ⌝ }
+// Whether the message's object has no other key: as many fields as there are of these.
+fn only_keys(m: &[u8], nodes: &[u32]) -> bool
+    ensures { λ r. ⌜ NoOtherKeys message (now (m .entry)) (now (nodes .entry)) 0 envelopeKeys r ⌝ }
 {
-    if node_means(m, Dialect::Message, nodes, a, b"execute") {
-        return true;
-    }
-    if node_means(m, Dialect::Message, nodes, a, b"exec-oob") {
-        return true;
-    }
-    if node_means(m, Dialect::Message, nodes, a, b"arguments") {
-        return true;
-    }
-    node_means(m, Dialect::Message, nodes, a, b"id")
-}
-
-// Whether the object at node k has no other key.
-fn only_keys(m: &[u8], nodes: &[u32], k: usize) -> bool
-    ensures { λ r. ⌜ OnlyKeys message (now (m .entry)) (now (nodes .entry)) k envelopeKeys r ⌝ }
-{
-    let end = node_number(nodes, k, NODE_NEXT);
-    if end <= k {
-        return true;
-    }
-    let mut a = k + 1;
-    while a < end {
-        if !is_key(m, nodes, a) {
-            return false;
-        }
-        let n = node_number(nodes, a, NODE_NEXT);
-        if n <= a {
-            return true;
-        }
-        a = n;
-    }
-    true
+    let d = Dialect::Message;
+    four_keys(m, d, nodes, 0, b"execute", b"exec-oob", b"arguments", b"id") == field_count(nodes, 0)
 }
 
 // The call by the name at a node, 0 if there is none.
@@ -87,7 +56,7 @@ pub fn read_envelope(m: &[u8], nodes: &[u32]) -> Envelope
     if node_word(nodes, 0, NODE_KIND) != node::OBJECT {
         return Envelope::Improper;
     }
-    if !only_keys(m, nodes, 0) {
+    if !only_keys(m, nodes) {
         return Envelope::Improper;
     }
     let execute = value_at(m, Dialect::Message, nodes, 0, b"execute");

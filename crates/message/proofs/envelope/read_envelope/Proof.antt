@@ -2,8 +2,7 @@
 use mathlib.Core.Path.{_∙_, sym}
 use borrow.Author.Tests.{not-true, not-false}
 use Rattle.rows.proofs.Walks.{denied, granted}
-use Rattle.message.proofs.EnvelopeLaws.{not-object, other-key, bad-arguments, in-band, both, out-of-band}
-use Rattle.lookups.proofs.KeyTests.{keys-are}
+use Rattle.message.proofs.EnvelopeLaws.{keys-said, not-object, other-key, bad-arguments, in-band, both, out-of-band}
 use borrow.Author.Needs.{needs}
 use Rattle.message.proofs.envelope.read_envelope.Statement.{statement}
 use Rattle.message.proofs.envelope.read_envelope.Tie as tie
@@ -18,7 +17,7 @@ only-keys-requires : tie.Need-only-keys-requires
 only-keys-requires c κs = search needs
 
 returns-2 : tie.Need-returns-2
-returns-2 c = other-key (c .before .before .before .before .before .before .args .m .now) (c .before .before .before .before .before .before .args .nodes .now) (keys-are (c .before .only-keys .ensures) (not-true _ (c .if2 .taken)))
+returns-2 c = other-key (c .before .before .before .before .before .before .args .m .now) (c .before .before .before .before .before .before .args .nodes .now) (keys-said (c .before .only-keys .ensures) (not-true _ (c .if2 .taken)))
 
 slice-aggregate-value-at : tie.Need-slice-aggregate-value-at
 slice-aggregate-value-at c = search needs
@@ -42,22 +41,22 @@ are-proper-requires : tie.Need-are-proper-requires
 are-proper-requires c κs = search needs
 
 returns-3 : tie.Need-returns-3
-returns-3 c = bad-arguments (c .before .before .before .before .before .before .before .before .before .before .before .before .before .before .args .m .now) (c .before .before .before .before .before .before .before .before .before .before .before .before .before .before .args .nodes .now) (keys-are (c .before .before .before .before .before .before .before .before .before .only-keys .ensures) (not-false _ (c .before .before .before .before .before .before .before .before .if2 .left))) (c .before .before .before .before .before .before .value-at .ensures) (c .before .before .before .before .value-at2 .ensures) (c .before .before .value-at3 .ensures) (denied (c .before .are-proper .ensures) (c .if3 .taken))
+returns-3 c = bad-arguments (c .before .before .before .before .before .before .before .before .before .before .before .before .before .before .args .m .now) (c .before .before .before .before .before .before .before .before .before .before .before .before .before .before .args .nodes .now) (keys-said (c .before .before .before .before .before .before .before .before .before .only-keys .ensures) (not-false _ (c .before .before .before .before .before .before .before .before .if2 .left))) (c .before .before .before .before .before .before .value-at .ensures) (c .before .before .before .before .value-at2 .ensures) (c .before .before .value-at3 .ensures) (denied (c .before .are-proper .ensures) (c .if3 .taken))
 
 call-requires : tie.Need-call-requires
 call-requires c κs = search needs
 
 returns-4 : tie.Need-returns-4
-returns-4 c = in-band (c .before .before .before .before .before .before .before .before .before .before .before .before .before .before .before .before .args .m .now) (c .before .before .before .before .before .before .before .before .before .before .before .before .before .before .before .before .args .nodes .now) (keys-are (c .before .before .before .before .before .before .before .before .before .before .before .only-keys .ensures) (not-false _ (c .before .before .before .before .before .before .before .before .before .before .if2 .left))) (c .before .before .before .before .before .before .before .before .value-at .ensures) (c .before .before .before .before .before .before .value-at2 .ensures) (c .before .before .before .before .value-at3 .ensures) (sym (c .before .before .before .before .before .before .before .before .before .before .before .before .before .node-word .ensures) ∙ c .before .before .before .before .before .before .before .before .before .before .before .before .if1 .left) (granted (c .before .before .before .are-proper .ensures) (c .before .before .if3 .left)) (c .before .if4 .taken) (c .call .ensures)
+returns-4 c = in-band (c .before .before .before .before .before .before .before .before .before .before .before .before .before .before .before .before .args .m .now) (c .before .before .before .before .before .before .before .before .before .before .before .before .before .before .before .before .args .nodes .now) (keys-said (c .before .before .before .before .before .before .before .before .before .before .before .only-keys .ensures) (not-false _ (c .before .before .before .before .before .before .before .before .before .before .if2 .left))) (c .before .before .before .before .before .before .before .before .value-at .ensures) (c .before .before .before .before .before .before .value-at2 .ensures) (c .before .before .before .before .value-at3 .ensures) (sym (c .before .before .before .before .before .before .before .before .before .before .before .before .before .node-word .ensures) ∙ c .before .before .before .before .before .before .before .before .before .before .before .before .if1 .left) (granted (c .before .before .before .are-proper .ensures) (c .before .before .if3 .left)) (c .before .if4 .taken) (c .call .ensures)
 
 returns-5 : tie.Need-returns-5
-returns-5 c = both (c .before .before .before .before .before .before .before .before .before .before .before .before .before .before .before .before .args .m .now) (c .before .before .before .before .before .before .before .before .before .before .before .before .before .before .before .before .args .nodes .now) (keys-are (c .before .before .before .before .before .before .before .before .before .before .before .only-keys .ensures) (not-false _ (c .before .before .before .before .before .before .before .before .before .before .if2 .left))) (c .before .before .before .before .before .before .before .before .value-at .ensures) (c .before .before .before .before .before .before .value-at2 .ensures) (c .before .before .before .before .value-at3 .ensures) (sym (c .before .before .before .before .before .before .before .before .before .before .before .before .before .node-word .ensures) ∙ c .before .before .before .before .before .before .before .before .before .before .before .before .if1 .left) (granted (c .before .before .before .are-proper .ensures) (c .before .before .if3 .left)) (c .before .if4 .left) (c .if5 .taken)
+returns-5 c = both (c .before .before .before .before .before .before .before .before .before .before .before .before .before .before .before .before .args .m .now) (c .before .before .before .before .before .before .before .before .before .before .before .before .before .before .before .before .args .nodes .now) (keys-said (c .before .before .before .before .before .before .before .before .before .before .before .only-keys .ensures) (not-false _ (c .before .before .before .before .before .before .before .before .before .before .if2 .left))) (c .before .before .before .before .before .before .before .before .value-at .ensures) (c .before .before .before .before .before .before .value-at2 .ensures) (c .before .before .before .before .value-at3 .ensures) (sym (c .before .before .before .before .before .before .before .before .before .before .before .before .before .node-word .ensures) ∙ c .before .before .before .before .before .before .before .before .before .before .before .before .if1 .left) (granted (c .before .before .before .are-proper .ensures) (c .before .before .if3 .left)) (c .before .if4 .left) (c .if5 .taken)
 
 call-requires-2 : tie.Need-call-requires-2
 call-requires-2 c κs = search needs
 
 returns-6 : tie.Need-returns-6
-returns-6 c = out-of-band (c .before .before .before .before .before .before .before .before .before .before .before .before .before .before .before .before .before .args .m .now) (c .before .before .before .before .before .before .before .before .before .before .before .before .before .before .before .before .before .args .nodes .now) (keys-are (c .before .before .before .before .before .before .before .before .before .before .before .before .only-keys .ensures) (not-false _ (c .before .before .before .before .before .before .before .before .before .before .before .if2 .left))) (c .before .before .before .before .before .before .before .before .before .value-at .ensures) (c .before .before .before .before .before .before .before .value-at2 .ensures) (c .before .before .before .before .before .value-at3 .ensures) (sym (c .before .before .before .before .before .before .before .before .before .before .before .before .before .before .node-word .ensures) ∙ c .before .before .before .before .before .before .before .before .before .before .before .before .before .if1 .left) (granted (c .before .before .before .before .are-proper .ensures) (c .before .before .before .if3 .left)) (c .before .before .if4 .left) (c .before .if5 .left) (c .call2 .ensures)
+returns-6 c = out-of-band (c .before .before .before .before .before .before .before .before .before .before .before .before .before .before .before .before .before .args .m .now) (c .before .before .before .before .before .before .before .before .before .before .before .before .before .before .before .before .before .args .nodes .now) (keys-said (c .before .before .before .before .before .before .before .before .before .before .before .before .only-keys .ensures) (not-false _ (c .before .before .before .before .before .before .before .before .before .before .before .if2 .left))) (c .before .before .before .before .before .before .before .before .before .value-at .ensures) (c .before .before .before .before .before .before .before .value-at2 .ensures) (c .before .before .before .before .before .value-at3 .ensures) (sym (c .before .before .before .before .before .before .before .before .before .before .before .before .before .before .node-word .ensures) ∙ c .before .before .before .before .before .before .before .before .before .before .before .before .before .if1 .left) (granted (c .before .before .before .before .are-proper .ensures) (c .before .before .before .if3 .left)) (c .before .before .if4 .left) (c .before .if5 .left) (c .call2 .ensures)
 
 pub read-envelope-spec : {M : Type 1} → statement M
 read-envelope-spec =
