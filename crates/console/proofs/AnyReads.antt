@@ -13,7 +13,7 @@ use Rattle.lines.proofs.TextLaws.{put-length}
 use Rattle.trees.specs.TreeText.{linesOf, linesFrom}
 use Rattle.console.specs.declared.answers.Style.{Style}
 use Rattle.console.specs.declared.steps.Taken.{Taken}
-use Rattle.console.specs.Program.{treeLines, answerText, lastLine, answersTo, Takes}
+use Rattle.console.specs.Program.{treeLines, answerText, answersTo, Takes}
 use Rattle.console.specs.Runs.{Lists, Lists.listed, Lists.piece, Turns, Turns.used-up, Turns.waits, Turns.writes, Run, Run.ends, Run.last, Run.reads, inputOf}
 use Rattle.console.proofs.AnswerLaws.{no-lines}
 

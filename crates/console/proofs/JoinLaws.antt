@@ -6,8 +6,7 @@ use mathlib.Core.Path.{_≡_, refl, sym, ap, subst, _∙_}
 use mathlib.Core.Bool.{Bool, true, false}
 use mathlib.Core.List.{List, [], _∷_, _++_}
 use lib.Dec.{leb}
-use lib.ListN.{length, take, drop, length-drop}
-use lib.Seq.{take-all}
+use lib.ListN.{length, take, drop}
 use borrow.Author.Tests.{leb-true, leb-false}
 use Rattle.grammar.proofs.Booleans.{min-right}
 use Rattle.lines.specs.Text.{put}
@@ -16,7 +15,7 @@ use Rattle.lines.proofs.TextLaws.{put-length}
 use Rattle.console.specs.declared.files.Read.{Read}
 use Rattle.console.specs.declared.files.Read.the-variants.{Bytes}
 use Rattle.console.specs.declared.joins.Joined.{Joined}
-use Rattle.console.specs.declared.joins.Joined.the-variants.{Line, More}
+use Rattle.console.specs.declared.joins.Joined.the-variants.{Line}
 use Rattle.console.specs.Joining.{Within, lineSoFar, Holds, Joins}
 
 pub bytes-in : (room : ℕ) {n : ℕ} {t : Read} → t ≡ Bytes n → Within room t → n ≤ room

@@ -4,7 +4,7 @@ use crate::answers::put_answer;
 use crate::joins::Joined;
 use crate::joins::join_line;
 ghost use Prim.Native.Nat.{_+_, _≤_};
-ghost use lib.ListN.{length, take};
+ghost use lib.ListN.{length};
 ghost use Rattle.console.specs.Program.{longest-line, Room, Takes};
 
 // A place in a chunk, how many bytes are kept of the line that goes on there, and the place after the answers put so far.

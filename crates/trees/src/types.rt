@@ -6,7 +6,6 @@ use rows::names::name_of;
 use rows::rows::wide;
 use rows::rows::word;
 use rules::FIRST_ROW;
-ghost use mathlib.Core.Path.{_≡_};
 ghost use Prim.Native.Nat.{_+_, _-_, _≤_, _<_};
 ghost use mathlib.Core.List.{[]};
 ghost use lib.ListN.{length, take, drop, getD};

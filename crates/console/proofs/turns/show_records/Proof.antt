@@ -1,7 +1,7 @@
 -- `show_records` is safe and ends. The invariant: the rooms keep their sizes, and a line has room. The measure is the records left.
 use Prim.Native.Nat.{_-_, _≤_}
 use native.Mathlib.Omega.{arith}
-use mathlib.Core.Path.{_≡_, refl, sym, _∙_}
+use mathlib.Core.Path.{_≡_, refl}
 use lib.ListN.{length}
 use Rattle.trees.specs.TreeText.{line-room}
 use borrow.Author.Needs.{needs}
