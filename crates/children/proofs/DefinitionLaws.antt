@@ -1,7 +1,7 @@
 -- The index of a sound table, filled definition by definition.
 -- The idea: rows fall into definitions; a row within one is its own, its inline struct's or a child, and a child has no children. So every long list is met.
 use Prim.{tt}
-use Prim.Native.Nat.{ℕ, zero, suc, _+_, _%_, _≤_, _<_}
+use Prim.Native.Nat.{ℕ, zero, suc, _%_, _≤_, _<_}
 use native.Mathlib.Nat.{eq-or-lt-of-le}
 use native.Mathlib.Omega.{arith}
 use mathlib.Core.Path.{_≡_, refl, sym, ap, _∙_, subst}

@@ -1,6 +1,6 @@
 -- The children of a row, looked at in turn: those that are left decide.
 -- The idea: a key or a string is compared with a name by what it means, and the first child that fits is the answer.
-use Prim.Native.Nat.{ℕ, suc, _+_, _-_, _<_, _≤_}
+use Prim.Native.Nat.{ℕ, _+_, _-_, _<_, _≤_}
 use mathlib.Core.Path.{_≡_, refl, sym, ap, _∙_}
 use mathlib.Core.Bool.{Bool, true, false}
 use mathlib.Core.List.{List}

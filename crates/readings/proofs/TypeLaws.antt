@@ -1,6 +1,6 @@
 -- By which type a value is read: the type itself, or the first alternative of the value's kind.
 -- The idea: kinds are compared as columns of the grid; a type without a kind has no column.
-use Prim.Native.Nat.{ℕ, suc, _+_, _-_, _<_, _≤_}
+use Prim.Native.Nat.{ℕ, _-_, _<_, _≤_}
 use mathlib.Core.Path.{_≡_, refl, sym, ap, _∙_}
 use mathlib.Core.List.{List}
 use mathlib.Core.Option.{Option, none, some}
