@@ -9,9 +9,10 @@ use lib.Dec.{eqb, leb}
 use lib.ListN.{length, take, drop, getD}
 use lib.Seq.{drop-cons}
 use borrow.Author.Tests.{eq-eqb, ne-eqb, lt-leb, le-leb}
-use Rattle.grammar.specs.Limits.{row-words}
+use Rattle.grammar.specs.Limits.{first-row}
 use Rattle.grammar.specs.Lexis.{blank}
-use Rattle.rules.specs.Rows.{isAlternate}
+use Rattle.rules.specs.Kinds.{alternate-kind}
+use Rattle.rules.specs.Rows.{kind, isAlternate}
 use Rattle.grammar.specs.Notation.{text}
 use Rattle.lines.specs.Text.{Puts}
 use Rattle.lines.proofs.TextLaws.{puts-as}
@@ -94,13 +95,13 @@ module _ (T : List ℕ) (t f : ℕ) where
   pub an-array : (f ≡ 0 → ⊥) → false ≡ alternateRef T t f
   an-array h = rw (ne-eqb f 0 h) refl
 
-  pub a-built-in : {w : ℕ} → f ≡ 0 → w ≡ t → w < 16 → false ≡ alternateRef T t f
-  a-built-in e p h = rw (eq-eqb f 0 e, lt-leb 16 t (omega (arith, p, h))) refl
+  pub a-built-in : {w : ℕ} → f ≡ 0 → w ≡ t → w < first-row → false ≡ alternateRef T t f
+  a-built-in e p h = rw (eq-eqb f 0 e, lt-leb first-row t (omega (arith, p, h))) refl
 
-  pub a-row : {w k : ℕ} → f ≡ 0 → w ≡ t → 16 ≤ w → k ≡ getD T (row-words * (w - 16) + 0) 0 → eqb k 7 ≡ alternateRef T t f
+  pub a-row : {w k : ℕ} → f ≡ 0 → w ≡ t → first-row ≤ w → k ≡ kind T (w - first-row) → eqb k alternate-kind ≡ alternateRef T t f
   a-row {w} {k} e p h q =
-      ap (λ (x : ℕ). eqb x 7) (q ∙ ap (λ (x : ℕ). getD T (row-words * (x - 16) + 0) 0) p)
-      ∙ sym (ap (λ (x : Bool). x && leb 16 t && isAlternate T (t - 16)) (eq-eqb f 0 e) ∙ ap (λ (x : Bool). x && isAlternate T (t - 16)) (le-leb 16 t (omega (arith, p, h))))
+      ap (λ (x : ℕ). eqb x alternate-kind) (q ∙ ap (λ (x : ℕ). kind T (x - first-row)) p)
+      ∙ sym (ap (λ (x : Bool). x && leb first-row t && isAlternate T (t - first-row)) (eq-eqb f 0 e) ∙ ap (λ (x : Bool). x && isAlternate T (t - first-row)) (le-leb first-row t (omega (arith, p, h))))
 
 -- a byte behind blanks
 module _ (m : List ℕ) (i sought : ℕ) {s : List ℕ} where

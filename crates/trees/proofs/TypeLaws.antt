@@ -6,9 +6,10 @@ use mathlib.Core.Bool.{Bool, true, false}
 use mathlib.Core.List.{List, [], _∷_}
 use lib.ListN.{length, take, drop, getD}
 use borrow.Author.Tests.{lt-ltb, le-ltb, eq-eqb, ne-eqb}
-use Rattle.grammar.specs.Limits.{row-words, first-row}
+use Rattle.grammar.specs.Limits.{first-row}
 use Rattle.grammar.specs.Notation.{text}
-use Rattle.rules.specs.Rows.{isStruct, nameOf}
+use Rattle.rules.specs.Kinds.{struct-kind}
+use Rattle.rules.specs.Rows.{kind, start, size, isStruct, nameOf}
 use Rattle.lines.specs.Text.{Puts}
 use Rattle.lines.proofs.TextLaws.{puts-as, puts-on}
 use Rattle.walker.specs.Seeing.{partOf}
@@ -17,11 +18,11 @@ use Rattle.trees.specs.Escapes.{shown}
 use Rattle.trees.specs.Typing.{builtInNames, rowText, rowName, typeName, typeText}
 use Rattle.trees.proofs.TableLaws.{Part, part-at, entry-short}
 
-pub name-part : (S T : List ℕ) (r : ℕ) {a b c d : ℕ} {n : List ℕ} → a ≡ getD T (row-words * r + 1) 0 → b ≡ a → c ≡ getD T (row-words * r + 2) 0 → d ≡ c → n ≡ partOf S b (b + d) → n ≡ nameOf S T r
+pub name-part : (S T : List ℕ) (r : ℕ) {a b c d : ℕ} {n : List ℕ} → a ≡ start T r → b ≡ a → c ≡ size T r → d ≡ c → n ≡ partOf S b (b + d) → n ≡ nameOf S T r
 unfolding nameOf partOf
 name-part S T r {b = b} {d = d} p q u v e =
     let f : (b + d) - b ≡ d = omega arith in
-    e ∙ ap (λ (k : ℕ). take k (drop b S)) f ∙ ap (λ (k : ℕ). take k (drop b S)) (v ∙ u) ∙ ap (λ (k : ℕ). take (getD T (row-words * r + 2) 0) (drop k S)) (q ∙ p)
+    e ∙ ap (λ (k : ℕ). take k (drop b S)) f ∙ ap (λ (k : ℕ). take k (drop b S)) (v ∙ u) ∙ ap (λ (k : ℕ). take (size T r) (drop k S)) (q ∙ p)
 
 -- no built-in type's name is longer
 abbrev longest-built-in : ℕ
@@ -47,13 +48,13 @@ module _ (S T : List ℕ) (r : ℕ) {n old new : List ℕ} {at p : ℕ} where
   unfolding rowName
   row-named e h x = puts-as (by-name (isStruct T r) n h ∙ ap (rowText (isStruct T r)) e) x
 
-  pub row-inline : {k : ℕ} → n ≡ nameOf S T r → (length n ≡ 0) → k ≡ getD T (row-words * r + 0) 0 → k ≡ 3 → Puts (text "(inline)") at old new p → Puts (rowName S T r) at old new p
+  pub row-inline : {k : ℕ} → n ≡ nameOf S T r → (length n ≡ 0) → k ≡ kind T r → k ≡ struct-kind → Puts (text "(inline)") at old new p → Puts (rowName S T r) at old new p
   unfolding rowName
-  row-inline e h q s x = puts-as (ap (λ (t : Bool). rowText t []) (sym (eq-eqb (getD T (row-words * r + 0) 0) 3 (sym q ∙ s))) ∙ no-name (isStruct T r) n h ∙ ap (rowText (isStruct T r)) e) x
+  row-inline e h q s x = puts-as (ap (λ (t : Bool). rowText t []) (sym (eq-eqb (kind T r) struct-kind (sym q ∙ s))) ∙ no-name (isStruct T r) n h ∙ ap (rowText (isStruct T r)) e) x
 
-  pub row-unknown : {k : ℕ} → n ≡ nameOf S T r → (length n ≡ 0) → k ≡ getD T (row-words * r + 0) 0 → (k ≡ 3 → ⊥) → Puts (text "(unknown)") at old new p → Puts (rowName S T r) at old new p
+  pub row-unknown : {k : ℕ} → n ≡ nameOf S T r → (length n ≡ 0) → k ≡ kind T r → (k ≡ struct-kind → ⊥) → Puts (text "(unknown)") at old new p → Puts (rowName S T r) at old new p
   unfolding rowName
-  row-unknown e h q s x = puts-as (ap (λ (t : Bool). rowText t []) (sym (ne-eqb (getD T (row-words * r + 0) 0) 3 (λ y. s (q ∙ y)))) ∙ no-name (isStruct T r) n h ∙ ap (rowText (isStruct T r)) e) x
+  row-unknown e h q s x = puts-as (ap (λ (t : Bool). rowText t []) (sym (ne-eqb (kind T r) struct-kind (λ y. s (q ∙ y)))) ∙ no-name (isStruct T r) n h ∙ ap (rowText (isStruct T r)) e) x
 
 module _ (S T : List ℕ) (t : ℕ) where
   abbrev by-row : Bool → List ℕ

@@ -4,6 +4,8 @@ use crate::shown::put_shown;
 use rows::rows::wide;
 use rows::rows::word;
 use rules::FIRST_ROW;
+use rules::kind;
+use rules::row;
 use walker::records::Seen;
 use walker::records::least;
 use walker::records::part_of;
@@ -157,7 +159,7 @@ fn is_alternate(table: &[u32], reference: u32, array: u32) -> bool
     if t < FIRST_ROW {
         return false;
     }
-    word(table, t - FIRST_ROW, 0) == 7
+    word(table, t - FIRST_ROW, row::KIND) == kind::ALTERNATE
 }
 
 fn is_alternative(table: &[u32], records: &[u32], n: usize) -> bool

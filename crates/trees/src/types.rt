@@ -6,6 +6,8 @@ use rows::names::name_of;
 use rows::rows::wide;
 use rows::rows::word;
 use rules::FIRST_ROW;
+use rules::kind;
+use rules::row;
 ghost use Prim.Native.Nat.{_+_, _-_, _≤_, _<_};
 ghost use mathlib.Core.List.{[]};
 ghost use lib.ListN.{length, take, drop, getD};
@@ -63,7 +65,7 @@ fn put_row(schema: &[u8], table: &[u32], r: usize, out: &mut [u8], at: usize) ->
     if name.len() != 0 {
         return put_shown(out, at, name);
     }
-    if word(table, r, 0) == 3 {
+    if word(table, r, row::KIND) == kind::STRUCT {
         return put_bytes(out, at, b"(inline)");
     }
     put_bytes(out, at, b"(unknown)")
