@@ -17,7 +17,7 @@ use Rattle.rules.specs.declared.MessageRefusal.the-variants as M
 use Rattle.rules.specs.declared.MessageAnswer.the-variants as MA
 use Rattle.rules.specs.Sound.{sound}
 use Rattle.rules.specs.Readings.{Typed}
-use Rattle.rules.specs.Answers.{MessageResult, messageAnswered, messageResult}
+use Rattle.rules.specs.Answers.{MessageResult, refusedBy, soundResult, messageResult}
 use Rattle.lines.specs.Lines.{beforeLF, orNext}
 use Rattle.lines.proofs.TextLaws.{puts-none}
 use Rattle.trees.specs.TreeText.{linesFrom, linesOf}
@@ -50,16 +50,14 @@ module _ (s : Style) (S T : List ℕ) (room : ℕ) where
   longResult : Bool → MessageResult
   longResult good = record { answer = MA.Refused (cond good M.TooLong M.UnsoundTable); words = replicate room 0 }
 
-  long-answer : (m : List ℕ) (good long : Bool) (c : Option ℕ) (ts : Option (List Typed)) (x : Option MessageRefusal) → long ≡ true
-      → messageAnswered S T m room c ts (cond (not good) (some M.UnsoundTable) (cond long (some M.TooLong) x)) ≡ longResult good
+  long-answer : (good : Bool) → cond good (refusedBy room M.TooLong) (refusedBy room M.UnsoundTable) ≡ longResult good
   unfolding longResult
-  long-answer m true true c ts x e = refl
-  long-answer m true false c ts x e = clash e refl
-  long-answer m false long c ts x e = refl
+  long-answer true = refl
+  long-answer false = refl
 
   too-long : (m : List ℕ) → message-bytes < length m → messageResult S T m room ≡ longResult (sound S T)
-  unfolding messageResult
-  too-long m h = long-answer m (sound S T) (ltb message-bytes (length m)) _ _ _ (lt-ltb message-bytes (length m) h)
+  unfolding messageResult soundResult
+  too-long m h = rw (lt-ltb message-bytes (length m) h) (long-answer (sound S T))
 
   -- a refused message shows no bytes of its own
   long-text : (x : Style) (l m : List ℕ) (good : Bool) → resultText S T room x l (longResult good) ≡ resultText S T room x m (longResult good)

@@ -1,18 +1,15 @@
--- The first element of an ascending list that passes a test is the lowest that does.
--- The idea: at each element the test decides; what stands later is higher.
-use Prim.Native.Nat.{ℕ, zero, suc, _<_}
+-- The first element of a list that passes a test is the first that has what the test decides.
+use Prim.Native.Nat.{ℕ, zero, suc}
 use native.Mathlib.Omega.{arith}
-use mathlib.Core.Path.{_≡_, refl, sym, _∙_}
-use mathlib.Core.Bool.{Bool, true, false, cond, _&&_}
-use mathlib.Core.Logic.{_⊎_, inl, inr, ⊎-elim}
+use mathlib.Core.Path.{_≡_, refl, sym, ap, _∙_, subst}
+use mathlib.Core.Bool.{Bool, true, false, cond}
+use mathlib.Core.Logic.{inl, inr, ⊎-elim}
 use mathlib.Core.List.{List, [], _∷_, List·Memᴰ, List·Memᴰ·cases-cons, List·Memᴰ·not-nil}
 use mathlib.Core.Option.{none, some}
-use lib.Dec.{ltb}
 use lib.ListN.{drop, getElem?}
-use borrow.Author.Tests.{ltb-true}
-use Rattle.grammar.specs.Notation.{all}
+use Rattle.rules.specs.Refusals.{FirstOf}
 use Rattle.rules.specs.Answers.{first}
-use Rattle.rules.proofs.Lists.{clash, all-true}
+use Rattle.rules.proofs.Lists.{clash, none-not-some}
 
 -- a test that is not true is false
 pub decided : (b : Bool) → (b ≡ true → ⊥) → b ≡ false
@@ -30,33 +27,7 @@ drop-nth [] i x e = let z : _≡_ {A = ℕ} 0 1 = cc in absurd (omega arith)
 drop-nth (y ∷ l) zero x e = let z : y ≡ x = cc in rw z
 drop-nth (y ∷ l) (suc i) x e = drop-nth l i x e
 
--- each element's number is below those after it
-pub data Ascending {A : Type 0} (number : A → ℕ) : List A → Type 0 where
-  empty : Ascending number []
-  next : {x : A} {xs : List A} → ((y : A) → List·Memᴰ y xs → number x < number y) → Ascending number xs → Ascending number (x ∷ xs)
-
--- as a test that computes
-abbrev pub ascends : {A : Type 0} → (A → ℕ) → List A → Bool
-ascends number [] = true
-ascends number (x ∷ xs) = all (λ y. ltb (number x) (number y)) xs && ascends number xs
-
-pub ascending : {A : Type 0} (number : A → ℕ) (l : List A) → ascends number l ≡ true → Ascending number l
-ascending number [] e = empty
-ascending {A} number (x ∷ l) e = go (all (λ y. ltb (number x) (number y)) l) refl e (ascending number l)
-  where
-    go : (b : Bool) → all (λ y. ltb (number x) (number y)) l ≡ b → (b && ascends number l) ≡ true → (ascends number l ≡ true → Ascending number l) → Ascending number (x ∷ l)
-    go true t h r = next (λ y m. ltb-true (number x) (number y) (all-true (λ y. ltb (number x) (number y)) l t y m)) (r h)
-    go false t h r = clash refl (sym h)
-
-module _ {A : Type 0} (number : A → ℕ) (f : A → Bool) where
-  pub first-passes : (l : List A) (x : A) → first f l ≡ some x → f x ≡ true
-  first-passes [] x e = let z : _≡_ {A = ℕ} 0 1 = cc in absurd (omega arith)
-  first-passes (y ∷ l) x e = go (f y) refl e (first-passes l x)
-    where
-      go : (b : Bool) → f y ≡ b → cond b (some y) (first f l) ≡ some x → (first f l ≡ some x → f x ≡ true) → f x ≡ true
-      go true t h r = let z : y ≡ x = cc in cc
-      go false t h r = r h
-
+module _ {A : Type 0} (f : A → Bool) where
   pub first-none : (l : List A) → first f l ≡ none → (y : A) → List·Memᴰ y l → f y ≡ false
   first-none [] e y m = absurd (List·Memᴰ·not-nil m)
   first-none (z ∷ l) e y m = go (f z) refl e (first-none l)
@@ -65,27 +36,21 @@ module _ {A : Type 0} (number : A → ℕ) (f : A → Bool) where
       go true t h r = let w : _≡_ {A = ℕ} 0 1 = cc in absurd (omega arith)
       go false t h r = ⊎-elim (λ (q : y ≡ z). let w : f y ≡ f z = cc in w ∙ t) (λ n. r h y n) (List·Memᴰ·cases-cons m)
 
-  pub first-lowest : (l : List A) → Ascending number l → (x : A) → first f l ≡ some x → (y : A) → List·Memᴰ y l → number y < number x → f y ≡ false
-  first-lowest [] a x e y m h = absurd (List·Memᴰ·not-nil m)
-  first-lowest (z ∷ l) (next later a) x e y m h = go (f z) refl e (first-lowest l a x)
-    where
-      go : (b : Bool) → f z ≡ b → cond b (some z) (first f l) ≡ some x → (first f l ≡ some x → (y : A) → List·Memᴰ y l → number y < number x → f y ≡ false) → f y ≡ false
-      go true t g r =
-          let q : z ≡ x = cc in
-          ⊎-elim (λ (p : y ≡ z). let w : number y ≡ number x = cc in absurd (omega arith))
-          (λ n. let w : number z ≡ number x = cc in absurd (omega (arith, later y n))) (List·Memᴰ·cases-cons m)
-      go false t g r = ⊎-elim (λ (p : y ≡ z). let w : f y ≡ f z = cc in w ∙ t) (λ n. r g y n h) (List·Memᴰ·cases-cons m)
-
   pub none-first : (l : List A) → ((y : A) → List·Memᴰ y l → f y ≡ false) → first f l ≡ none
   none-first [] h = refl
   none-first (z ∷ l) h = rw (h z (List·Memᴰ.List·Memᴰ·head refl)) (none-first l (λ y m. h y (List·Memᴰ.List·Memᴰ·tail m)))
 
-  pub lowest-first : (l : List A) → Ascending number l → (x : A) → List·Memᴰ x l → f x ≡ true → ((y : A) → number y < number x → f y ≡ false) → first f l ≡ some x
-  lowest-first [] a x m e h = absurd (List·Memᴰ·not-nil m)
-  lowest-first (z ∷ l) (next later a) x m e h =
-      ⊎-elim (λ (q : x ≡ z). let t : f z ≡ true = cc in rw t (let w : some z ≡ some x = cc in w))
-      (λ n. rw (h z (later x n)) (lowest-first l a x n e h)) (List·Memᴰ·cases-cons m)
+  -- of a property that the test decides
+  module _ (P : A → Type 0) (to : (x : A) → f x ≡ true → P x) (from : (x : A) → P x → f x ≡ true) where
+    pub first-of : (l : List A) {x : A} → first f l ≡ some x → FirstOf P l x
+    first-of [] e = absurd (none-not-some e)
+    first-of (y ∷ l) {x} e = go (f y) refl e (first-of l)
+      where
+        go : (b : Bool) → f y ≡ b → cond b (some y) (first f l) ≡ some x → (first f l ≡ some x → FirstOf P l x) → FirstOf P (y ∷ l) x
+        go true t h r = let z : y ≡ x = cc in inl (z, subst P z (to y t))
+        go false t h r = inr ((λ p. clash (from y p) t), r h)
 
--- the first of an ascending list has the lowest number
-pub head-lowest : {A : Type 0} (number : A → ℕ) {x : A} {xs : List A} → Ascending number (x ∷ xs) → (y : A) → List·Memᴰ y (x ∷ xs) → (y ≡ x) ⊎ (number x < number y)
-head-lowest number (next later a) y m = ⊎-elim (λ e. inl e) (λ n. inr (later y n)) (List·Memᴰ·cases-cons m)
+    pub of-first : (l : List A) {x : A} → FirstOf P l x → first f l ≡ some x
+    of-first [] h = absurd h
+    of-first (y ∷ l) h =
+        ⊎-elim (λ p. rw (from y (subst P (sym (p .0)) (p .1))) (ap some (p .0))) (λ q. rw (decided (f y) (λ t. q .0 (to y t))) (of-first l (q .1))) h

@@ -25,12 +25,12 @@ use Rattle.rules.specs.Definitions.{Definition, definitions}
 use Rattle.rules.specs.Rows.{rowCount}
 use Rattle.rules.specs.Rules.{is, goodNames, distinctNames, goodChains, goodUnions, goodAlternates, goodReturns}
 use Rattle.rules.specs.SchemaTable.{table, allRefer}
-use Rattle.rules.specs.SchemaAnswers.{schemaRefusals, rank, Says, SchemaApplies, SchemaOutcome}
+use Rattle.rules.specs.SchemaAnswers.{schemaRefusals, Says, SchemaApplies, SchemaOutcome}
 use Rattle.rules.specs.SchemaAnswers.SchemaOutcome.{accepted, refused}
-use Rattle.rules.specs.Answers.{SchemaResult, isNone, first, objectsIn, schemaTest, tableIn, schemaAnswered, schemaResult}
+use Rattle.rules.specs.Answers.{SchemaResult, isNone, first, rank, objectsIn, schemaTest, tableIn, schemaAnswered, schemaResult}
 use Rattle.rules.proofs.Lists.{clash, is-true}
 pub use Rattle.rules.proofs.First.{nth}
-use Rattle.rules.proofs.First.{decided, drop-nth, Ascending, ascending, first-passes, first-none, first-lowest, none-first, lowest-first}
+use Rattle.rules.proofs.First.{decided, drop-nth, first-none, none-first, first-of, of-first}
 
 -- what a test on an optional value says
 pub is-of : {A : Type 0} (o : Option A) (f : A → Bool) (a : A) → o ≡ some a → f a ≡ true → is o f ≡ true
@@ -70,10 +70,6 @@ listed x = nth schemaRefusals (rank x) x (ranked x)
 -- the refusals from one on begin with it
 pub from-rank : (x : SchemaRefusal) → drop (rank x) schemaRefusals ≡ x ∷ drop (suc (rank x)) schemaRefusals
 from-rank x = drop-nth schemaRefusals (rank x) x (ranked x)
-
-rising : Ascending rank schemaRefusals
-unfolding rank
-rising = ascending rank schemaRefusals refl
 
 module _ (S : List ℕ) (room : ℕ) where
   objects : Option Items
@@ -193,24 +189,20 @@ module _ (S : List ℕ) (room : ℕ) where
     where
       go : (o : Option SchemaRefusal) → first test schemaRefusals ≡ o → SchemaOutcome S room (schemaAnswered S room (tableIn S room written) o .answer) (schemaAnswered S room (tableIn S room written) o .words)
       go none e =
-          let no-test : (x : SchemaRefusal) → test x ≡ false = λ x. first-none rank test schemaRefusals e x (listed x) in
+          let no-test : (x : SchemaRefusal) → test x ≡ false = λ x. first-none test schemaRefusals e x (listed x) in
           let ds = there no-test in
           rw (ds .1) (accepted (said (ds .0) (ds .1)) (λ x a. clash (applies-test x a) (no-test x)) refl refl)
       go (some x) e =
-          refused (test-applies x (first-passes rank test schemaRefusals x e))
-          (λ y h a. clash (applies-test y a) (first-lowest rank test schemaRefusals rising x e y (listed y) h)) refl refl
+          refused (first-of test (λ y. SchemaApplies y S room) test-applies applies-test schemaRefusals e) refl refl
 
   -- and the only one
   only : (a : SchemaAnswer) (w : List ℕ) → SchemaOutcome S room a w → (a ≡ outcome .answer) × (w ≡ outcome .words)
   unfolding outcome decided-by
   only a w (accepted {ds} s h p q) =
       let d = says ds s in
-      let e : first test schemaRefusals ≡ none = none-first rank test schemaRefusals (λ x m. decided (test x) (λ t. h x (test-applies x t))) in
+      let e : first test schemaRefusals ≡ none = none-first test schemaRefusals (λ x m. decided (test x) (λ t. h x (test-applies x t))) in
       rw (e, d) (p, q)
-  only a w (refused {x} s h p q) =
-      let e : first test schemaRefusals ≡ some x =
-      lowest-first rank test schemaRefusals rising x (listed x) (applies-test x s) (λ y g. decided (test y) (λ t. h y g (test-applies y t))) in
-      rw e (p, q)
+  only a w (refused {x} h p q) = let e : first test schemaRefusals ≡ some x = of-first test (λ y. SchemaApplies y S room) test-applies applies-test schemaRefusals h in rw e (p, q)
 
   -- The paper's table of schema answers: for every schema and room there is one outcome, the one that schemaResult gives.
   pub schema-outcome : SchemaOutcome S room (schemaResult S room .answer) (schemaResult S room .words)

@@ -3,7 +3,7 @@ use Prim.Native.Nat.{ℕ, zero, suc, _-_, _/_}
 use mathlib.Core.Bool.{Bool, true, false, cond, not, _&&_}
 use mathlib.Core.List.{List, [], _∷_, _++_}
 use mathlib.Core.Option.{Option, none, some}
-use lib.Dec.{ltb}
+use lib.Dec.{eqb, ltb}
 use lib.ListN.{length, replicate}
 use Rattle.grammar.specs.Limits.{schema-bytes, message-bytes, table-rows, row-words, record-words}
 use Rattle.grammar.specs.Tree.{Json, Items}
@@ -28,7 +28,7 @@ use Rattle.rules.specs.Names.{sameName, clash}
 use Rattle.rules.specs.Rows.{rowCount, isCommand, nameOf, next, walk, past, unnamed, owns, firstChild, childCount, children, pastChildren, members, typeKind}
 use Rattle.rules.specs.Rules.{is, goodNames, distinctNames, goodChains, goodUnions, goodAlternates, goodReturns}
 use Rattle.rules.specs.SchemaTable.{table, allRefer}
-use Rattle.rules.specs.SchemaAnswers.{schemaRefusals}
+use Rattle.rules.specs.SchemaAnswers.{refusalNumber, schemaRefusals}
 use Rattle.rules.specs.Sound.{laidOut, sound}
 use Rattle.rules.specs.Envelope.{Envelope, envelope, mayUse, Asked, argumentsOf}
 use Rattle.rules.specs.Readings.{Typed, strict, recordsOf}
@@ -42,6 +42,15 @@ first f (x ∷ xs) = cond (f x) (some x) (first f xs)
 abbrev pub isNone : {A : Type 0} → Option A → Bool
 isNone none = true
 isNone (some a) = false
+
+-- how many stand before the first that has the property
+abbrev pub before : {A : Type 0} → (A → Bool) → List A → ℕ
+before f [] = 0
+before f (x ∷ xs) = cond (f x) 0 (suc (before f xs))
+
+-- the place of a schema's refusal in their order
+unfoldable pub rank : SchemaRefusal → ℕ
+rank x = before (λ y. eqb (refusalNumber y) (refusalNumber x)) schemaRefusals
 
 -- an outcome: the answer and the lent words
 pub record SchemaResult : Type 0 where

@@ -22,11 +22,6 @@ abbrev pub those : {A : Type 0} → (A → Bool) → List A → List A
 those f [] = []
 those f (x ∷ xs) = cond (f x) (x ∷ those f xs) (those f xs)
 
--- how many stand before the first that has it
-abbrev pub before : {A : Type 0} → (A → Bool) → List A → ℕ
-before f [] = 0
-before f (x ∷ xs) = cond (f x) 0 (suc (before f xs))
-
 -- there is a value, and it has the property
 abbrev pub is : {A : Type 0} → Option A → (A → Bool) → Bool
 is none f = false

@@ -4,7 +4,6 @@ use mathlib.Core.Path.{_≡_}
 use mathlib.Core.Bool.{Bool, false}
 use mathlib.Core.List.{List, [], _∷_, _++_}
 use mathlib.Core.Option.{none, some}
-use lib.Dec.{eqb}
 use lib.ListN.{length, replicate}
 use Rattle.grammar.specs.Limits.{schema-bytes, table-rows, row-words}
 use Rattle.grammar.specs.Tree.{Items}
@@ -16,8 +15,9 @@ use Rattle.rules.specs.declared.SchemaAnswer.{SchemaAnswer}
 use Rattle.rules.specs.declared.SchemaAnswer.the-variants.{Accepted, Refused}
 use Rattle.rules.specs.Definitions.{Definition, definitions}
 use Rattle.rules.specs.Rows.{rowCount}
-use Rattle.rules.specs.Rules.{before, goodNames, distinctNames, goodChains, goodUnions, goodAlternates, goodReturns}
+use Rattle.rules.specs.Rules.{goodNames, distinctNames, goodChains, goodUnions, goodAlternates, goodReturns}
 use Rattle.rules.specs.SchemaTable.{table, allRefer}
+use Rattle.rules.specs.Refusals.{FirstOf}
 
 -- the paper's numbers, as they are shown
 abbrev pub refusalNumber : SchemaRefusal → ℕ
@@ -39,10 +39,6 @@ refusalNumber NoRoom = 13
 abbrev pub schemaRefusals : List SchemaRefusal
 schemaRefusals =
     TooLong ∷ NotText ∷ RepeatedKey ∷ NotDefinitions ∷ BadName ∷ RepeatedName ∷ UnknownName ∷ BadChain ∷ BadUnion ∷ BadAlternate ∷ BadReturn ∷ TooManyRows ∷ NoRoom ∷ []
-
--- how many refusals come before one in that order
-unfoldable pub rank : SchemaRefusal → ℕ
-rank x = before (λ y. eqb (refusalNumber y) (refusalNumber x)) schemaRefusals
 
 -- the two numbers of an answer: accepted 0 and the row count, refused the number and 0
 abbrev pub answerNumber : SchemaAnswer → ℕ
@@ -83,5 +79,5 @@ SchemaApplies NoRoom S room = (ds : List Definition) × Says S ds × (room / row
 pub data SchemaOutcome (S : List ℕ) (room : ℕ) (answer : SchemaAnswer) (words : List ℕ) : Type 0 where
   accepted : {ds : List Definition} → Says S ds → ((x : SchemaRefusal) → SchemaApplies x S room → ⊥) → answer ≡ Accepted (rowCount (table S ds))
       → words ≡ table S ds ++ replicate (room - length (table S ds)) 0 → SchemaOutcome S room answer words
-  refused : {x : SchemaRefusal} → SchemaApplies x S room → ((y : SchemaRefusal) → rank y < rank x → SchemaApplies y S room → ⊥) → answer ≡ Refused x
+  refused : {x : SchemaRefusal} → FirstOf (λ y. SchemaApplies y S room) schemaRefusals x → answer ≡ Refused x
       → words ≡ replicate room 0 → SchemaOutcome S room answer words

@@ -16,7 +16,8 @@ use Rattle.rules.specs.declared.SchemaAnswer.the-variants.{Accepted, Refused}
 use Rattle.rules.specs.Rows.{rowCount}
 use Rattle.rules.specs.Rules.{is}
 use Rattle.rules.specs.SchemaTable.{table}
-use Rattle.rules.specs.SchemaAnswers.{schemaRefusals, rank}
+use Rattle.rules.specs.SchemaAnswers.{schemaRefusals}
+use Rattle.rules.specs.Answers.{rank}
 use Rattle.rules.specs.Answers.{schemaTest}
 use Rattle.rules.proofs.SchemaOutcome.{from-rank}
 use Rattle.schema.specs.Stages.{objects, written, resultBy, Answered, Zero, IsTable, Refers}

@@ -21,7 +21,7 @@ use Rattle.rules.specs.declared.SchemaAnswer.the-variants.{Refused}
 use Rattle.rules.specs.Definitions.{Definition, definitions}
 use Rattle.rules.specs.SchemaTable.{table, allRefer}
 use Rattle.rules.specs.RawTable.{rawFrom}
-use Rattle.rules.specs.SchemaAnswers.{rank}
+use Rattle.rules.specs.Answers.{rank}
 use Rattle.rules.specs.Answers.{schemaResult}
 use Rattle.rules.proofs.NameSpans.{names-within}
 use Rattle.rules.proofs.CellBases.{named-bases}

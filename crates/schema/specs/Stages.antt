@@ -15,7 +15,8 @@ use Rattle.rules.specs.Values.{_>>=_}
 use Rattle.rules.specs.Definitions.{Definition, definitions}
 use Rattle.rules.specs.SchemaTable.{table, allRefer}
 use Rattle.rules.specs.RawTable.{rawFrom}
-use Rattle.rules.specs.SchemaAnswers.{schemaRefusals, rank}
+use Rattle.rules.specs.SchemaAnswers.{schemaRefusals}
+use Rattle.rules.specs.Answers.{rank}
 use Rattle.rules.specs.Answers.{SchemaResult, first, objectsIn, schemaTest, tableIn, schemaAnswered, schemaResult}
 use Rattle.text.specs.Nodes.{HoldsItems}
 

@@ -1,6 +1,6 @@
 -- `stages::judge_definitions` meets its contract: chains, unions, alternates and returns in turn, then the rest.
 use mathlib.Core.Path.{refl}
-use Rattle.rules.specs.SchemaAnswers.{rank}
+use Rattle.rules.specs.Answers.{rank}
 use Rattle.rules.specs.Rules.{goodChains, goodUnions, goodAlternates, goodReturns}
 use Rattle.rules.specs.declared.SchemaRefusal.the-variants.{BadChain, BadUnion, BadAlternate, BadReturn}
 use Rattle.rows.proofs.Walks.{denied, granted}
