@@ -1,5 +1,5 @@
 -- An index of items: what it is when empty, what an item more makes of it, and what the walk along a bucket's chain finds.
--- The idea: a store at an item that is on no chain leaves every chain as it is; items of another bucket have another mark.
+-- The idea: a store at an item that is on no chain leaves every chain as it is; items of another bucket have another hash.
 use Prim.{tt}
 use Prim.Native.Nat.{ℕ, suc, _-_, _≤_, _<_}
 use native.Mathlib.Omega.{arith}
@@ -39,66 +39,66 @@ module _ {A : Type 0} (place : A → ℕ) where
       let e : place y ≡ x - 1 = omega (arith, c .0) in
       record { item = y; rest = ys; items = refl; at = e; after = subst (λ (j : ℕ). Chain place links (getD links j 0) ys) e (c .1) }
 
-module _ {A : Type 0} (mark : A → ℕ) where
+module _ {A : Type 0} (hash : A → ℕ) where
   -- what holds of all items holds of those of a bucket
-  pub bucket-kept : (P : A → Type 0) (h : ℕ) (ys : List A) → All P ys → All P (inBucket mark h ys)
+  pub bucket-kept : (P : A → Type 0) (h : ℕ) (ys : List A) → All P ys → All P (inBucket hash h ys)
   bucket-kept P h [] a = tt
-  bucket-kept P h (y ∷ ys) a = go (eqb (bucketOf (mark y)) h) (bucket-kept P h ys (a .1))
+  bucket-kept P h (y ∷ ys) a = go (eqb (bucketOf (hash y)) h) (bucket-kept P h ys (a .1))
     where
-      go : (b : Bool) → All P (inBucket mark h ys) → All P (cond b (y ∷ inBucket mark h ys) (inBucket mark h ys))
+      go : (b : Bool) → All P (inBucket hash h ys) → All P (cond b (y ∷ inBucket hash h ys) (inBucket hash h ys))
       go true r = (a .0, r)
       go false r = r
 
-  pub bucket-short : (h : ℕ) (ys : List A) → length (inBucket mark h ys) ≤ length ys
+  pub bucket-short : (h : ℕ) (ys : List A) → length (inBucket hash h ys) ≤ length ys
   bucket-short h [] = omega arith
-  bucket-short h (y ∷ ys) = go (eqb (bucketOf (mark y)) h) (bucket-short h ys)
+  bucket-short h (y ∷ ys) = go (eqb (bucketOf (hash y)) h) (bucket-short h ys)
     where
-      go : (b : Bool) → length (inBucket mark h ys) ≤ length ys → length (cond b (y ∷ inBucket mark h ys) (inBucket mark h ys)) ≤ suc (length ys)
+      go : (b : Bool) → length (inBucket hash h ys) ≤ length ys → length (cond b (y ∷ inBucket hash h ys) (inBucket hash h ys)) ≤ suc (length ys)
       go true r = omega arith
       go false r = omega arith
 
-  -- a test that only items of one mark may fail says of its bucket what it says of all items
-  pub bucket-all : (g : A → Bool) (m : ℕ) → ((y : A) → g y ≡ false → mark y ≡ m) → (ys : List A) → all g (inBucket mark (bucketOf m) ys) ≡ all g ys
+  -- a test that only items of one hash may fail says of its bucket what it says of all items
+  pub bucket-all : (g : A → Bool) (m : ℕ) → ((y : A) → g y ≡ false → hash y ≡ m) → (ys : List A) → all g (inBucket hash (bucketOf m) ys) ≡ all g ys
   bucket-all g m f [] = refl
-  bucket-all g m f (y ∷ ys) = go (eqb (bucketOf (mark y)) (bucketOf m)) refl (g y) refl (bucket-all g m f ys)
+  bucket-all g m f (y ∷ ys) = go (eqb (bucketOf (hash y)) (bucketOf m)) refl (g y) refl (bucket-all g m f ys)
     where
-      go : (b : Bool) → eqb (bucketOf (mark y)) (bucketOf m) ≡ b → (t : Bool) → g y ≡ t → all g (inBucket mark (bucketOf m) ys) ≡ all g ys
-          → all g (cond b (y ∷ inBucket mark (bucketOf m) ys) (inBucket mark (bucketOf m) ys)) ≡ g y && all g ys
+      go : (b : Bool) → eqb (bucketOf (hash y)) (bucketOf m) ≡ b → (t : Bool) → g y ≡ t → all g (inBucket hash (bucketOf m) ys) ≡ all g ys
+          → all g (cond b (y ∷ inBucket hash (bucketOf m) ys) (inBucket hash (bucketOf m) ys)) ≡ g y && all g ys
       go true p t q r = ap (λ (x : Bool). g y && x) r
       go false p true q r = r ∙ sym (ap (λ (x : Bool). x && all g ys) q)
-      go false p false q r = absurd (eqb-false (bucketOf (mark y)) (bucketOf m) p (ap bucketOf (f y q)))
+      go false p false q r = absurd (eqb-false (bucketOf (hash y)) (bucketOf m) p (ap bucketOf (f y q)))
 
-module _ {A : Type 0} (place mark : A → ℕ) where
+module _ {A : Type 0} (place hash : A → ℕ) where
   -- with every head 0 there is no item
-  pub index-empty : {heads : List ℕ} (links : List ℕ) → heads ≡ replicate buckets 0 → Indexed place mark heads links []
+  pub index-empty : {heads : List ℕ} (links : List ℕ) → heads ≡ replicate buckets 0 → Indexed place hash heads links []
   index-empty links e = record { chains = λ h k. ap (λ (l : List ℕ). getD l h 0) e ∙ getD-replicate buckets h 0 0 k }
 
-  module _ {heads links : List ℕ} {items : List A} (x : Indexed place mark heads links items) where
-    -- the walk begins with the bucket of a mark
-    pub index-walk : (m : ℕ) {w : ℕ} → w ≡ getD heads (bucketOf m) 0 → Chain place links w (inBucket mark (bucketOf m) items)
-    index-walk m e = subst (λ (k : ℕ). Chain place links k (inBucket mark (bucketOf m) items)) (sym e) (x .chains (bucketOf m) (omega arith))
+  module _ {heads links : List ℕ} {items : List A} (x : Indexed place hash heads links items) where
+    -- the walk begins with the bucket of a hash
+    pub index-walk : (m : ℕ) {w : ℕ} → w ≡ getD heads (bucketOf m) 0 → Chain place links w (inBucket hash (bucketOf m) items)
+    index-walk m e = subst (λ (k : ℕ). Chain place links k (inBucket hash (bucketOf m) items)) (sym e) (x .chains (bucketOf m) (omega arith))
 
     -- one item more
-    pub index-added : (y : A) {m i : ℕ} {heads′ links′ : List ℕ} → length heads ≡ buckets → i < length links → place y ≡ i → mark y ≡ m → Free place i items
-        → Added heads links m i heads′ links′ → Indexed place mark heads′ links′ (y ∷ items)
-    index-added y {m} {i} {heads′} {links′} n k p q f a = record { chains = λ h l. go h l (eqb (bucketOf (mark y)) h) refl }
+    pub index-added : (y : A) {m i : ℕ} {heads′ links′ : List ℕ} → length heads ≡ buckets → i < length links → place y ≡ i → hash y ≡ m → Free place i items
+        → Added heads links m i heads′ links′ → Indexed place hash heads′ links′ (y ∷ items)
+    index-added y {m} {i} {heads′} {links′} n k p q f a = record { chains = λ h l. go h l (eqb (bucketOf (hash y)) h) refl }
       where
-        old : (h : ℕ) → h < buckets → Chain place links′ (getD heads h 0) (inBucket mark h items)
+        old : (h : ℕ) → h < buckets → Chain place links′ (getD heads h 0) (inBucket hash h items)
         old h l =
-            subst (λ (w : List ℕ). Chain place w (getD heads h 0) (inBucket mark h items)) (sym (a .link))
-            (chain-kept place links i (getD heads (bucketOf m) 0) (getD heads h 0) (inBucket mark h items) (bucket-kept mark (λ z. place z ≡ i → ⊥) h items f) (x .chains h l))
+            subst (λ (w : List ℕ). Chain place w (getD heads h 0) (inBucket hash h items)) (sym (a .link))
+            (chain-kept place links i (getD heads (bucketOf m) 0) (getD heads h 0) (inBucket hash h items) (bucket-kept hash (λ z. place z ≡ i → ⊥) h items f) (x .chains h l))
 
-        go : (h : ℕ) → h < buckets → (b : Bool) → eqb (bucketOf (mark y)) h ≡ b
-            → Chain place links′ (getD heads′ h 0) (cond b (y ∷ inBucket mark h items) (inBucket mark h items))
+        go : (h : ℕ) → h < buckets → (b : Bool) → eqb (bucketOf (hash y)) h ≡ b
+            → Chain place links′ (getD heads′ h 0) (cond b (y ∷ inBucket hash h items) (inBucket hash h items))
         go h l true t =
-            let e : bucketOf m ≡ h = sym (ap bucketOf q) ∙ eqb-true (bucketOf (mark y)) h t in
+            let e : bucketOf m ≡ h = sym (ap bucketOf q) ∙ eqb-true (bucketOf (hash y)) h t in
             let u : getD heads′ h 0 ≡ suc (place y) =
             ap (λ (w : List ℕ). getD w h 0) (a .head) ∙ ap (λ (j : ℕ). getD (set heads j (suc i)) h 0) e ∙ getD-set-same heads h (suc i) 0 (omega arith) ∙ sym (ap suc p) in
             let v : getD links′ (place y) 0 ≡ getD heads h 0 =
             ap (λ (w : List ℕ). getD w (place y) 0) (a .link) ∙ ap (λ (j : ℕ). getD (set links i (getD heads (bucketOf m) 0)) j 0) p
             ∙ getD-set-same links i (getD heads (bucketOf m) 0) 0 k ∙ ap (λ (j : ℕ). getD heads j 0) e in
-            (u, subst (λ (w : ℕ). Chain place links′ w (inBucket mark h items)) (sym v) (old h l))
+            (u, subst (λ (w : ℕ). Chain place links′ w (inBucket hash h items)) (sym v) (old h l))
         go h l false t =
             let u : getD heads′ h 0 ≡ getD heads h 0 =
-            ap (λ (w : List ℕ). getD w h 0) (a .head) ∙ getD-set-other heads (bucketOf m) h (suc i) 0 (λ e. eqb-false (bucketOf (mark y)) h t (ap bucketOf q ∙ sym e)) in
-            subst (λ (w : ℕ). Chain place links′ w (inBucket mark h items)) (sym u) (old h l)
+            ap (λ (w : List ℕ). getD w h 0) (a .head) ∙ getD-set-other heads (bucketOf m) h (suc i) 0 (λ e. eqb-false (bucketOf (hash y)) h t (ap bucketOf q ∙ sym e)) in
+            subst (λ (w : ℕ). Chain place links′ w (inBucket hash h items)) (sym u) (old h l)

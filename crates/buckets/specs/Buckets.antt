@@ -1,4 +1,4 @@
--- Serves contracts: an index of items by a mark that equal things share. An item is of any type; `place` gives its number and `mark` its mark.
+-- Serves contracts: an index of items by a hash that equal things share. An item is of any type; `place` gives its number and `hash` its hash.
 use Prim.{Unit}
 use Prim.Native.Nat.{ℕ, suc, _%_, _<_}
 use mathlib.Core.Path.{_≡_}
@@ -10,14 +10,14 @@ use lib.ListN.{getD, set}
 abbrev pub buckets : ℕ
 buckets = 512
 
--- the bucket of a mark
+-- the bucket of a hash
 abbrev pub bucketOf : ℕ → ℕ
-bucketOf mark = mark % buckets
+bucketOf hash = hash % buckets
 
--- item i was put first in the bucket of its mark
-pub record Added (heads links : List ℕ) (mark i : ℕ) (heads′ links′ : List ℕ) : Type 0 where
-  pub head : heads′ ≡ set heads (bucketOf mark) (suc i)
-  pub link : links′ ≡ set links i (getD heads (bucketOf mark) 0)
+-- item i was put first in the bucket of its hash
+pub record Added (heads links : List ℕ) (hash i : ℕ) (heads′ links′ : List ℕ) : Type 0 where
+  pub head : heads′ ≡ set heads (bucketOf hash) (suc i)
+  pub link : links′ ≡ set links i (getD heads (bucketOf hash) 0)
 
 -- P holds of every item
 abbrev pub All : {A : Type 0} → (A → Type 0) → List A → Type 0
@@ -34,12 +34,12 @@ module _ {A : Type 0} (place : A → ℕ) where
   Chain links x [] = x ≡ 0
   Chain links x (y ∷ ys) = (x ≡ suc (place y)) × Chain links (getD links (place y) 0) ys
 
-module _ {A : Type 0} (mark : A → ℕ) where
+module _ {A : Type 0} (hash : A → ℕ) where
   -- the items of bucket h
   abbrev pub inBucket : ℕ → List A → List A
   inBucket h [] = []
-  inBucket h (y ∷ ys) = cond (eqb (bucketOf (mark y)) h) (y ∷ inBucket h ys) (inBucket h ys)
+  inBucket h (y ∷ ys) = cond (eqb (bucketOf (hash y)) h) (y ∷ inBucket h ys) (inBucket h ys)
 
 -- the chain of each bucket has its items, in the order of the list
-pub record Indexed {A : Type 0} (place mark : A → ℕ) (heads links : List ℕ) (items : List A) : Type 0 where
-  pub chains : (h : ℕ) → h < buckets → Chain place links (getD heads h 0) (inBucket mark h items)
+pub record Indexed {A : Type 0} (place hash : A → ℕ) (heads links : List ℕ) (items : List A) : Type 0 where
+  pub chains : (h : ℕ) → h < buckets → Chain place links (getD heads h 0) (inBucket hash h items)

@@ -1,2 +1,2 @@
--- An index of numbered items by a mark.
+-- An index of numbered items by a hash.
 pub mod Buckets

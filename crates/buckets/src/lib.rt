@@ -1,4 +1,4 @@
-// An index of numbered items by a mark that equal things share, over lent words: the items of a bucket are a chain, the latest first.
+// An index of numbered items by a hash that equal things share, over lent words: the items of a bucket are a chain, the latest first.
 // A word is 0 where no item follows, else the item and one.
 ghost use mathlib.Core.Path.{_≡_};
 ghost use Prim.Native.Nat.{_+_, _^_, _<_};
@@ -7,10 +7,10 @@ ghost use Rattle.buckets.specs.Buckets.{bucketOf, Added};
 
 pub const BUCKETS: usize = 512;
 
-pub fn bucket_of(mark: u32) -> usize
-    ensures { λ r. ⌜ r ≡ bucketOf mark ⌝ }
+pub fn bucket_of(hash: u32) -> usize
+    ensures { λ r. ⌜ r ≡ bucketOf hash ⌝ }
 {
-    mark as usize % BUCKETS
+    hash as usize % BUCKETS
 }
 
 fn number(word: u32) -> usize
@@ -19,21 +19,21 @@ fn number(word: u32) -> usize
     word as usize
 }
 
-// Puts item i first in the bucket of its mark.
-pub fn add(heads: &mut [u32; BUCKETS], links: &mut [u32], mark: u32, i: usize)
+// Puts item i first in the bucket of its hash.
+pub fn add(heads: &mut [u32; BUCKETS], links: &mut [u32], hash: u32, i: usize)
     requires { ⌜ (i < length (now links)) × (i + 1 < 2 ^ 32) ⌝ }
-    ensures { λ _. ⌜ Added (now (heads .entry)) (now (links .entry)) mark i (now (heads .exit)) (now (links .exit)) ⌝ }
+    ensures { λ _. ⌜ Added (now (heads .entry)) (now (links .entry)) hash i (now (heads .exit)) (now (links .exit)) ⌝ }
 {
-    let h = bucket_of(mark);
+    let h = bucket_of(hash);
     links[i] = heads[h];
     heads[h] = (i + 1) as u32;
 }
 
-// The word of the first item in the bucket of a mark.
-pub fn first(heads: &[u32; BUCKETS], mark: u32) -> usize
-    ensures { λ r. ⌜ r ≡ getD (now (heads .entry)) (bucketOf mark) 0 ⌝ }
+// The word of the first item in the bucket of a hash.
+pub fn first(heads: &[u32; BUCKETS], hash: u32) -> usize
+    ensures { λ r. ⌜ r ≡ getD (now (heads .entry)) (bucketOf hash) 0 ⌝ }
 {
-    let h = bucket_of(mark);
+    let h = bucket_of(hash);
     number(heads[h])
 }
 

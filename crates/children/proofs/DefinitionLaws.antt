@@ -22,7 +22,7 @@ use Rattle.rules.proofs.TableRows.{next-above, next-only, no-children, owned-st
 use Rattle.rows.specs.Rows.{Follows}
 use Rattle.rules.proofs.SoundFacts.{SoundFacts, sound-facts}
 use Rattle.table.proofs.LayoutFacts.{Left, left-all, left-stuck, left-on, left-none}
-use Rattle.children.specs.Index.{index-words, short-list, headsOf, linksOf, isLong, rowOf, childMark, Filled}
+use Rattle.children.specs.Index.{index-words, short-list, headsOf, linksOf, isLong, rowOf, childHash, Filled}
 use Rattle.children.specs.Filling.{Listing, ListAdded, InlineAdded}
 use Rattle.children.proofs.FillLaws.{chained-wider}
 
@@ -98,7 +98,7 @@ filling-start {S} {T} {ix} e = record {
   owners = [];
   listing = record {
     items = [];
-    chained = record { words = ap length e ∙ length-replicate {A = ℕ} index-words 0; chains = index-empty rowOf (childMark S T) (linksOf ix) (no-heads e); below = tt; few = omega arith; owners = λ y m. elim m [ ] };
+    chained = record { words = ap length e ∙ length-replicate {A = ℕ} index-words 0; chains = index-empty rowOf (childHash S T) (linksOf ix) (no-heads e); below = tt; few = omega arith; owners = λ y m. elim m [ ] };
     owned = λ r m t. elim m [ ];
   };
   all-long = λ x h t. absurd (omega arith);

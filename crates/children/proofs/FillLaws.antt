@@ -14,14 +14,14 @@ use borrow.Author.Tests.{eqb-true, eqb-false}
 use Rattle.grammar.specs.Limits.{table-rows}
 use Rattle.buckets.specs.Buckets.{All, Indexed}
 use Rattle.buckets.proofs.BucketLaws.{index-added}
-use Rattle.strings.specs.Marks.{markMore, markOf}
+use Rattle.strings.specs.Hashes.{hashMore, hashOf}
 use Rattle.rules.specs.Rows.{next, walk, past, firstChild, children, pastChildren, nameOf}
 use Rattle.rules.proofs.Lists.{clash}
 use Rattle.rules.proofs.TableRows.{next-above, past-children-above, past-children-least}
 use Rattle.rows.specs.Rows.{Follows, First, Counted as Sized}
 use Rattle.rows.proofs.LoopLaws.{walk-at, walk-over, past-next, past-within, past-over}
 use Rattle.rows.proofs.ChildLaws.{children-walk, children-past}
-use Rattle.children.specs.Index.{index-words, countPlace, linksOf, ownersOf, isLong, Child, childAt, rowOf, childMark, Noted, Chained, Owned}
+use Rattle.children.specs.Index.{index-words, countPlace, linksOf, ownersOf, isLong, Child, childAt, rowOf, childHash, Noted, Chained, Owned}
 use Rattle.children.specs.Filling.{Put, OwnerPut, Counted, Grown, ChildrenAdded, ListAdded}
 use Rattle.children.proofs.PartLaws.{heads-wide, links-wide, owners-wide, put-room, put-counts, put-owners, put-added, counted-room, counted-heads, counted-links, counted-owners, counted-here, counted-other, owner-room, owner-heads, owner-links, owner-counts, owner-owners}
 
@@ -50,14 +50,14 @@ module _ {S T ix : List ℕ} {items : List Child} {n : ℕ} (v : Chained S T ix 
   chained-counted : {r : ℕ} {ix′ : List ℕ} → Counted T ix r ix′ → Chained S T ix′ items n
   chained-counted p = record {
     words = counted-room p ∙ v .words;
-    chains = subst₂ (λ (a b : List ℕ). Indexed rowOf (childMark S T) a b items) (sym (counted-heads p)) (sym (counted-links p)) (v .chains);
+    chains = subst₂ (λ (a b : List ℕ). Indexed rowOf (childHash S T) a b items) (sym (counted-heads p)) (sym (counted-links p)) (v .chains);
     below = v .below;
     few = v .few;
     owners = λ y m. noted-so (counted-owners p) (v .owners y m);
   }
 
   -- row n came, a child of row r
-  chained-more : {r mark : ℕ} {ix₁ ix₂ : List ℕ} → n < table-rows → mark ≡ childMark S T (childAt n r) → Put ix mark n ix₁ → OwnerPut ix₁ n r ix₂ → List·Memᴰ n (children T r)
+  chained-more : {r hash : ℕ} {ix₁ ix₂ : List ℕ} → n < table-rows → hash ≡ childHash S T (childAt n r) → Put ix hash n ix₁ → OwnerPut ix₁ n r ix₂ → List·Memᴰ n (children T r)
       → Chained S T ix₂ (childAt n r ∷ items) (suc n)
   chained-more {r} {ix₁ = ix₁} {ix₂} h q p o child =
       let room : n < length (linksOf ix) = omega (arith, links-wide ix (v .words)) in
@@ -65,8 +65,8 @@ module _ {S T ix : List ℕ} {items : List Child} {n : ℕ} (v : Chained S T ix 
       let owners : ownersOf ix₂ ≡ set (ownersOf ix) n r = owner-owners o h ∙ ap (λ (l : List ℕ). set l n r) (put-owners h p) in
       record {
         words = owner-room o ∙ words;
-        chains = subst₂ (λ (a b : List ℕ). Indexed rowOf (childMark S T) a b (childAt n r ∷ items)) (sym (owner-heads o)) (sym (owner-links o))
-            (index-added rowOf (childMark S T) (v .chains) (childAt n r) (heads-wide ix (v .words)) room refl (sym q)
+        chains = subst₂ (λ (a b : List ℕ). Indexed rowOf (childHash S T) a b (childAt n r ∷ items)) (sym (owner-heads o)) (sym (owner-links o))
+            (index-added rowOf (childHash S T) (v .chains) (childAt n r) (heads-wide ix (v .words)) room refl (sym q)
             (all-weaker (λ y. rowOf y < n) (λ y. rowOf y ≡ n → ⊥) (λ y (l : rowOf y < n) e. omega arith) items (v .below)) (put-added h p));
         below = (omega arith, all-weaker (λ y. rowOf y < n) (λ y. rowOf y < suc n) (λ y (l : rowOf y < n). omega arith) items (v .below));
         few = omega (arith, v .few);
@@ -115,7 +115,7 @@ module _ {S T ix ix₁ : List ℕ} {r c n : ℕ} (v : RunAdded S T ix r c n ix�
   pub run-within : 0 < n → pastChildren T r ≤ table-rows → c < table-rows
   run-within h k = omega (arith, past-within T c n h, v .ends)
 
-  pub run-more : {name ix₂ ix₃ : List ℕ} {k mark c′ : ℕ} → 0 < n → pastChildren T r ≤ table-rows → name ≡ nameOf S T c → k ≡ markOf name → mark ≡ markMore k r → Put ix₁ mark c ix₂
+  pub run-more : {name ix₂ ix₃ : List ℕ} {k hash c′ : ℕ} → 0 < n → pastChildren T r ≤ table-rows → name ≡ nameOf S T c → k ≡ hashOf name → hash ≡ hashMore k r → Put ix₁ hash c ix₂
       → OwnerPut ix₂ c r ix₃ → Follows T c c′ → RunAdded S T ix r c′ (n - 1) ix₃
   run-more l w qn qm q p o f =
       let h : c < table-rows = run-within l w in
@@ -129,7 +129,7 @@ module _ {S T ix ix₁ : List ℕ} {r c n : ℕ} (v : RunAdded S T ix r c n ix�
             record {
               more = childAt c r ∷ g .more;
               chained =
-                  chained-wider (chained-more (g .chained) h (q ∙ ap (λ (x : ℕ). markMore x r) (qm ∙ ap markOf qn)) p o (v .own c (subst (List·Memᴰ c) (sym (walk-at T l (f .is))) (List·Memᴰ·head refl))))
+                  chained-wider (chained-more (g .chained) h (q ∙ ap (λ (x : ℕ). hashMore x r) (qm ∙ ap hashOf qn)) p o (v .own c (subst (List·Memᴰ c) (sym (walk-at T l (f .is))) (List·Memᴰ·head refl))))
                   (omega (arith, f .is, next-above T c));
               kept = λ y m. List·Memᴰ·tail (g .kept y m);
               come = λ x m. ⊎-elim

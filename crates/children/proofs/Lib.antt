@@ -1,5 +1,5 @@
--- Laws that the functions cite: marks, children looked at in turn, mandatory ones counted, and the index filled and looked up.
-pub mod MarkLaws
+-- Laws that the functions cite: hashes, children looked at in turn, mandatory ones counted, and the index filled and looked up.
+pub mod HashLaws
 pub mod NameSizes
 pub mod ScanLaws
 pub mod CountLaws

@@ -1,5 +1,5 @@
 -- A child looked up in the index: the walk along the chain of its bucket, and that what is found there is what a look at every child finds.
--- The idea: a child of that name has the bucket's mark, so it is on the chain; a row of the chain whose owner is the list's is a child, and no other child has that name.
+-- The idea: a child of that name has the bucket's hash, so it is on the chain; a row of the chain whose owner is the list's is a child, and no other child has that name.
 use Prim.Native.Nat.{ℕ, zero, suc, _-_, _≤_, _<_}
 use native.Mathlib.Omega.{arith}
 use mathlib.Core.Path.{_≡_, refl, sym, ap, _∙_, subst₂}
@@ -13,7 +13,7 @@ use Rattle.grammar.specs.Limits.{table-rows}
 use Rattle.grammar.specs.Machine.Message.{message}
 use Rattle.buckets.specs.Buckets.{bucketOf, Chain, inBucket}
 use Rattle.buckets.proofs.BucketLaws.{bucket-short, index-walk}
-use Rattle.strings.specs.Marks.{markMore, markOf}
+use Rattle.strings.specs.Hashes.{hashMore, hashOf}
 use Rattle.rules.specs.Rows.{children, nameOf}
 use Rattle.rules.specs.SchemaTable.{memberIn}
 use Rattle.rules.proofs.Lists.{clash, and-left, and-right, same-true, same-is, in-map, apart-injective}
@@ -22,9 +22,9 @@ use Rattle.rules.proofs.SoundFacts.{sound-facts}
 use Rattle.rows.specs.Index.{itself}
 use Rattle.rows.proofs.IndexLaws.{Walk, walk-start, walk-hit, walk-on, walk-end, walk-out}
 use Rattle.lookups.specs.Lookups.{NodeMeans}
-use Rattle.children.specs.Index.{headsOf, linksOf, ownersOf, isLong, Child, childAt, rowOf, childMark, Given}
+use Rattle.children.specs.Index.{headsOf, linksOf, ownersOf, isLong, Child, childAt, rowOf, childHash, Given}
 use Rattle.children.specs.Children.{MeaningAt}
-use Rattle.children.specs.Lookup.{namedIn, firstNamed, MeaningMark, RowMeant, ChildListed, ChildIndexed}
+use Rattle.children.specs.Lookup.{namedIn, firstNamed, MeaningHash, RowMeant, ChildListed, ChildIndexed}
 use Rattle.children.proofs.PartLaws.{head-at}
 use Rattle.children.proofs.ScanLaws.{meaning-is}
 
@@ -63,23 +63,23 @@ module _ {S T m w ix : List ℕ} {head r k x n : ℕ} (v : ChildWalk S T m w (li
   unfolding firstNamed
   listed-out z = record { told = λ cs u. walk-out (firstNamed S T cs (ownersOf ix) r) (linksOf ix) (v .walks cs u) z .told }
 
--- an item is in the bucket of its mark
-in-bucket : {A : Type 0} (mark : A → ℕ) (h : ℕ) (ys : List A) (y : A) → List·Memᴰ y ys → bucketOf (mark y) ≡ h → List·Memᴰ y (inBucket mark h ys)
-in-bucket mark h [] y m e = elim m [ ]
-in-bucket mark h (z ∷ ys) y m e = go (eqb (bucketOf (mark z)) h) refl (List·Memᴰ·cases-cons m) (λ p. in-bucket mark h ys y p e)
+-- an item is in the bucket of its hash
+in-bucket : {A : Type 0} (hash : A → ℕ) (h : ℕ) (ys : List A) (y : A) → List·Memᴰ y ys → bucketOf (hash y) ≡ h → List·Memᴰ y (inBucket hash h ys)
+in-bucket hash h [] y m e = elim m [ ]
+in-bucket hash h (z ∷ ys) y m e = go (eqb (bucketOf (hash z)) h) refl (List·Memᴰ·cases-cons m) (λ p. in-bucket hash h ys y p e)
   where
-    go : (b : Bool) → eqb (bucketOf (mark z)) h ≡ b → (y ≡ z) ⊎ List·Memᴰ y ys → (List·Memᴰ y ys → List·Memᴰ y (inBucket mark h ys))
-        → List·Memᴰ y (cond b (z ∷ inBucket mark h ys) (inBucket mark h ys))
+    go : (b : Bool) → eqb (bucketOf (hash z)) h ≡ b → (y ≡ z) ⊎ List·Memᴰ y ys → (List·Memᴰ y ys → List·Memᴰ y (inBucket hash h ys))
+        → List·Memᴰ y (cond b (z ∷ inBucket hash h ys) (inBucket hash h ys))
     go true q (inl d) r = List·Memᴰ·head d
     go true q (inr p) r = List·Memᴰ·tail (r p)
-    go false q (inl d) r = absurd (eqb-false (bucketOf (mark z)) h q (ap (λ w. bucketOf (mark w)) (sym d) ∙ e))
+    go false q (inl d) r = absurd (eqb-false (bucketOf (hash z)) h q (ap (λ w. bucketOf (hash w)) (sym d) ∙ e))
     go false q (inr p) r = r p
 
-of-bucket : {A : Type 0} (mark : A → ℕ) (h : ℕ) (ys : List A) (y : A) → List·Memᴰ y (inBucket mark h ys) → List·Memᴰ y ys
-of-bucket mark h [] y m = m
-of-bucket mark h (z ∷ ys) y m = go (eqb (bucketOf (mark z)) h) m (of-bucket mark h ys y)
+of-bucket : {A : Type 0} (hash : A → ℕ) (h : ℕ) (ys : List A) (y : A) → List·Memᴰ y (inBucket hash h ys) → List·Memᴰ y ys
+of-bucket hash h [] y m = m
+of-bucket hash h (z ∷ ys) y m = go (eqb (bucketOf (hash z)) h) m (of-bucket hash h ys y)
   where
-    go : (b : Bool) → List·Memᴰ y (cond b (z ∷ inBucket mark h ys) (inBucket mark h ys)) → (List·Memᴰ y (inBucket mark h ys) → List·Memᴰ y ys) → List·Memᴰ y (z ∷ ys)
+    go : (b : Bool) → List·Memᴰ y (cond b (z ∷ inBucket hash h ys) (inBucket hash h ys)) → (List·Memᴰ y (inBucket hash h ys) → List·Memᴰ y ys) → List·Memᴰ y (z ∷ ys)
     go true m r = ⊎-elim (λ e. List·Memᴰ·head e) (λ i. List·Memᴰ·tail (r i)) (List·Memᴰ·cases-cons m)
     go false m r = List·Memᴰ·tail (r m)
 
@@ -124,19 +124,19 @@ module _ {S T ix : List ℕ} (g : Given S T ix) (cs : List ℕ) (r : ℕ) (long 
   one-child c d m m′ p q = apart-injective (nameOf S T) (children T r) (sound-facts S T (g .sound-table) .children-apart r) c d m m′ (p ∙ sym q)
 
   abbrev bucket : List Child
-  bucket = inBucket (childMark S T) (bucketOf (markMore (markOf cs) r)) (g .filled .items)
+  bucket = inBucket (childHash S T) (bucketOf (hashMore (hashOf cs) r)) (g .filled .items)
 
   on-chain : (c : ℕ) → List·Memᴰ c (children T r) → nameOf S T c ≡ cs → List·Memᴰ c (map rowOf bucket)
   on-chain c m p =
       in-map rowOf bucket (childAt c r)
-      (in-bucket (childMark S T) (bucketOf (markMore (markOf cs) r)) (g .filled .items) (childAt c r) (g .filled .owned r long .listed c m)
-      (ap (λ (l : List ℕ). bucketOf (markMore (markOf l) r)) p))
+      (in-bucket (childHash S T) (bucketOf (hashMore (hashOf cs) r)) (g .filled .items) (childAt c r) (g .filled .owned r long .listed c m)
+      (ap (λ (l : List ℕ). bucketOf (hashMore (hashOf l) r)) p))
 
   -- a row of the chain that r is noted for is a child of r
   its-child : (c : ℕ) → List·Memᴰ c (map rowOf bucket) → getD (ownersOf ix) c 0 ≡ r → List·Memᴰ c (children T r)
   its-child c m e =
       let y = Memᴰ·of-map rowOf bucket m in
-      let d = g .filled .chained .owners (y .0) (of-bucket (childMark S T) (bucketOf (markMore (markOf cs) r)) (g .filled .items) (y .0) (y .1)) in
+      let d = g .filled .chained .owners (y .0) (of-bucket (childHash S T) (bucketOf (hashMore (hashOf cs) r)) (g .filled .items) (y .0) (y .1)) in
       let o : y .0 .owner ≡ r = sym (d .note) ∙ ap (λ (i : ℕ). getD (ownersOf ix) i 0) (y .2) ∙ e in
       subst₂ (λ (i j : ℕ). List·Memᴰ i (children T j)) (y .2) o (d .child)
 
@@ -158,17 +158,17 @@ module _ {S T ix : List ℕ} (g : Given S T ix) (cs : List ℕ) (r : ℕ) (long 
           first-only S T cs (ownersOf ix) r (map rowOf bucket) c (λ d i t. let n = found d i t in one-child d c (n .0) (f .0) (n .1) (f .1))
           (named-is S T cs (ownersOf ix) r c (g .filled .chained .owners (childAt c r) (g .filled .owned r long .listed c (f .0)) .note) (f .1)) (on-chain c (f .0) (f .1))
 
-  pub listed-child : {m w : List ℕ} {head k x : ℕ} → MeaningAt m w k cs → head ≡ getD ix (bucketOf (markMore (markOf cs) r)) 0 → ChildListed S T m w ix head r k x
+  pub listed-child : {m w : List ℕ} {head k x : ℕ} → MeaningAt m w k cs → head ≡ getD ix (bucketOf (hashMore (hashOf cs) r)) 0 → ChildListed S T m w ix head r k x
       → x ≡ memberIn S T cs (children T r)
   listed-child {head = head} u p l =
       let chained = g .filled .chained in
-      let h : head ≡ getD (headsOf ix) (bucketOf (markMore (markOf cs) r)) 0 = p ∙ sym (head-at ix (bucketOf (markMore (markOf cs) r)) (omega arith)) in
-      let n : length (map rowOf bucket) ≤ table-rows = omega (arith, length-map bucket rowOf, bucket-short (childMark S T) (bucketOf (markMore (markOf cs) r)) (g .filled .items), chained .few) in
-      sym (l .told cs u (map rowOf bucket) (chain-rows (linksOf ix) head bucket (index-walk rowOf (childMark S T) (chained .chains) (markMore (markOf cs) r) h)) n) ∙ bucket-finds
+      let h : head ≡ getD (headsOf ix) (bucketOf (hashMore (hashOf cs) r)) 0 = p ∙ sym (head-at ix (bucketOf (hashMore (hashOf cs) r)) (omega arith)) in
+      let n : length (map rowOf bucket) ≤ table-rows = omega (arith, length-map bucket rowOf, bucket-short (childHash S T) (bucketOf (hashMore (hashOf cs) r)) (g .filled .items), chained .few) in
+      sym (l .told cs u (map rowOf bucket) (chain-rows (linksOf ix) head bucket (index-walk rowOf (childHash S T) (chained .chains) (hashMore (hashOf cs) r) h)) n) ∙ bucket-finds
 
-pub child-indexed : {S T m w ix : List ℕ} {r k own mark head h x : ℕ} → MeaningMark m w k own → mark ≡ markMore own r → h ≡ bucketOf mark → head ≡ getD ix h 0
+pub child-indexed : {S T m w ix : List ℕ} {r k own hash head h x : ℕ} → MeaningHash m w k own → hash ≡ hashMore own r → h ≡ bucketOf hash → head ≡ getD ix h 0
     → ChildListed S T m w ix head r k x → ChildIndexed S T m w ix r k x
 child-indexed {ix = ix} {r = r} o p z q l = record {
   told = λ long cs g u.
-      listed-child g cs r long u (q ∙ ap (λ (y : ℕ). getD ix y 0) (z ∙ ap bucketOf (p ∙ ap (λ (y : ℕ). markMore y r) (o .told cs u)))) l;
+      listed-child g cs r long u (q ∙ ap (λ (y : ℕ). getD ix y 0) (z ∙ ap bucketOf (p ∙ ap (λ (y : ℕ). hashMore y r) (o .told cs u)))) l;
 }

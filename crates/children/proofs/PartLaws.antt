@@ -33,39 +33,39 @@ unfolding headsOf
 head-at ix h l = getD-take buckets ix h 0 l
 
 -- row c was put first in a bucket
-module _ {ix ix′ : List ℕ} {mark c : ℕ} (small : c < table-rows) (p : Put ix mark c ix′) where
+module _ {ix ix′ : List ℕ} {hash c : ℕ} (small : c < table-rows) (p : Put ix hash c ix′) where
   pub put-room : length ix′ ≡ length ix
-  put-room = ap length (p .stored) ∙ length-set (set ix (buckets + c) (getD ix (bucketOf mark) 0)) (bucketOf mark) (suc c) ∙ length-set ix (buckets + c) (getD ix (bucketOf mark) 0)
+  put-room = ap length (p .stored) ∙ length-set (set ix (buckets + c) (getD ix (bucketOf hash) 0)) (bucketOf hash) (suc c) ∙ length-set ix (buckets + c) (getD ix (bucketOf hash) 0)
 
   pub put-counts : (x : ℕ) → getD ix′ (countPlace x) 0 ≡ getD ix (countPlace x) 0
   put-counts x =
       ap (λ (l : List ℕ). getD l (countPlace x) 0) (p .stored)
-      ∙ getD-set-other (set ix (buckets + c) (getD ix (bucketOf mark) 0)) (bucketOf mark) (countPlace x) (suc c) 0 (λ e. omega arith)
-      ∙ getD-set-other ix (buckets + c) (countPlace x) (getD ix (bucketOf mark) 0) 0 (λ e. omega arith)
+      ∙ getD-set-other (set ix (buckets + c) (getD ix (bucketOf hash) 0)) (bucketOf hash) (countPlace x) (suc c) 0 (λ e. omega arith)
+      ∙ getD-set-other ix (buckets + c) (countPlace x) (getD ix (bucketOf hash) 0) 0 (λ e. omega arith)
 
   pub put-owners : ownersOf ix′ ≡ ownersOf ix
   unfolding ownersOf
   put-owners =
-      let v : ℕ = getD ix (bucketOf mark) 0 in
+      let v : ℕ = getD ix (bucketOf hash) 0 in
       ap (λ (l : List ℕ). take table-rows (drop (buckets + table-rows) l)) (p .stored)
       ∙ ap (take table-rows)
-      (drop-set-lt (buckets + table-rows) (set ix (buckets + c) v) (bucketOf mark) (suc c) (omega arith)
+      (drop-set-lt (buckets + table-rows) (set ix (buckets + c) v) (bucketOf hash) (suc c) (omega arith)
       ∙ drop-set-lt (buckets + table-rows) ix (buckets + c) v (omega arith))
 
-  pub put-added : Added (headsOf ix) (linksOf ix) mark c (headsOf ix′) (linksOf ix′)
+  pub put-added : Added (headsOf ix) (linksOf ix) hash c (headsOf ix′) (linksOf ix′)
   unfolding headsOf linksOf
   put-added =
-      let v : ℕ = getD ix (bucketOf mark) 0 in
+      let v : ℕ = getD ix (bucketOf hash) 0 in
       let one : List ℕ = set ix (buckets + c) v in
       record {
         head =
-            ap (take buckets) (p .stored) ∙ take-set-lt buckets one (bucketOf mark) (suc c) (omega arith)
-            ∙ ap (λ (l : List ℕ). set l (bucketOf mark) (suc c)) (take-set-le buckets ix (buckets + c) v (omega arith));
+            ap (take buckets) (p .stored) ∙ take-set-lt buckets one (bucketOf hash) (suc c) (omega arith)
+            ∙ ap (λ (l : List ℕ). set l (bucketOf hash) (suc c)) (take-set-le buckets ix (buckets + c) v (omega arith));
         link =
             ap (λ (l : List ℕ). take table-rows (drop buckets l)) (p .stored)
-            ∙ ap (take table-rows) (drop-set-lt buckets one (bucketOf mark) (suc c) (omega arith) ∙ drop-set-add buckets ix c v)
+            ∙ ap (take table-rows) (drop-set-lt buckets one (bucketOf hash) (suc c) (omega arith) ∙ drop-set-add buckets ix c v)
             ∙ take-set-lt table-rows (drop buckets ix) c v small
-            ∙ ap (set (take table-rows (drop buckets ix)) c) (sym (getD-take buckets ix (bucketOf mark) 0 (omega arith)));
+            ∙ ap (set (take table-rows (drop buckets ix)) c) (sym (getD-take buckets ix (bucketOf hash) 0 (omega arith)));
       }
 
 -- a store past heads and links leaves them as they are

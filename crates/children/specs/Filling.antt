@@ -9,9 +9,9 @@ use Rattle.rules.specs.Rows.{next, owns, firstChild, children, pastChildren}
 use Rattle.children.specs.Counts.{mandatoryIn}
 use Rattle.children.specs.Index.{countPlace, ownerPlace, isLong, Child, childAt, Chained, Owned}
 
--- row c was put first in the bucket of a mark
-pub record Put (ix : List ℕ) (mark c : ℕ) (ix′ : List ℕ) : Type 0 where
-  pub stored : ix′ ≡ set (set ix (buckets + c) (getD ix (bucketOf mark) 0)) (bucketOf mark) (suc c)
+-- row c was put first in the bucket of a hash
+pub record Put (ix : List ℕ) (hash c : ℕ) (ix′ : List ℕ) : Type 0 where
+  pub stored : ix′ ≡ set (set ix (buckets + c) (getD ix (bucketOf hash) 0)) (bucketOf hash) (suc c)
 
 -- row r was noted as the owner of row c
 pub record OwnerPut (ix : List ℕ) (c r : ℕ) (ix′ : List ℕ) : Type 0 where

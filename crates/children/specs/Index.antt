@@ -7,7 +7,7 @@ use lib.Dec.{ltb}
 use lib.ListN.{length, getD, take, drop}
 use Rattle.grammar.specs.Limits.{table-rows}
 use Rattle.buckets.specs.Buckets.{buckets, All, Indexed}
-use Rattle.strings.specs.Marks.{markMore, markOf}
+use Rattle.strings.specs.Hashes.{hashMore, hashOf}
 use Rattle.rules.specs.Rows.{childCount, children, nameOf}
 use Rattle.rules.specs.Sound.{sound}
 use Rattle.children.specs.Counts.{mandatoryIn}
@@ -49,19 +49,19 @@ childAt c r = record { row = c; owner = r }
 abbrev pub rowOf : Child → ℕ
 rowOf y = y .row
 
--- the mark of its name, with its owner as one more code point
-abbrev pub childMark : List ℕ → List ℕ → Child → ℕ
-childMark S T y = markMore (markOf (nameOf S T (y .row))) (y .owner)
+-- the hash of its name, with its owner as one more code point
+abbrev pub childHash : List ℕ → List ℕ → Child → ℕ
+childHash S T y = hashMore (hashOf (nameOf S T (y .row))) (y .owner)
 
 -- it is a child of its owner, which is noted at its row
 pub record Noted (T ix : List ℕ) (y : Child) : Type 0 where
   pub child : List·Memᴰ (y .row) (children T (y .owner))
   pub note : getD (ownersOf ix) (y .row) 0 ≡ y .owner
 
--- the items are in chains, each in the bucket of its mark, with their owners; their rows are below n, and there are no more than n
+-- the items are in chains, each in the bucket of its hash, with their owners; their rows are below n, and there are no more than n
 pub record Chained (S T ix : List ℕ) (items : List Child) (n : ℕ) : Type 0 where
   pub words : length ix ≡ index-words
-  pub chains : Indexed rowOf (childMark S T) (headsOf ix) (linksOf ix) items
+  pub chains : Indexed rowOf (childHash S T) (headsOf ix) (linksOf ix) items
   pub below : All (λ y. rowOf y < n) items
   pub few : length items ≤ n
   pub owners : (y : Child) → List·Memᴰ y items → Noted T ix y

@@ -8,16 +8,16 @@ use lib.ListN.{length, getD}
 use Rattle.grammar.specs.Notation.{same}
 use Rattle.grammar.specs.Limits.{table-rows}
 use Rattle.buckets.specs.Buckets.{Chain}
-use Rattle.strings.specs.Marks.{markOf}
+use Rattle.strings.specs.Hashes.{hashOf}
 use Rattle.rules.specs.Rows.{children, nameOf}
 use Rattle.rules.specs.SchemaTable.{memberIn}
 use Rattle.rows.specs.Index.{itself}
 use Rattle.children.specs.Index.{linksOf, ownersOf, isLong, Given}
 use Rattle.children.specs.Children.{MeaningAt}
 
--- the mark of what the key or string at node k means
-pub record MeaningMark (m w : List ℕ) (k x : ℕ) : Type 0 where
-  pub told : (cs : List ℕ) → MeaningAt m w k cs → x ≡ markOf cs
+-- the hash of what the key or string at node k means
+pub record MeaningHash (m w : List ℕ) (k x : ℕ) : Type 0 where
+  pub told : (cs : List ℕ) → MeaningAt m w k cs → x ≡ hashOf cs
 
 -- row c is named cs, and r is noted as its owner
 abbrev pub namedIn : List ℕ → List ℕ → List ℕ → List ℕ → ℕ → ℕ → Bool

@@ -1,7 +1,7 @@
 // An index of long lists of children by their row and name, over lent words: heads of buckets; then for each row a link, its owner and a count.
+use crate::hashes::name_hash;
+use crate::hashes::owner_hash;
 use crate::lists::scanned_mandatory;
-use crate::marks::name_mark;
-use crate::marks::owner_mark;
 use buckets::BUCKETS;
 use buckets::bucket_of;
 use rows::names::name_of;
@@ -38,12 +38,12 @@ pub fn is_long(rows: &[u32], r: usize) -> bool
     SHORT_LIST < child_count(rows, r)
 }
 
-// Puts row c first in the bucket of a mark.
-fn put_child(index: &mut [u32], mark: u32, c: usize)
+// Puts row c first in the bucket of a hash.
+fn put_child(index: &mut [u32], hash: u32, c: usize)
     requires { ⌜ (length (now index) ≡ index-words) × (c < table-rows) ⌝ }
-    ensures { λ _. ⌜ Put (now (index .entry)) mark c (now (index .exit)) ⌝ }
+    ensures { λ _. ⌜ Put (now (index .entry)) hash c (now (index .exit)) ⌝ }
 {
-    let h = bucket_of(mark);
+    let h = bucket_of(hash);
     index[BUCKETS + c] = index[h];
     index[h] = (c + 1) as u32;
 }
@@ -64,8 +64,8 @@ fn add_children(schema: &[u8], rows: &[u32], index: &mut [u32], r: usize)
     let mut c = first_child(rows, r);
     let mut left = child_count(rows, r);
     while 0 < left {
-        let mark = owner_mark(name_mark(name_of(schema, rows, c)), r);
-        put_child(index, mark, c);
+        let hash = owner_hash(name_hash(name_of(schema, rows, c)), r);
+        put_child(index, hash, c);
         put_owner(index, c, r);
         c = next_row(rows, c);
         left -= 1;

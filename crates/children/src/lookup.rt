@@ -1,9 +1,9 @@
 // A long list of children, asked through the index.
+use crate::hashes::meaning_hash;
+use crate::hashes::owner_hash;
 use crate::index::COUNTS;
 use crate::index::INDEX_WORDS;
 use crate::index::OWNERS;
-use crate::marks::meaning_mark;
-use crate::marks::owner_mark;
 use buckets::BUCKETS;
 use buckets::bucket_of;
 use lookups::values::node_means;
@@ -93,8 +93,8 @@ pub fn indexed_child(
     if index.len() < INDEX_WORDS {
         return 0;
     }
-    let mark = owner_mark(meaning_mark(m, nodes, k), r);
-    let head = number_at(index, bucket_of(mark));
+    let hash = owner_hash(meaning_hash(m, nodes, k), r);
+    let head = number_at(index, bucket_of(hash));
     listed_child(schema, rows, m, nodes, index, head, r, k)
 }
 

@@ -14,7 +14,7 @@ use schema::compile::compile_schema;
 use wordings::heads::REFUSAL_ROOM;
 
 // Answers the messages where the schema was accepted and its line could be written.
-fn with_answer(style: Style, answer: SchemaAnswer, schema: &[u8], rows: &[u32]) {
+fn answer_messages(style: Style, answer: SchemaAnswer, schema: &[u8], rows: &[u32]) {
     let mut line = [0u8; REFUSAL_ROOM];
     let n = put_schema_answer(style, answer, &mut line);
     if !io::write_all(STDOUT_FILENO, &line[0..n]) {
@@ -29,10 +29,10 @@ fn with_answer(style: Style, answer: SchemaAnswer, schema: &[u8], rows: &[u32]) 
     }
 }
 
-fn with_schema(style: Style, schema: &[u8]) {
+fn compile_and_answer(style: Style, schema: &[u8]) {
     let mut rows = [0u32; TABLE_ROOM];
     let answer = compile_schema(schema, &mut rows);
-    with_answer(style, answer, schema, &rows);
+    answer_messages(style, answer, schema, &rows);
 }
 
 pub fn run(style: Style) {
@@ -41,6 +41,6 @@ pub fn run(style: Style) {
         Read::Failed => {
             io::write_all(STDOUT_FILENO, b"no schema\n");
         }
-        Read::Bytes(n) => with_schema(style, &schema[0..n]),
+        Read::Bytes(n) => compile_and_answer(style, &schema[0..n]),
     }
 }

@@ -13,8 +13,8 @@ use Rattle.rules.specs.Kinds.{value-kind, member-kind}
 use Rattle.rules.specs.Definitions.{Name, TypeText, quoted, starred, memberOf, asType}
 use Rattle.rules.specs.SchemaTable.{row, flag, isList, typeOf}
 use Rattle.rules.specs.RawTable.{packed}
-use Rattle.definitions.specs.declared.rows.Put.{Put}
-use Rattle.definitions.specs.declared.rows.Put.the-variants.{Rows, Refused}
+use Rattle.definitions.specs.declared.writing.Put.{Put}
+use Rattle.definitions.specs.declared.writing.Put.the-variants.{Rows, Refused}
 use Rattle.definitions.specs.declared.shapes.TypeRead.{TypeRead}
 use Rattle.definitions.specs.declared.shapes.TypeRead.the-variants as Types
 use Rattle.definitions.specs.Places.{Held, Named, NameWord, Star, TypeTold, TypeTaken, TakesType}

@@ -23,8 +23,8 @@ use Rattle.definitions.specs.declared.shapes.TypeRead.the-variants as Ty
 use Rattle.definitions.specs.declared.shapes.FlagRead.{FlagRead}
 use Rattle.definitions.specs.declared.shapes.FlagRead.the-variants as Flags
 use Rattle.definitions.specs.Places.{TypeTold, TypeTaken, TakesReturn, FlagTold, FlagTaken, TakesFlag, Links}
-use Rattle.definitions.specs.declared.rows.Put.{Put}
-use Rattle.definitions.specs.declared.rows.Put.the-variants.{Rows, Refused}
+use Rattle.definitions.specs.declared.writing.Put.{Put}
+use Rattle.definitions.specs.declared.writing.Put.the-variants.{Rows, Refused}
 use Rattle.definitions.specs.Written.{RowPut, NamedRowPut, RowsAre, PutsRows}
 use Rattle.definitions.specs.Parts.{InlineAt, FieldsAt, BodyAt, CommandAt, bodyRows}
 use Rattle.definitions.proofs.Stores.{put-under}

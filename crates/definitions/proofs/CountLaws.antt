@@ -18,8 +18,8 @@ use Rattle.rules.specs.Definitions.Data.{absent, inline}
 use Rattle.rules.specs.Values.{_>>=_}
 use Rattle.rules.specs.SchemaTable.{concat, inlineStruct}
 use Rattle.rules.specs.RawTable.{packed}
-use Rattle.definitions.specs.declared.rows.Put.{Put}
-use Rattle.definitions.specs.declared.rows.Put.the-variants.{Rows, Refused}
+use Rattle.definitions.specs.declared.writing.Put.{Put}
+use Rattle.definitions.specs.declared.writing.Put.the-variants.{Rows, Refused}
 use Rattle.definitions.specs.Places.{Found}
 use Rattle.definitions.specs.Written.{RowPut, RowsAre, PutsRows}
 use Rattle.definitions.specs.Parts.{valueRow, memberRow, pairRow, childRows, ChildrenAt, countedRows, CountedAt, InlineAt}

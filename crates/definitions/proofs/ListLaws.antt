@@ -21,8 +21,8 @@ use Rattle.rules.specs.Kinds.{value-kind, member-kind}
 use Rattle.rules.specs.Definitions.{Name, TypeText, quoted, starred, memberOf, asName, asType, names, members, pairs, asNames, asMembers, asPairs, must}
 use Rattle.rules.specs.Values.{_>>=_}
 use Rattle.rules.specs.SchemaTable.{concat}
-use Rattle.definitions.specs.declared.rows.Put.{Put}
-use Rattle.definitions.specs.declared.rows.Put.the-variants.{Rows, Refused}
+use Rattle.definitions.specs.declared.writing.Put.{Put}
+use Rattle.definitions.specs.declared.writing.Put.the-variants.{Rows, Refused}
 use Rattle.definitions.specs.Places.{Held, Found}
 use Rattle.definitions.specs.Written.{RowPut, RowsAre, PutsRows}
 use Rattle.definitions.specs.Parts.{valueRow, memberRow, pairRow, childRows, memberField, pairField, FieldAt, ChildAt, ChildrenAt}

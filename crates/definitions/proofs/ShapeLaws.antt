@@ -178,7 +178,7 @@ module _ {w : List ℕ} {k : ℕ} where
     pub take-list : {p : ℕ} → r ≡ ListOf p → TakesType w k (Types.Taken p 1)
     take-list e = record { told = λ s j h. let v = told-of e s j h in record { type = listOf (v .0); is = v .1; place = v .2; list = refl } }
 
-    -- what the arm of a `let .. else` is told of the tag
+    -- what the arm of a `let .. else` is told of the discriminator
     pub take-none : (tagOf (declared enum) r ≡ 0) ⊎ (tagOf (declared enum) r ≡ 2) → (tagOf (declared enum) r ≡ 1) ⊎ (tagOf (declared enum) r ≡ 2) → TakesType w k Types.Refused
     take-none a b = record { told = told-of (other r a b) }
       where

@@ -24,8 +24,8 @@ use Rattle.rules.specs.Definitions.Body.{enum, struct, union, alternate, comman
 use Rattle.rules.specs.Values.{_>>=_, asFields}
 use Rattle.rules.specs.SchemaTable.{row, concat, dataLink, dataRows, rowsTaken}
 use Rattle.rules.specs.RawTable.{packed, rawFrom}
-use Rattle.definitions.specs.declared.rows.Put.{Put}
-use Rattle.definitions.specs.declared.rows.Put.the-variants.{Rows, Refused}
+use Rattle.definitions.specs.declared.writing.Put.{Put}
+use Rattle.definitions.specs.declared.writing.Put.the-variants.{Rows, Refused}
 use Rattle.definitions.specs.Places.{Held}
 use Rattle.definitions.specs.Written.{RowPut, RowsAre, PutsRows}
 use Rattle.definitions.specs.Parts.{valueRow, memberRow, pairRow, bodyRows, rowsAt, DefinitionAt}
@@ -48,8 +48,8 @@ inline-wide (named n) = refl
 body-wide : (n : ℕ) (name : Name) (b : Body) → length (bodyRows n name b) ≡ row-words * rowsTaken b
 body-wide n name (enum vs) = omega (arith, list-wide valueRow (λ x. refl) vs)
 body-wide n name (struct d ms) = omega (arith, list-wide memberRow (λ x. refl) ms)
-body-wide n name (union d tag ps) =
-    let r = row union-kind name (dataLink packed packed (λ _ m. packed m) n d) (length ps) (packed tag) 0 in
+body-wide n name (union d discriminator ps) =
+    let r = row union-kind name (dataLink packed packed (λ _ m. packed m) n d) (length ps) (packed discriminator) 0 in
     omega (arith, length-append (r ++ inlineRows d) (concat (map (pairRow branch-kind) ps)), length-append r (inlineRows d), inline-wide d, list-wide (pairRow branch-kind) (λ x. refl) ps)
 body-wide n name (alternate ps) = omega (arith, list-wide (pairRow alternative-kind) (λ x. refl) ps)
 body-wide n name (command d t oob) = omega (arith, inline-wide d)

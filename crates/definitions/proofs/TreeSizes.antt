@@ -169,10 +169,10 @@ module _ (fs : Fields) {b : Body} where
 
   union-few : unionBody fs ≡ some b → rowsTaken b ≤ suc (sizeF fs)
   union-few e =
-      let tagOf = must asName (valueAt (text "discriminator") fs) in
+      let discriminatorOf = must asName (valueAt (text "discriminator") fs) in
       let branches = must asPairs (valueAt (text "data") fs) in
-      let u = bind-of (must asData (valueAt (text "base") fs)) (λ x. tagOf >>= λ t. branches >>= λ ps. some (union x t ps)) e in
-      let t = bind-of tagOf (λ t. branches >>= λ ps. some (union (u .0) t ps)) (u .2) in
+      let u = bind-of (must asData (valueAt (text "base") fs)) (λ x. discriminatorOf >>= λ t. branches >>= λ ps. some (union x t ps)) e in
+      let t = bind-of discriminatorOf (λ t. branches >>= λ ps. some (union (u .0) t ps)) (u .2) in
       let w = came-of (λ (ps : List Pair). union (u .0) (t .0) ps) branches (t .2) in
       let p = must-there asData (valueAt (text "base") fs) (u .1) in
       let q = must-there asPairs (valueAt (text "data") fs) (w .1) in

@@ -20,8 +20,8 @@ use Rattle.rules.specs.Values.{_>>=_, valueAt}
 use Rattle.rules.specs.SchemaTable.{row, concat, dataLink}
 use Rattle.rules.specs.RawTable.{packed}
 use Rattle.definitions.specs.Places.{Found, Named, NameWord, Links}
-use Rattle.definitions.specs.declared.rows.Put.{Put}
-use Rattle.definitions.specs.declared.rows.Put.the-variants.{Rows, Refused}
+use Rattle.definitions.specs.declared.writing.Put.{Put}
+use Rattle.definitions.specs.declared.writing.Put.the-variants.{Rows, Refused}
 use Rattle.definitions.specs.Written.{RowPut, NamedRowPut, RowsAre, PutsRows}
 use Rattle.definitions.specs.Parts.{pairRow, ChildrenAt, InlineAt, BodyAt, UnionAt, bodyRows}
 use Rattle.definitions.proofs.Options.{came-of, none-of, must-then, never, both-there}
@@ -31,24 +31,24 @@ use Rattle.definitions.proofs.Stores.{put-after, put-under}
 use Rattle.definitions.proofs.CountLaws.{inlineRows, inline-put, inline-none, children-put, children-none}
 use Rattle.definitions.proofs.BodyLaws.{found-at, nowhere}
 
--- the rows of a union, given its tag; none without one
+-- the rows of a union, given its discriminator; none without one
 module _ (n : ℕ) (name : Name) where
   abbrev unionSo : Option Data → Option Name → Option (List Pair) → Option (List ℕ)
   unionSo x y z = (x >>= λ b. y >>= λ t. z >>= λ ps. some (union b t ps)) >>= λ b. some (bodyRows n name b)
 
-  union-untagged : (x : Option Data) (z : Option (List Pair)) → unionSo x none z ≡ none
-  union-untagged none z = refl
-  union-untagged (some b) z = refl
+  union-without : (x : Option Data) (z : Option (List Pair)) → unionSo x none z ≡ none
+  union-without none z = refl
+  union-without (some b) z = refl
 
-  union-tagged : (x : Option Data) (tag : Name) (z : Option (List Pair)) → unionSo x (some tag) z ≡ (x >>= λ b. z >>= λ ps. some (bodyRows n name (union b tag ps)))
-  union-tagged none tag z = refl
-  union-tagged (some b) tag none = refl
-  union-tagged (some b) tag (some ps) = refl
+  union-given : (x : Option Data) (discriminator : Name) (z : Option (List Pair)) → unionSo x (some discriminator) z ≡ (x >>= λ b. z >>= λ ps. some (bodyRows n name (union b discriminator ps)))
+  union-given none discriminator z = refl
+  union-given (some b) discriminator none = refl
+  union-given (some b) discriminator (some ps) = refl
 
 module _ {s w : List ℕ} {k : ℕ} where
-  tag-named : {r : Bool} → (k ≡ 0 → ⊥) → r ≡ stringKind (nodeKind w k) → r ≡ true → (o : Option Json) → Found s w o k → (tag : Name) × (must asName o ≡ some tag) × Named w k 0 tag
-  tag-named z q e none u = absurd (z (u .found))
-  tag-named z q e (some j) u = let x = is-name (held-there u) q e in (x .name, x .is, x .named)
+  discriminator-named : {r : Bool} → (k ≡ 0 → ⊥) → r ≡ stringKind (nodeKind w k) → r ≡ true → (o : Option Json) → Found s w o k → (discriminator : Name) × (must asName o ≡ some discriminator) × Named w k 0 discriminator
+  discriminator-named z q e none u = absurd (z (u .found))
+  discriminator-named z q e (some j) u = let x = is-name (held-there u) q e in (x .name, x .is, x .named)
 
   base-there : (k ≡ 0 → ⊥) → (o : Option Json) → Found s w o k → must asData o ≡ may absent asData o
   base-there m none u = absurd (m (u .found))
@@ -59,18 +59,18 @@ module _ {s w : List ℕ} {k v n b : ℕ} (f : FindsValue schema s w k (text "ba
   union-no-base e o h = h .are ∙ rw (nowhere (valueAt (text "base") (h .fs)) (found-at (h .fields) f) e)
 
   module _ {t : ℕ} (g : FindsValue schema s w k (text "discriminator") t) where
-    untagged : (o : Option (List ℕ)) (h : BodyAt s w unionBody k v n o) → must asName (valueAt (text "discriminator") (h .fs)) ≡ none → o ≡ none
-    untagged o h e =
+    without-discriminator : (o : Option (List ℕ)) (h : BodyAt s w unionBody k v n o) → must asName (valueAt (text "discriminator") (h .fs)) ≡ none → o ≡ none
+    without-discriminator o h e =
         h .are
         ∙ ap (λ (y : Option Name). unionSo n (h .name) (must asData (valueAt (text "base") (h .fs))) y (must asPairs (valueAt (text "data") (h .fs)))) e
-        ∙ union-untagged n (h .name) (must asData (valueAt (text "base") (h .fs))) (must asPairs (valueAt (text "data") (h .fs)))
+        ∙ union-without n (h .name) (must asData (valueAt (text "base") (h .fs))) (must asPairs (valueAt (text "data") (h .fs)))
 
-    pub union-no-tag : t ≡ 0 → (o : Option (List ℕ)) → BodyAt s w unionBody k v n o → o ≡ none
-    union-no-tag e o h = untagged o h (ap (must asName) (nowhere (valueAt (text "discriminator") (h .fs)) (found-at (h .fields) g) e))
+    pub union-no-discriminator : t ≡ 0 → (o : Option (List ℕ)) → BodyAt s w unionBody k v n o → o ≡ none
+    union-no-discriminator e o h = without-discriminator o h (ap (must asName) (nowhere (valueAt (text "discriminator") (h .fs)) (found-at (h .fields) g) e))
 
     module _ {r : Bool} (z : t ≡ 0 → ⊥) (q : r ≡ stringKind (nodeKind w t)) where
-      pub union-bad-tag : r ≡ false → (o : Option (List ℕ)) → BodyAt s w unionBody k v n o → o ≡ none
-      union-bad-tag e o h = untagged o h (go (valueAt (text "discriminator") (h .fs)) (found-at (h .fields) g))
+      pub union-bad-discriminator : r ≡ false → (o : Option (List ℕ)) → BodyAt s w unionBody k v n o → o ≡ none
+      union-bad-discriminator e o h = without-discriminator o h (go (valueAt (text "discriminator") (h .fs)) (found-at (h .fields) g))
         where
           go : (y : Option Json) → Found s w y t → must asName y ≡ none
           go none u = refl
@@ -80,19 +80,19 @@ module _ {s w : List ℕ} {k v n b : ℕ} (f : FindsValue schema s w k (text "ba
       union-handed e m l o h =
           let base = valueAt (text "base") (h .fs) in
           let branches = valueAt (text "data") (h .fs) in
-          let x = tag-named z q e (valueAt (text "discriminator") (h .fs)) (found-at (h .fields) g) in
+          let x = discriminator-named z q e (valueAt (text "discriminator") (h .fs)) (found-at (h .fields) g) in
           record {
             base = base;
             base-found = found-at (h .fields) f;
             branches = branches;
             branches-found = found-at (h .fields) l;
-            tag = x .0;
-            tagged = x .2;
+            discriminator = x .0;
+            discriminator-at = x .2;
             name = h .name;
             named = h .named;
             are =
                 h .are ∙ ap (λ (y : Option Name). unionSo n (h .name) (must asData base) y (must asPairs branches)) (x .1)
-                ∙ union-tagged n (h .name) (must asData base) (x .0) (must asPairs branches)
+                ∙ union-given n (h .name) (must asData base) (x .0) (must asPairs branches)
                 ∙ ap (λ (i : Option Data). i >>= λ y. must asPairs branches >>= λ ps. some (bodyRows n (h .name) (union y (x .0) ps))) (base-there m base (found-at (h .fields) f));
           }
 
@@ -110,24 +110,24 @@ module _ {s w : List ℕ} {v b t d n : ℕ} {old mid : List ℕ} {next most : �
     union-bad-branches y o u =
         let x : must asPairs (u .branches) ≡ none = none-of (map (pairRow branch-kind)) (must asPairs (u .branches)) (sym (must-then (map (pairRow branch-kind)) asPairs (u .branches)) ∙ children-none g (u .branches-found) y) in
         u .are
-        ∙ ap (λ (i : Option (List Pair)). may absent asData (u .base) >>= λ z. i >>= λ ps. some (bodyRows n (u .name) (union z (u .tag) ps))) x ∙ never (may absent asData (u .base))
+        ∙ ap (λ (i : Option (List Pair)). may absent asData (u .base) >>= λ z. i >>= λ ps. some (bodyRows n (u .name) (union z (u .discriminator) ps))) x ∙ never (may absent asData (u .base))
 
-    pub union-put : {new : List ℕ} {m link count tag : ℕ} → next ≡ n + 1 → p ≡ Rows m → Links w b n link → count ≡ m - first → NameWord w t 0 packed tag → NamedRowPut w late new v 0 n 5 link count tag 0
+    pub union-put : {new : List ℕ} {m link count discriminator : ℕ} → next ≡ n + 1 → p ≡ Rows m → Links w b n link → count ≡ m - first → NameWord w t 0 packed discriminator → NamedRowPut w late new v 0 n 5 link count discriminator 0
         → (o : Option (List ℕ)) → UnionAt s w v b t d n o → RowsAre o old new n m
-    union-put {new} {m} {link} {count} {tag} e y l c z k o u =
+    union-put {new} {m} {link} {count} {discriminator} e y l c z k o u =
         let i = inline-put h (u .base-found) q in
         let x = children-put g (u .branches-found) y in
         let ps = came-of (map (pairRow branch-kind)) (must asPairs (u .branches)) (sym (must-then (map (pairRow branch-kind)) asPairs (u .branches)) ∙ x .are) in
         let a : link ≡ dataLink packed packed (λ _ j. packed j) n (i .data-is) = l .told s (u .base) (u .base-found) (i .data-is) (i .are) in
         let f : count ≡ length (ps .0) = c ∙ x .count ∙ ap length (ps .2) ∙ length-map (ps .0) (pairRow branch-kind) in
-        let j : tag ≡ packed (u .tag) = z .told (u .tag) (u .tagged) in
-        let own : RowPut late new n (row union-kind (u .name) link count tag 0) = k .told (u .name) (u .named) in
-        let all : RowPut old new n (row union-kind (u .name) link count tag 0 ++ (inlineRows (i .data-is) ++ concat (x .rs))) = put-under (omega arith) (put-after (i .size) (i .put) (x .put)) own in
-        let same : row 5 (u .name) link count tag 0 ++ (inlineRows (i .data-is) ++ concat (x .rs)) ≡ bodyRows n (u .name) (union (i .data-is) (u .tag) (ps .0)) =
+        let j : discriminator ≡ packed (u .discriminator) = z .told (u .discriminator) (u .discriminator-at) in
+        let own : RowPut late new n (row union-kind (u .name) link count discriminator 0) = k .told (u .name) (u .named) in
+        let all : RowPut old new n (row union-kind (u .name) link count discriminator 0 ++ (inlineRows (i .data-is) ++ concat (x .rs))) = put-under (omega arith) (put-after (i .size) (i .put) (x .put)) own in
+        let same : row 5 (u .name) link count discriminator 0 ++ (inlineRows (i .data-is) ++ concat (x .rs)) ≡ bodyRows n (u .name) (union (i .data-is) (u .discriminator) (ps .0)) =
         same-union (ps .0) (u .name) (inlineRows (i .data-is)) a f j (ps .2) in
         record {
-          xs = bodyRows n (u .name) (union (i .data-is) (u .tag) (ps .0));
-          are = u .are ∙ both-there (λ x ps. bodyRows n (u .name) (union x (u .tag) ps)) (i .are) (ps .1);
+          xs = bodyRows n (u .name) (union (i .data-is) (u .discriminator) (ps .0));
+          are = u .are ∙ both-there (λ x ps. bodyRows n (u .name) (union x (u .discriminator) ps)) (i .are) (ps .1);
           size = omega (arith, i .size, x .size, ap length same, length-append (inlineRows (i .data-is)) (concat (x .rs)));
           put = subst (λ (xs : List ℕ). RowPut old new n xs) same all;
         }

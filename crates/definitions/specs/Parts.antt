@@ -121,11 +121,11 @@ pub record UnionAt (s w : List ℕ) (v b t d n : ℕ) (o : Option (List ℕ)) : 
   pub base-found : Found s w base b
   pub branches : Option Json
   pub branches-found : Found s w branches d
-  pub tag : Name
-  pub tagged : Named w t 0 tag
+  pub discriminator : Name
+  pub discriminator-at : Named w t 0 discriminator
   pub name : Name
   pub named : Named w v 0 name
-  pub are : o ≡ (may absent asData base >>= λ x. must asPairs branches >>= λ ps. some (bodyRows n name (union x tag ps)))
+  pub are : o ≡ (may absent asData base >>= λ x. must asPairs branches >>= λ ps. some (bodyRows n name (union x discriminator ps)))
 
 pub record CommandAt (s w : List ℕ) (v d n oob place list : ℕ) (o : Option (List ℕ)) : Type 0 where
   pub value : Option Json

@@ -12,8 +12,8 @@ use Rattle.grammar.specs.Machine.Schema.{schema}
 use Rattle.rules.specs.Definitions.{Definition, definitions}
 use Rattle.rules.specs.RawTable.{rawFrom}
 use Rattle.text.specs.Nodes.{HoldsItems}
-use Rattle.definitions.specs.declared.rows.Put.{Put}
-use Rattle.definitions.specs.declared.rows.Put.the-variants.{Rows, Refused}
+use Rattle.definitions.specs.declared.writing.Put.{Put}
+use Rattle.definitions.specs.declared.writing.Put.the-variants.{Rows, Refused}
 
 -- the rows of the definitions ds, in the first n rows of the words; no more rows than nodes
 pub record RowsPut (old new : List ℕ) (js : Items) (count n : ℕ) : Type 0 where

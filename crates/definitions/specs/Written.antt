@@ -8,8 +8,8 @@ use lib.Seq.{sets}
 use Rattle.grammar.specs.Limits.{row-words}
 use Rattle.rules.specs.Definitions.{Name}
 use Rattle.rules.specs.SchemaTable.{row}
-use Rattle.definitions.specs.declared.rows.Put.{Put}
-use Rattle.definitions.specs.declared.rows.Put.the-variants.{Rows, Refused}
+use Rattle.definitions.specs.declared.writing.Put.{Put}
+use Rattle.definitions.specs.declared.writing.Put.the-variants.{Rows, Refused}
 use Rattle.definitions.specs.Places.{Named}
 
 -- the words xs stand from row n on, if all of them fit

@@ -1,10 +1,7 @@
 // A definition of each kind: its keys' values, its row and the rows after it. The object stands at node k, its name at node v.
-use crate::children::put_children;
-use crate::children::put_counted;
-use crate::children::put_inline;
-use crate::rows::Put;
-use crate::rows::Row;
-use crate::rows::put_named_row;
+use crate::lists::put_children;
+use crate::lists::put_counted;
+use crate::lists::put_inline;
 use crate::shapes::FlagRead;
 use crate::shapes::TypeRead;
 use crate::shapes::base_fits;
@@ -14,6 +11,9 @@ use crate::shapes::take_return;
 use crate::values::name_size;
 use crate::values::name_start;
 use crate::values::name_word;
+use crate::writing::Put;
+use crate::writing::Row;
+use crate::writing::put_named_row;
 use lookups::values::is_string;
 use lookups::values::value_at;
 use rules::kind;
@@ -88,14 +88,14 @@ fn put_union_rows(
     };
     let count = (m - first) as u32;
     let link = data_link(nodes, b, n);
-    let tag = name_word(nodes, t);
+    let discriminator = name_word(nodes, t);
     let row = Row {
         kind: kind::UNION,
         start: 0,
         size: 0,
         a: link,
         b: count,
-        c: tag,
+        c: discriminator,
         d: 0,
     };
     put_named_row(nodes, v, 0, rows, n, row);

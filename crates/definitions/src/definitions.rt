@@ -4,7 +4,7 @@ use crate::bodies::put_list;
 use crate::bodies::put_struct;
 use crate::bodies::put_union;
 use crate::keys::only_keys;
-use crate::rows::Put;
+use crate::writing::Put;
 use lookups::values::is_string;
 use lookups::values::value_at;
 use rules::kind;

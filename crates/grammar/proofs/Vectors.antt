@@ -86,11 +86,11 @@ unfolding readMessage
 utf8-bad = refl
 
 -- outside a string and inside one
-byte-order-mark : Answers readMessage (
+byte-order-hash : Answers readMessage (
     (0xEF ∷ 0xBB ∷ 0xBF ∷ 0x31 ∷ []) gives fault 0
     ∷ (0x22 ∷ 0xEF ∷ 0xBB ∷ 0xBF ∷ 0x22 ∷ []) gives string 5 (0xFEFF ∷ []) ∷ [])
 unfolding readMessage
-byte-order-mark = refl
+byte-order-hash = refl
 
 -- an integer has neither point nor exponent; no leading zero, no empty part
 numbers : Answers readMessage (

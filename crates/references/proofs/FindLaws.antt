@@ -19,9 +19,9 @@ use Rattle.rules.specs.Rows.{kind, nameOf}
 use Rattle.rules.specs.SchemaTable.{placeIn, reference}
 use Rattle.rules.specs.Cells.{firstLink, isNamed}
 use Rattle.rules.proofs.Lists.{clash, and-left, and-right}
-use Rattle.rows.specs.Index.{itself, rowMark}
+use Rattle.rows.specs.Index.{itself, rowHash}
 use Rattle.table.specs.Definitions.{definitionRows}
-use Rattle.rows.specs.Marks.{markOf}
+use Rattle.rows.specs.Hashes.{hashOf}
 use Rattle.rows.proofs.Walks.{granted, denied}
 use Rattle.rows.proofs.IndexLaws.{Walk, Says, walk-start, walk-hit, walk-on, walk-end, walk-out}
 use Rattle.table.proofs.DistinctLaws.{few-rows}
@@ -75,14 +75,14 @@ module _ (S U : List ℕ) (s : Bool) (x : List ℕ) (r : ℕ) {k : ℕ} {v : Boo
   named-same n f t = rw (← p, granted q n, ← f) t
 
 -- a name's bucket has every definition of that name, in their order
-bucket-first : (mark : ℕ → ℕ) (f : ℕ → Bool) (m : ℕ) → ((r : ℕ) → f r ≡ true → mark r ≡ m) → (rs : List ℕ) → firstLink f (inBucket mark (bucketOf m) rs) ≡ firstLink f rs
-bucket-first mark f m g [] = refl
-bucket-first mark f m g (r ∷ rs) = go (eqb (bucketOf (mark r)) (bucketOf m)) refl (f r) refl (bucket-first mark f m g rs)
+bucket-first : (hash : ℕ → ℕ) (f : ℕ → Bool) (m : ℕ) → ((r : ℕ) → f r ≡ true → hash r ≡ m) → (rs : List ℕ) → firstLink f (inBucket hash (bucketOf m) rs) ≡ firstLink f rs
+bucket-first hash f m g [] = refl
+bucket-first hash f m g (r ∷ rs) = go (eqb (bucketOf (hash r)) (bucketOf m)) refl (f r) refl (bucket-first hash f m g rs)
   where
-    go : (b : Bool) → eqb (bucketOf (mark r)) (bucketOf m) ≡ b → (t : Bool) → f r ≡ t → firstLink f (inBucket mark (bucketOf m) rs) ≡ firstLink f rs
-        → firstLink f (cond b (r ∷ inBucket mark (bucketOf m) rs) (inBucket mark (bucketOf m) rs)) ≡ cond (f r) (suc r) (firstLink f rs)
+    go : (b : Bool) → eqb (bucketOf (hash r)) (bucketOf m) ≡ b → (t : Bool) → f r ≡ t → firstLink f (inBucket hash (bucketOf m) rs) ≡ firstLink f rs
+        → firstLink f (cond b (r ∷ inBucket hash (bucketOf m) rs) (inBucket hash (bucketOf m) rs)) ≡ cond (f r) (suc r) (firstLink f rs)
     go true p t q e = ap (λ (l : ℕ). cond (f r) (suc r) l) e
-    go false p true q e = absurd (eqb-false (bucketOf (mark r)) (bucketOf m) p (ap bucketOf (g r q)))
+    go false p true q e = absurd (eqb-false (bucketOf (hash r)) (bucketOf m) p (ap bucketOf (g r q)))
     go false p false q e = e ∙ sym (ap (λ (z : Bool). cond z (suc r) (firstLink f rs)) q)
 
 -- what is left to look at of the chain, whatever table the rows have the heads of
@@ -92,18 +92,18 @@ pub record Left (S U links : List ℕ) (s : Bool) (x : List ℕ) (head y n : ℕ
 pub left-start : {S U links : List ℕ} {s : Bool} {x : List ℕ} {head : ℕ} → Left S U links s x head head (length links)
 left-start {S} {U} {links} {s} {x} = record { told = λ T h. walk-start (firstLink (isNamed S T (fitting s) x)) links }
 
-module _ {S U heads links : List ℕ} {s : Bool} {x : List ℕ} {m head : ℕ} (p : m ≡ markOf x) (q : head ≡ getD heads (bucketOf m) 0) where
+module _ {S U heads links : List ℕ} {s : Bool} {x : List ℕ} {m head : ℕ} (p : m ≡ hashOf x) (q : head ≡ getD heads (bucketOf m) 0) where
   -- what the chain says is what all definitions say
   found : (v : ℕ) → v ≤ 2 ^ 29 → ((T : List ℕ) → Heads T U → Says (firstLink (isNamed S T (fitting s) x)) links head (length links) v) → Finds S U heads links s x v
   unfolding findRow
   found v small says = record {
     small = small;
     told = λ T k h.
-        let few : length (inBucket (rowMark S T) (bucketOf m) (definitionRows T)) ≤ length links =
-        omega (arith, bucket-short (rowMark S T) (bucketOf m) (definitionRows T), few-rows T, k .room) in
-        sym (says T h .told (inBucket (rowMark S T) (bucketOf m) (definitionRows T)) (index-walk itself (rowMark S T) (k .rows .chains) m q) few)
-        ∙ bucket-first (rowMark S T) (isNamed S T (fitting s) x) m
-        (λ r e. ap markOf (sym (same-true x (nameOf S T r) (and-right (fitting s (kind T r)) (sameName x (nameOf S T r)) e))) ∙ sym p) (definitionRows T);
+        let few : length (inBucket (rowHash S T) (bucketOf m) (definitionRows T)) ≤ length links =
+        omega (arith, bucket-short (rowHash S T) (bucketOf m) (definitionRows T), few-rows T, k .room) in
+        sym (says T h .told (inBucket (rowHash S T) (bucketOf m) (definitionRows T)) (index-walk itself (rowHash S T) (k .rows .chains) m q) few)
+        ∙ bucket-first (rowHash S T) (isNamed S T (fitting s) x) m
+        (λ r e. ap hashOf (sym (same-true x (nameOf S T r) (and-right (fitting s (kind T r)) (sameName x (nameOf S T r)) e))) ∙ sym p) (definitionRows T);
   }
 
   module _ {y n : ℕ} (w : Left S U links s x head y n) where

@@ -19,7 +19,7 @@ use Rattle.rules.specs.Cells.{Entry, blank, entries, wordsOf, wordsFrom, entryK
 use Rattle.rules.specs.Cells.Entry.{enumRow, alternateRow, valueRow, structRow, inlineRow, memberRow, unionRow, branchRow, alternativeRow, commandRow}
 use Rattle.rules.proofs.Cells.{table-words, entry-names, every-at}
 use Rattle.rules.proofs.CellRows.{word-is, kind-is, rows-are}
-use Rattle.rules.proofs.CellTags.{Alike, alike-members, alike-found, SameTag, same-words, same-rows, union-words, words-alike, link-there}
+use Rattle.rules.proofs.CellDiscriminators.{Alike, alike-members, alike-found, SameDiscriminator, same-words, same-rows, union-words, words-alike, link-there}
 use Rattle.references.specs.NamedWords.{owner-word, discriminator-word}
 use Rattle.references.specs.Lookups.{nameIn}
 use Rattle.references.specs.Discriminators.{narrow, discriminatorFound, putDiscriminator, putDiscriminators}
@@ -99,7 +99,7 @@ module _ (S : List ℕ) (ds : List Definition) (short : length S ≤ schema-byte
     join : (e : Entry) → getD es r blank ≡ e → (W : List ℕ) → W ≡ A r ++ (wordsOf SL TN (mixed (suc r)) r e ++ B r) → W ≡ U (suc r)
     join e p W q = q ∙ ap₂ (λ a b. a ++ (wordsOf SL TN (mixed (suc r)) r e ++ b)) before after ∙ sym (parts (suc r) ∙ ap (λ x. A (suc r) ++ (wordsOf SL TN (mixed (suc r)) r x ++ B (suc r))) p)
 
-    no-union : (e : Entry) → getD es r blank ≡ e → eqb (entryKind e) union-kind ≡ false → SameTag SL TN (mixed r) (mixed (suc r)) r e → putDiscriminator S r (U r) ≡ U (suc r)
+    no-union : (e : Entry) → getD es r blank ≡ e → eqb (entryKind e) union-kind ≡ false → SameDiscriminator SL TN (mixed r) (mixed (suc r)) r e → putDiscriminator S r (U r) ≡ U (suc r)
     no-union e p k t =
         sym (other-put S (U r) r (kind-there e p) (eqb-false (entryKind e) union-kind k))
         ∙ join e p (U r) (parts r ∙ ap (λ x. A r ++ (wordsOf SL TN (mixed r) r x ++ B r)) p ∙ ap (λ w. A r ++ (w ++ B r)) (same-words SL TN (mixed r) (mixed (suc r)) r e t))

@@ -2,7 +2,7 @@
 use buckets::BUCKETS;
 use buckets::first;
 use buckets::next;
-use rows::marks::mark_of;
+use rows::hashes::hash_of;
 use rows::names::name_of;
 use rows::names::part_of;
 use rows::names::same_bytes;
@@ -53,7 +53,7 @@ fn find(
     requires { ⌜ length (now rows) < 2 ^ 32 ⌝ }
     ensures { λ r. ⌜ Finds (now (s .entry)) (now (rows .entry)) (now (heads .entry)) (now (links .entry)) structs (now (name .entry)) r ⌝ }
 {
-    let mut link = first(heads, mark_of(name));
+    let mut link = first(heads, hash_of(name));
     let mut left = links.len();
     while 0 < left {
         if link == 0 {

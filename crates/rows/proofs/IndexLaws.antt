@@ -1,5 +1,5 @@
 -- Names looked up in an index of rows: a walk along a chain, a row that comes into the index, and a run of rows from its last to its first.
--- The idea: the rows left of a chain decide what all of them do; names that clash have one mark, so a bucket tells of all rows in the index.
+-- The idea: the rows left of a chain decide what all of them do; names that clash have one hash, so a bucket tells of all rows in the index.
 use Prim.{tt}
 use Prim.Native.Nat.{ℕ, _-_, _≤_, _<_}
 use mathlib.Core.Path.{_≡_, refl, sym, ap, _∙_, subst}
@@ -15,11 +15,11 @@ use Rattle.buckets.proofs.BucketLaws.{chain-end, chain-step, bucket-short, buck
 use Rattle.rules.specs.Names.{clash}
 use Rattle.rules.specs.Rows.{next, walk, past, nameOf}
 use Rattle.rules.specs.Rules.{namesOf}
-use Rattle.rows.specs.Marks.{markOf, freshIn}
-use Rattle.rows.specs.Index.{itself, rowMark, RowIndex, Unlisted, Entered}
+use Rattle.rows.specs.Hashes.{hashOf, freshIn}
+use Rattle.rows.specs.Index.{itself, rowHash, RowIndex, Unlisted, Entered}
 use Rattle.rules.proofs.Clashes.{clash-sym}
 use Rattle.rules.proofs.TableRows.{next-above, past-above}
-use Rattle.rows.proofs.MarkLaws.{clash-mark}
+use Rattle.rows.proofs.HashLaws.{clash-hash}
 use Rattle.rows.specs.Rows.{Follows}
 use Rattle.rows.proofs.ListLaws.{all-map, all-same, all-both, all-true}
 use Rattle.rows.proofs.LoopLaws.{walk-at, walk-over}
@@ -105,24 +105,24 @@ module _ {S T links x : List ℕ} {head : ℕ} where
 
 -- the empty index
 pub index-none : (S T links : List ℕ) {heads : List ℕ} → heads ≡ replicate buckets 0 → RowIndex S T heads links []
-index-none S T links e = record { wide = ap length e; chains = index-empty itself (rowMark S T) links e }
+index-none S T links e = record { wide = ap length e; chains = index-empty itself (rowHash S T) links e }
 
 -- a row more
-pub index-more : {S T heads links rs heads′ links′ : List ℕ} {m : ℕ} (r : ℕ) → RowIndex S T heads links rs → Free itself r rs → r < length links → m ≡ rowMark S T r
+pub index-more : {S T heads links rs heads′ links′ : List ℕ} {m : ℕ} (r : ℕ) → RowIndex S T heads links rs → Free itself r rs → r < length links → m ≡ rowHash S T r
     → Added heads links m r heads′ links′ → RowIndex S T heads′ links′ (r ∷ rs)
 index-more {S} {T} {heads} r k f h p a =
-    record { wide = ap length (a .head) ∙ length-set heads _ _ ∙ k .wide; chains = index-added itself (rowMark S T) (k .chains) r (k .wide) h refl (sym p) f a }
+    record { wide = ap length (a .head) ∙ length-set heads _ _ ∙ k .wide; chains = index-added itself (rowHash S T) (k .chains) r (k .wide) h refl (sym p) f a }
 
 -- row r is looked up, and comes into the index
-module _ {S T heads links : List ℕ} (r : ℕ) {m head : ℕ} {x : List ℕ} {b : Bool} (n : x ≡ nameOf S T r) (p : m ≡ markOf x) (q : head ≡ getD heads (bucketOf m) 0)
+module _ {S T heads links : List ℕ} (r : ℕ) {m head : ℕ} {x : List ℕ} {b : Bool} (n : x ≡ nameOf S T r) (p : m ≡ hashOf x) (q : head ≡ getD heads (bucketOf m) 0)
     (u : Unlisted S T links head x b) where
   of-index : (rs : List ℕ) → RowIndex S T heads links rs → length rs ≤ length links → b ≡ freshIn S T (nameOf S T r) rs
   of-index rs k h =
-      let few : length (inBucket (rowMark S T) (bucketOf m) rs) ≤ length links = omega (arith, bucket-short (rowMark S T) (bucketOf m) rs) in
-      u .told (inBucket (rowMark S T) (bucketOf m) rs) (index-walk itself (rowMark S T) (k .chains) m q) few
-      ∙ all-map (nameOf S T) (λ y. not (clash x y)) (inBucket (rowMark S T) (bucketOf m) rs)
-      ∙ bucket-all (rowMark S T) (λ i. not (clash x (nameOf S T i))) m
-      (λ i e. sym (clash-mark x (nameOf S T i) (not-false (clash x (nameOf S T i)) e)) ∙ sym p) rs
+      let few : length (inBucket (rowHash S T) (bucketOf m) rs) ≤ length links = omega (arith, bucket-short (rowHash S T) (bucketOf m) rs) in
+      u .told (inBucket (rowHash S T) (bucketOf m) rs) (index-walk itself (rowHash S T) (k .chains) m q) few
+      ∙ all-map (nameOf S T) (λ y. not (clash x y)) (inBucket (rowHash S T) (bucketOf m) rs)
+      ∙ bucket-all (rowHash S T) (λ i. not (clash x (nameOf S T i))) m
+      (λ i e. sym (clash-hash x (nameOf S T i) (not-false (clash x (nameOf S T i)) e)) ∙ sym p) rs
       ∙ sym (all-map (nameOf S T) (λ y. not (clash x y)) rs)
       ∙ ap (λ z. freshIn S T z rs) n
 
@@ -130,7 +130,7 @@ module _ {S T heads links : List ℕ} (r : ℕ) {m head : ℕ} {x : List ℕ} {b
   entered-not t = record { told = λ rs k f h. (sym t ∙ of-index rs k h, λ e. contradiction e refl) }
 
   pub entered : b ≡ true → r < length links → {heads′ links′ : List ℕ} → Added heads links m r heads′ links′ → Entered S T heads links r heads′ links′ true
-  entered t g a = record { told = λ rs k f h. (sym t ∙ of-index rs k h, λ e. index-more r k f g (p ∙ ap markOf n) a) }
+  entered t g a = record { told = λ rs k f h. (sym t ∙ of-index rs k h, λ e. index-more r k f g (p ∙ ap hashOf n) a) }
 
 -- a run of rows, from its first on: each is looked up among those before it, which are in the index
 module _ (S T : List ℕ) where

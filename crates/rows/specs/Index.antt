@@ -1,4 +1,4 @@
--- Serves contracts: an index of rows by the marks of their names, and a name looked up in it.
+-- Serves contracts: an index of rows by the hashes of their names, and a name looked up in it.
 use Prim.Native.Nat.{ℕ, _≤_}
 use mathlib.Core.Path.{_≡_}
 use mathlib.Core.Bool.{Bool, true}
@@ -6,19 +6,19 @@ use mathlib.Core.List.{List, _∷_}
 use lib.ListN.{length}
 use Rattle.buckets.specs.Buckets.{buckets, Free, Chain, Indexed}
 use Rattle.rules.specs.Rows.{nameOf}
-use Rattle.rows.specs.Marks.{markOf, freshIn}
+use Rattle.rows.specs.Hashes.{hashOf, freshIn}
 
 -- an item is a row, and its number is its place
 abbrev pub itself : ℕ → ℕ
 itself r = r
 
-abbrev pub rowMark : List ℕ → List ℕ → ℕ → ℕ
-rowMark S T r = markOf (nameOf S T r)
+abbrev pub rowHash : List ℕ → List ℕ → ℕ → ℕ
+rowHash S T r = hashOf (nameOf S T r)
 
 -- the index has the rows rs, the first one added last
 pub record RowIndex (S T heads links rs : List ℕ) : Type 0 where
   pub wide : length heads ≡ buckets
-  pub chains : Indexed itself (rowMark S T) heads links rs
+  pub chains : Indexed itself (rowHash S T) heads links rs
 
 -- b tells whether the name x clashes with none of the rows that follow the word `head`, of which there are no more than links
 pub record Unlisted (S T links : List ℕ) (head : ℕ) (x : List ℕ) (b : Bool) : Type 0 where

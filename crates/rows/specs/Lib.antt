@@ -1,4 +1,4 @@
 -- What the contracts cite.
 pub mod Rows
-pub mod Marks
+pub mod Hashes
 pub mod Index

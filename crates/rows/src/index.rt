@@ -1,7 +1,7 @@
-// An index of rows by the marks of their names: a name is looked up among the rows that were added before.
-use crate::marks::clashes;
-use crate::marks::mark_of;
-use crate::marks::pairs_apart;
+// An index of rows by the hashes of their names: a name is looked up among the rows that were added before.
+use crate::hashes::clashes;
+use crate::hashes::hash_of;
+use crate::hashes::pairs_apart;
 use crate::names::name_of;
 use crate::rows::next_row;
 use crate::rows::past_rows;
@@ -17,24 +17,24 @@ ghost use Rattle.grammar.specs.Notation.{apart};
 ghost use Rattle.rules.specs.Names.{clash};
 ghost use Rattle.rules.specs.Rows.{walk, past};
 ghost use Rattle.rules.specs.Rules.{namesOf};
-ghost use Rattle.rows.specs.Marks.{markOf, Marks};
+ghost use Rattle.rows.specs.Hashes.{hashOf, Hashes};
 ghost use Rattle.rows.specs.Index.{Unlisted, Entered};
 ghost use Rattle.rows.specs.Rows.{Room};
 
 // A run of that many rows is long.
 const LONG: usize = 32;
 
-// Whether a name whose mark is given clashes with none of the rows that follow the word `head`.
+// Whether a name whose hash is given clashes with none of the rows that follow the word `head`.
 fn is_unlisted(
     schema: &[u8],
     rows: &[u32],
-    marks: &[u32],
+    hashes: &[u32],
     links: &[u32],
     head: usize,
     name: &[u8],
-    mark: u32,
+    hash: u32,
 ) -> bool
-    requires { ⌜ Marks (now schema) (now rows) (now marks) × (mark ≡ markOf (now name)) ⌝ }
+    requires { ⌜ Hashes (now schema) (now rows) (now hashes) × (hash ≡ hashOf (now name)) ⌝ }
     ensures { λ b. ⌜ Unlisted (now (schema .entry)) (now (rows .entry)) (now (links .entry)) head (now (name .entry)) b ⌝ }
 {
     let mut word = head;
@@ -44,7 +44,7 @@ fn is_unlisted(
             return true;
         }
         let r = word - 1;
-        if clashes(schema, rows, marks, r, name, mark) {
+        if clashes(schema, rows, hashes, r, name, hash) {
             return false;
         }
         word = next(links, r);
@@ -57,21 +57,21 @@ fn is_unlisted(
 pub fn add_new(
     schema: &[u8],
     rows: &[u32],
-    marks: &[u32],
+    hashes: &[u32],
     heads: &mut [u32; BUCKETS],
     links: &mut [u32],
     r: usize,
 ) -> bool
-    requires { ⌜ Marks (now schema) (now rows) (now marks) × (r < length (now links)) × (length (now links) < 2 ^ 32) ⌝ }
+    requires { ⌜ Hashes (now schema) (now rows) (now hashes) × (r < length (now links)) × (length (now links) < 2 ^ 32) ⌝ }
     ensures { λ b. ⌜ Entered (now (schema .entry)) (now (rows .entry)) (now (heads .entry)) (now (links .entry)) r (now (heads .exit)) (now (links .exit)) b ⌝ }
 {
     let name = name_of(schema, rows, r);
-    let mark = mark_of(name);
-    let head = first(heads, mark);
-    if !is_unlisted(schema, rows, marks, links, head, name, mark) {
+    let hash = hash_of(name);
+    let head = first(heads, hash);
+    if !is_unlisted(schema, rows, hashes, links, head, name, hash) {
         return false;
     }
-    add(heads, links, mark, r);
+    add(heads, links, hash, r);
     true
 }
 
@@ -79,19 +79,19 @@ pub fn add_new(
 fn listed_apart(
     schema: &[u8],
     rows: &[u32],
-    marks: &[u32],
+    hashes: &[u32],
     a: usize,
     n: usize,
     heads: &mut [u32; BUCKETS],
     links: &mut [u32],
 ) -> bool
-    requires { ⌜ Marks (now schema) (now rows) (now marks) × Room a n × (past (now rows) a n ≤ length (now links)) × (length (now links) < 2 ^ 32) × (now heads ≡ replicate buckets 0) ⌝ }
+    requires { ⌜ Hashes (now schema) (now rows) (now hashes) × Room a n × (past (now rows) a n ≤ length (now links)) × (length (now links) < 2 ^ 32) × (now heads ≡ replicate buckets 0) ⌝ }
     ensures { λ b. ⌜ b ≡ apart clash (namesOf (now (schema .entry)) (now (rows .entry)) (walk (now (rows .entry)) a n)) ⌝ }
 {
     let mut i = a;
     let mut left = n;
     while 0 < left {
-        if !add_new(schema, rows, marks, heads, links, i) {
+        if !add_new(schema, rows, hashes, heads, links, i) {
             return false;
         }
         i = next_row(rows, i);
@@ -104,20 +104,20 @@ fn listed_apart(
 pub fn all_apart(
     schema: &[u8],
     rows: &[u32],
-    marks: &[u32],
+    hashes: &[u32],
     links: &mut [u32],
     a: usize,
     n: usize,
 ) -> bool
-    requires { ⌜ Marks (now schema) (now rows) (now marks) × Room a n × (length (now links) < 2 ^ 32) ⌝ }
+    requires { ⌜ Hashes (now schema) (now rows) (now hashes) × Room a n × (length (now links) < 2 ^ 32) ⌝ }
     ensures { λ b. ⌜ b ≡ apart clash (namesOf (now (schema .entry)) (now (rows .entry)) (walk (now (rows .entry)) a n)) ⌝ }
 {
     if n < LONG {
-        return pairs_apart(schema, rows, marks, a, n);
+        return pairs_apart(schema, rows, hashes, a, n);
     }
     if links.len() < past_rows(rows, a, n) {
-        return pairs_apart(schema, rows, marks, a, n);
+        return pairs_apart(schema, rows, hashes, a, n);
     }
     let mut heads = [0u32; BUCKETS];
-    listed_apart(schema, rows, marks, a, n, &mut heads, links)
+    listed_apart(schema, rows, hashes, a, n, &mut heads, links)
 }

@@ -43,7 +43,7 @@ use Rattle.rules.proofs.Cells.{table-words, length-words, entry-names, 
 use Rattle.rules.proofs.CellRows.{Behind, rows-are, start-is, size-is, kind-past, owns-is}
 use Rattle.rules.proofs.CellLayout.{table-laid-out}
 use Rattle.rules.proofs.SoundFacts.{StructLink, every-one, to-struct, to-owned, base-refers}
-use Rattle.rules.proofs.EntryLinks.{row-is, EntryLinked, TagLinked, rest-zero, references-fit, union-base}
+use Rattle.rules.proofs.EntryLinks.{row-is, EntryLinked, DiscriminatorLinked, rest-zero, references-fit, union-base}
 use Rattle.rules.proofs.DefinitionForms.{Formed, definitions-formed}
 use Rattle.rules.proofs.NameSpans.{names-within}
 use Rattle.rules.proofs.SchemaLinks.{entries-linked}
@@ -58,7 +58,7 @@ name-within S (valueRow n) k = k .within
 name-within S (structRow n b c) k = k .0 .within
 name-within S (inlineRow c) k = omega arith
 name-within S (memberRow m) k = k .0 .within
-name-within S (unionRow n b tag c) k = k .0 .within
+name-within S (unionRow n b d c) k = k .0 .within
 name-within S (branchRow p) k = k .0 .within
 name-within S (alternateRow n c) k = k .within
 name-within S (alternativeRow p) k = k .0 .within
@@ -105,7 +105,7 @@ module _ (S : List ℕ) (ds : List Definition) (spans : EveryName (Spans S) ds) 
     zeros : restZero T r ≡ true
     zeros = rest-zero T f g h r entry (row-is f g h (entries ds) r l)
 
-    fits : TagLinked T f g h r → referencesFit T r ≡ true
+    fits : DiscriminatorLinked T f g h r → referencesFit T r ≡ true
     fits = references-fit T f g h r entry (row-is f g h (entries ds) r l) linked owner
 
     base-of : kind T r ≡ union-kind → StructLink T (unionBase T r)
@@ -147,9 +147,9 @@ module _ (S : List ℕ) (ds : List Definition) (spans : EveryName (Spans S) ds) 
           ⊎-elim (more xs q m) (own-members r m struct) (List·Memᴰ·append-cases xs (subst (List·Memᴰ m) z i))
 
   -- number 9: a union's discriminator is a member of its base
-  tag : goodUnions S T ≡ true → (r : ℕ) → TagLinked T f g h r
+  discriminator-linked : goodUnions S T ≡ true → (r : ℕ) → DiscriminatorLinked T f g h r
   unfolding goodUnions
-  tag good r k =
+  discriminator-linked good r k =
       let l = there r 4 k in
       let u : unionFits S T r ≡ true = every-one T (isUnion T) (unionFits S T) good r (omega (arith, rows)) (eq-eqb (kind T r) union-kind k) in
       let fit : List ℕ → Bool = λ ms. discriminatorFits T r ms && all (branchFits S T r ms) (children T r) in
@@ -177,7 +177,7 @@ module _ (S : List ℕ) (ds : List Definition) (spans : EveryName (Spans S) ds) 
       let d : everyRow T (λ r. leb (start T r + size T r) (length S)) ≡ true = every-of T (λ r. leb (start T r + size T r) (length S)) (λ r l. within r (omega (arith, rows))) in
       let k : everyRow T (λ r. restZero T r && referencesFit T r) ≡ true =
       every-of T (λ r. restZero T r && referencesFit T r)
-      (λ r l. let m : r < length (entries ds) = omega (arith, rows) in and-of (restZero T r) (referencesFit T r) (zeros r m) (fits r m (tag unions r))) in
+      (λ r l. let m : r < length (entries ds) = omega (arith, rows) in and-of (restZero T r) (referencesFit T r) (zeros r m) (fits r m (discriminator-linked unions r))) in
       rw (a, b, c, d, laid, k, names, apart, chains, unions, alternates, returns)
 
 -- where no number refuses what the schema says, its table is sound

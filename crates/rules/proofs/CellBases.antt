@@ -15,7 +15,7 @@ named-base (enum vs) k = tt
 named-base (struct absent ms) k = tt
 named-base (struct (inline ns) ms) k = k .0
 named-base (struct (named n) ms) k = tt
-named-base (union b tag bs) k = tt
+named-base (union b discriminator bs) k = tt
 named-base (alternate alts) k = tt
 named-base (command a t oob) k = tt
 

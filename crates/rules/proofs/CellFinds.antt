@@ -45,7 +45,7 @@ pub all-children : (b : Body) → Every Child (childEntries b)
 unfolding Child
 all-children (enum vs) = every-is valueRow Child (λ _. refl) vs
 all-children (struct b ms) = every-is memberRow Child (λ _. refl) ms
-all-children (union b tag bs) = every-append Child (inlineEntries b) (map branchRow bs) (inline-children b) (every-is branchRow Child (λ _. refl) bs)
+all-children (union b discriminator bs) = every-append Child (inlineEntries b) (map branchRow bs) (inline-children b) (every-is branchRow Child (λ _. refl) bs)
 all-children (alternate alts) = every-is alternativeRow Child (λ _. refl) alts
 all-children (command a t oob) = inline-children a
 
@@ -57,7 +57,7 @@ own-none (x ∷ xs) e r es = let z : suc r + length xs ≡ r + suc (length xs) =
 own-entry : (n : Name) (b : Body) → (isOwn (ownEntry n b) ≡ true) × (entryKind (ownEntry n b) ≡ rowKind b) × (entryName (ownEntry n b) ≡ n)
 own-entry n (enum vs) = (refl, refl, refl)
 own-entry n (struct b ms) = (refl, refl, refl)
-own-entry n (union b tag bs) = (refl, refl, refl)
+own-entry n (union b discriminator bs) = (refl, refl, refl)
 own-entry n (alternate alts) = (refl, refl, refl)
 own-entry n (command a t oob) = (refl, refl, refl)
 

@@ -71,7 +71,7 @@ module _ (f g : Name → ℕ) (h : ℕ → Name → ℕ) (es : List Entry) where
   children-of r (structRow n b c) = refl
   children-of r (inlineRow c) = refl
   children-of r (memberRow m) = refl
-  children-of r (unionRow n b tag c) = refl
+  children-of r (unionRow n b discriminator c) = refl
   children-of r (branchRow p) = refl
   children-of r (alternativeRow p) = refl
   children-of r (commandRow n a t oob) = refl
@@ -158,7 +158,7 @@ module _ (f g : Name → ℕ) (h : ℕ → Name → ℕ) (es : List Entry) where
         → (definitionAt T a ≡ true) × (pastChildren T a ≡ a + suc (length (childEntries b)))
     laid-body a n (enum vs) s = laid-one a (enumRow n (length vs)) absent valueRow vs s refl refl (λ _. refl) refl
     laid-body a n (struct b ms) s = laid-one a (structRow n b (length ms)) absent memberRow ms s refl refl (λ _. refl) refl
-    laid-body a n (union b tag bs) s = laid-one a (unionRow n b tag (length bs)) b branchRow bs s refl refl (λ _. refl) refl
+    laid-body a n (union b discriminator bs) s = laid-one a (unionRow n b discriminator (length bs)) b branchRow bs s refl refl (λ _. refl) refl
     laid-body a n (alternate alts) s = laid-one a (alternateRow n (length alts)) absent alternativeRow alts s refl refl (λ _. refl) refl
     laid-body a n (command d t oob) s =
         let z : inlineEntries d ++ [] ≡ inlineEntries d = append-nil (inlineEntries d) in

@@ -36,7 +36,7 @@ definition-of (valueRow n) = refl
 definition-of (structRow n b c) = refl
 definition-of (inlineRow c) = refl
 definition-of (memberRow m) = refl
-definition-of (unionRow n b tag c) = refl
+definition-of (unionRow n b discriminator c) = refl
 definition-of (branchRow p) = refl
 definition-of (alternativeRow p) = refl
 definition-of (commandRow n a t oob) = refl
@@ -51,7 +51,7 @@ module _ (f g : Name → ℕ) (h : ℕ → Name → ℕ) where
   unnamed-entry r (alternateRow n c) b = refl
   unnamed-entry r (valueRow n) b = refl
   unnamed-entry r (memberRow m) b = refl
-  unnamed-entry r (unionRow n d tag c) b = refl
+  unnamed-entry r (unionRow n d discriminator c) b = refl
   unnamed-entry r (branchRow m) b = refl
   unnamed-entry r (alternativeRow m) b = refl
   unnamed-entry r (commandRow n a t oob) b = refl
@@ -61,10 +61,10 @@ module _ (f g : Name → ℕ) (h : ℕ → Name → ℕ) where
   linksOn r p = (eqb (getD (wordsOf f g h r p) 0 0) 5 || eqb (getD (wordsOf f g h r p) 0 0) 9) && eqb (getD (wordsOf f g h r p) 3 0) (suc (suc r))
 
   owner-link : (r : ℕ) (p : Entry) → owns p ≡ true → linksOn r p ≡ true
-  owner-link r (unionRow n (inline ms) tag k) o = rw (eq-eqb (suc (suc r)) (suc (suc r)) refl)
+  owner-link r (unionRow n (inline ms) discriminator k) o = rw (eq-eqb (suc (suc r)) (suc (suc r)) refl)
   owner-link r (commandRow n (inline ms) t oob) o = rw (eq-eqb (suc (suc r)) (suc (suc r)) refl)
-  owner-link r (unionRow n absent tag k) o = absurd (clash o refl)
-  owner-link r (unionRow n (named m) tag k) o = absurd (clash o refl)
+  owner-link r (unionRow n absent discriminator k) o = absurd (clash o refl)
+  owner-link r (unionRow n (named m) discriminator k) o = absurd (clash o refl)
   owner-link r (commandRow n absent t oob) o = absurd (clash o refl)
   owner-link r (commandRow n (named m) t oob) o = absurd (clash o refl)
   owner-link r (enumRow n k) o = absurd (clash o refl)

@@ -31,7 +31,7 @@ length-inline (named n) = refl
 pub length-children : (b : Body) → suc (length (childEntries b)) ≡ rowsTaken b
 length-children (enum vs) = ap suc (length-map valueRow vs)
 length-children (struct b ms) = ap suc (length-map memberRow ms)
-length-children (union b tag bs) = ap suc (length-append (inlineEntries b) (map branchRow bs) ∙ rw (length-inline b, length-map branchRow bs))
+length-children (union b discriminator bs) = ap suc (length-append (inlineEntries b) (map branchRow bs) ∙ rw (length-inline b, length-map branchRow bs))
 length-children (alternate alts) = ap suc (length-map alternativeRow alts)
 length-children (command a t oob) = ap suc (length-inline a)
 
@@ -61,7 +61,7 @@ module _ (f g : Name → ℕ) (h : ℕ → Name → ℕ) where
   unfolding wordsFrom
   words-definition r n (enum vs) = rw (words-children valueRow (λ v. wordsOf f g h 0 (valueRow v)) (λ _ _. refl) (suc r) vs)
   words-definition r n (struct b ms) = rw (words-children memberRow (λ m. wordsOf f g h 0 (memberRow m)) (λ _ _. refl) (suc r) ms)
-  words-definition r n (union b tag bs) =
+  words-definition r n (union b discriminator bs) =
       rw (
         words-append (suc r) (inlineEntries b) (map branchRow bs),
         words-inline (suc r) b,
@@ -89,7 +89,7 @@ module _ (f g : Name → ℕ) (h : ℕ → Name → ℕ) where
   entry-words r (structRow n b c) = refl
   entry-words r (inlineRow c) = refl
   entry-words r (memberRow m) = refl
-  entry-words r (unionRow n b tag c) = refl
+  entry-words r (unionRow n b discriminator c) = refl
   entry-words r (branchRow p) = refl
   entry-words r (alternativeRow p) = refl
   entry-words r (commandRow n a t oob) = refl
@@ -150,14 +150,14 @@ module _ (P : Name → Type 0) where
   own-names : (n : Name) (b : Body) → P n → BodyNames P b → EntryNames P (ownEntry n b)
   own-names n (enum vs) p q = p
   own-names n (struct b ms) p q = (p, link-names b (q .0))
-  own-names n (union b tag bs) p q = (p, link-names b (q .0), q .1)
+  own-names n (union b discriminator bs) p q = (p, link-names b (q .0), q .1)
   own-names n (alternate alts) p q = p
   own-names n (command a t oob) p q = (p, link-names a (q .0), q .1)
 
   child-names : (b : Body) → BodyNames P b → Every (EntryNames P) (childEntries b)
   child-names (enum vs) q = every-map valueRow P (EntryNames P) (λ v p. p) vs q
   child-names (struct b ms) q = every-map memberRow (MemberNames P) (EntryNames P) (λ m p. p) ms (q .1)
-  child-names (union b tag bs) q =
+  child-names (union b discriminator bs) q =
       every-append (EntryNames P) (inlineEntries b) (map branchRow bs) (inline-names b (q .0)) (every-map branchRow (PairNames P) (EntryNames P) (λ m p. p) bs (q .2))
   child-names (alternate alts) q = every-map alternativeRow (PairNames P) (EntryNames P) (λ m p. p) alts q
   child-names (command a t oob) q = inline-names a (q .0)
@@ -196,7 +196,7 @@ module _ {P Q : Name → Type 0} (k : (n : Name) → P n → Q n) where
   body-weaken : (b : Body) → BodyNames P b → BodyNames Q b
   body-weaken (enum vs) p = list-weaken vs p
   body-weaken (struct b ms) p = (data-weaken b (p .0), members-weaken ms (p .1))
-  body-weaken (union b tag bs) p = (data-weaken b (p .0), k tag (p .1), pairs-weaken bs (p .2))
+  body-weaken (union b discriminator bs) p = (data-weaken b (p .0), k discriminator (p .1), pairs-weaken bs (p .2))
   body-weaken (alternate alts) p = pairs-weaken alts p
   body-weaken (command a t oob) p = (data-weaken a (p .0), type-weaken t (p .1))
 
@@ -232,16 +232,16 @@ follow-inline p (named n) es o k = k p o
 follow-body : (n : Name) (b : Body) (es : List Entry) → Begins es → Follow (ownEntry n b) (childEntries b ++ es)
 follow-body n (enum vs) es k = follow-map valueRow (λ _. (refl, refl)) (enumRow n (length vs)) vs es refl k
 follow-body n (struct b ms) es k = follow-map memberRow (λ _. (refl, refl)) (structRow n b (length ms)) ms es refl k
-follow-body n (union b tag bs) es k =
+follow-body n (union b discriminator bs) es k =
     rw (append-assoc (inlineEntries b) (map branchRow bs) es)
-    (follow-inline (unionRow n b tag (length bs)) b (map branchRow bs ++ es) refl (λ q o. follow-map branchRow (λ _. (refl, refl)) q bs es o k))
+    (follow-inline (unionRow n b discriminator (length bs)) b (map branchRow bs ++ es) refl (λ q o. follow-map branchRow (λ _. (refl, refl)) q bs es o k))
 follow-body n (alternate alts) es k = follow-map alternativeRow (λ _. (refl, refl)) (alternateRow n (length alts)) alts es refl k
 follow-body n (command a t oob) es k = follow-inline (commandRow n a t oob) a es refl k
 
 own-plain : (n : Name) (b : Body) → isInlineRow (ownEntry n b) ≡ false
 own-plain n (enum vs) = refl
 own-plain n (struct b ms) = refl
-own-plain n (union b tag bs) = refl
+own-plain n (union b discriminator bs) = refl
 own-plain n (alternate alts) = refl
 own-plain n (command a t oob) = refl
 

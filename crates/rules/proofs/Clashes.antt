@@ -1,5 +1,5 @@
 -- All that is used of names that clash: equal names do, the order of two is free, a built-in clashes with its own name only.
--- These three laws alone open `clash`; lists of names whose marks are alike are the business of crate rows (`clash-mark`). The rest follows by the lists.
+-- These three laws alone open `clash`; lists of names whose hashes are alike are the business of crate rows (`clash-hash`). The rest follows by the lists.
 use Prim.Native.Nat.{ℕ}
 use mathlib.Core.Path.{_≡_, refl, sym}
 use mathlib.Core.Bool.{Bool, true, false, not, _&&_}

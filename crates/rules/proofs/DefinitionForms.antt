@@ -28,8 +28,8 @@ pub data HasBody (fs : Fields) : Body → Type 0 where
   an-enum : {vs : List Name} → must asNames (valueAt (text "data") fs) ≡ some vs → HasBody fs (enum vs)
   a-struct : {b : Data} {ms : List Member} → must asMembers (valueAt (text "data") fs) ≡ some ms → may absent asStructName (valueAt (text "base") fs) ≡ some b
       → HasBody fs (struct b ms)
-  a-union : {b : Data} {tag : Name} {bs : List Pair} → must asData (valueAt (text "base") fs) ≡ some b → must asName (valueAt (text "discriminator") fs) ≡ some tag
-      → must asPairs (valueAt (text "data") fs) ≡ some bs → HasBody fs (union b tag bs)
+  a-union : {b : Data} {discriminator : Name} {bs : List Pair} → must asData (valueAt (text "base") fs) ≡ some b → must asName (valueAt (text "discriminator") fs) ≡ some discriminator
+      → must asPairs (valueAt (text "data") fs) ≡ some bs → HasBody fs (union b discriminator bs)
   an-alternate : {alts : List Pair} → must asPairs (valueAt (text "data") fs) ≡ some alts → HasBody fs (alternate alts)
   a-command : {a : Data} {t : TypeText} {oob : Bool} → may absent asData (valueAt (text "data") fs) ≡ some a → may nothing asType (valueAt (text "returns") fs) ≡ some t
       → HasBody fs (command a t oob)
@@ -173,7 +173,7 @@ BaseThere (named n) = Unit {0}
 abbrev pub Formed : Body → Type 0
 Formed (enum vs) = Unit {0}
 Formed (struct b ms) = BaseNamed b × TypesGiven ms
-Formed (union b tag bs) = BaseThere b
+Formed (union b discriminator bs) = BaseThere b
 Formed (alternate alts) = Unit {0}
 Formed (command a t oob) = DataFormed a
 

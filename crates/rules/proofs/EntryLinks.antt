@@ -75,7 +75,7 @@ module _ (T : List ℕ) (f g : Name → ℕ) where
   EntryLinked (structRow n b c) = BaseLinked b
   EntryLinked (inlineRow c) = Unit {0}
   EntryLinked (memberRow m) = TypeLinked (m .type)
-  EntryLinked (unionRow n b tag c) = UnionLinked b
+  EntryLinked (unionRow n b d c) = UnionLinked b
   EntryLinked (branchRow p) = toStruct T (f (p .type)) ≡ true
   EntryLinked (alternateRow n c) = Unit {0}
   EntryLinked (alternativeRow p) = toType T (g (p .type)) ≡ true
@@ -121,24 +121,24 @@ module _ (T : List ℕ) (f g : Name → ℕ) where
     rest-zero r (structRow n b c) w = rw (w .word-0) (rw (w .word-5, w .word-6, w .word-7))
     rest-zero r (inlineRow c) w = rw (w .word-0) (rw (w .word-5, w .word-6, w .word-7))
     rest-zero r (memberRow m) w = rw (w .word-0) (rw (w .word-6, w .word-7))
-    rest-zero r (unionRow n b tag c) w = rw (w .word-0) (rw (w .word-6, w .word-7))
+    rest-zero r (unionRow n b d c) w = rw (w .word-0) (rw (w .word-6, w .word-7))
     rest-zero r (branchRow p) w = rw (w .word-0) (rw (w .word-4, w .word-5, w .word-6, w .word-7))
     rest-zero r (alternateRow n c) w = rw (w .word-0) (rw (w .word-4, w .word-5, w .word-6, w .word-7))
     rest-zero r (alternativeRow p) w = rw (w .word-0) (rw (w .word-4, w .word-5, w .word-6, w .word-7))
     rest-zero r (commandRow n a t oob) w = rw (w .word-0) (rw (w .word-7))
 
     -- references fit, given that a union's discriminator is a member
-    abbrev pub TagLinked : ℕ → Type 0
-    TagLinked r = kind T r ≡ union-kind → (ltb 0 (discriminator T r) && eqb (kind T (discriminator T r - 1)) member-kind) ≡ true
+    abbrev pub DiscriminatorLinked : ℕ → Type 0
+    DiscriminatorLinked r = kind T r ≡ union-kind → (ltb 0 (discriminator T r) && eqb (kind T (discriminator T r - 1)) member-kind) ≡ true
 
-    pub references-fit : (r : ℕ) (e : Entry) → RowIs T r (wordsOf f g h r e) → EntryLinked e → Rows.owns T r ≡ owns e → TagLinked r → referencesFit T r ≡ true
+    pub references-fit : (r : ℕ) (e : Entry) → RowIs T r (wordsOf f g h r e) → EntryLinked e → Rows.owns T r ≡ owns e → DiscriminatorLinked r → referencesFit T r ≡ true
     references-fit r (enumRow n c) w k i t = rw (w .word-0)
     references-fit r (valueRow n) w k i t = rw (w .word-0)
     references-fit r (structRow n b c) w k i t = rw (w .word-0) (rw (w .word-4, base-linked r b k))
     references-fit r (inlineRow c) w k i t = rw (w .word-0) (rw (w .word-4))
     references-fit r (memberRow m) w k i t =
         rw (w .word-0) (rw (w .word-3, w .word-4, w .word-5, type-linked (m .type) k, is-flag (isList (m .type)), is-flag (m .optional)))
-    references-fit r (unionRow n b tag c) w k i t = rw (w .word-0) (rw (w .word-3, union-linked r b k i, t (w .word-0)))
+    references-fit r (unionRow n b d c) w k i t = rw (w .word-0) (rw (w .word-3, union-linked r b k i, t (w .word-0)))
     references-fit r (branchRow p) w k i t = rw (w .word-0) (rw (w .word-3, k))
     references-fit r (alternateRow n c) w k i t = rw (w .word-0)
     references-fit r (alternativeRow p) w k i t = rw (w .word-0) (rw (w .word-3, k))
@@ -156,7 +156,7 @@ module _ (T : List ℕ) (f g : Name → ℕ) where
     union-base r (structRow n b c) w k i e = no-union (w .word-0) e refl
     union-base r (inlineRow c) w k i e = no-union (w .word-0) e refl
     union-base r (memberRow m) w k i e = no-union (w .word-0) e refl
-    union-base r (unionRow n b tag c) w k i e = rw (w .word-3) (union-linked r b k i)
+    union-base r (unionRow n b d c) w k i e = rw (w .word-3) (union-linked r b k i)
     union-base r (branchRow p) w k i e = no-union (w .word-0) e refl
     union-base r (alternateRow n c) w k i e = no-union (w .word-0) e refl
     union-base r (alternativeRow p) w k i e = no-union (w .word-0) e refl

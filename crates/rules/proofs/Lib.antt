@@ -9,7 +9,7 @@ pub mod Cells
 pub mod CellRows
 pub mod CellLayout
 pub mod CellFinds
-pub mod CellTags
+pub mod CellDiscriminators
 pub mod SoundFacts
 pub mod Grid
 pub mod Lookups

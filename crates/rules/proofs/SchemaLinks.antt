@@ -125,7 +125,7 @@ module _ (S : List ℕ) (ds : List Definition) (behind : EveryName Behind ds) (h
   own-linked : (n : Name) (b : Body) → Formed b → refers S ds b ≡ true → Linked (ownEntry n b)
   own-linked n (enum vs) k e = tt
   own-linked n (struct b ms) k e = base-linked b (k .0) (and-left (dataRefers S ds b) (membersRefer S ds ms) e)
-  own-linked n (union b tag bs) k e = union-linked b k (and-left (dataRefers S ds b) (all (λ (p : Pair). isStructName S ds (p .type)) bs) e)
+  own-linked n (union b discriminator bs) k e = union-linked b k (and-left (dataRefers S ds b) (all (λ (p : Pair). isStructName S ds (p .type)) bs) e)
   own-linked n (alternate alts) k e = tt
   own-linked n (command a t oob) k e =
       (data-linked a (and-left (dataRefers S ds a) (isTypeName S ds t) e), return-linked t (and-right (dataRefers S ds a) (isTypeName S ds t) e))
@@ -143,7 +143,7 @@ module _ (S : List ℕ) (ds : List Definition) (behind : EveryName Behind ds) (h
   children-linked : (b : Body) → Formed b → refers S ds b ≡ true → Every Linked (childEntries b)
   children-linked (enum vs) k e = every-is valueRow Linked (λ v. tt) vs
   children-linked (struct b ms) k e = members-linked ms (k .1) (and-right (dataRefers S ds b) (membersRefer S ds ms) e)
-  children-linked (union b tag bs) k e =
+  children-linked (union b discriminator bs) k e =
       let branches : Bool = all (λ (p : Pair). isStructName S ds (p .type)) bs in
       every-append Linked (inlineEntries b) (map branchRow bs) (inline-linked b (there-formed b k) (and-left (dataRefers S ds b) branches e))
       (every-map branchRow (λ (p : Pair). isStructName S ds (p .type) ≡ true) Linked (λ p. struct-found (p .type)) bs

@@ -144,9 +144,9 @@ structBody fs = do
 abbrev pub unionBody : Fields → Option Body
 unionBody fs = do
   base ← must asData (valueAt (text "base") fs)
-  tag ← must asName (valueAt (text "discriminator") fs)
+  discriminator ← must asName (valueAt (text "discriminator") fs)
   branches ← must asPairs (valueAt (text "data") fs)
-  some (union base tag branches)
+  some (union base discriminator branches)
 
 abbrev pub alternateBody : Fields → Option Body
 alternateBody fs = must asPairs (valueAt (text "data") fs) >>= λ alternatives. some (alternate alternatives)

@@ -42,7 +42,7 @@ module _ (P : Name → Type 0) where
   abbrev pub BodyNames : Body → Type 0
   BodyNames (enum vs) = Every P vs
   BodyNames (struct b ms) = DataNames b × Every MemberNames ms
-  BodyNames (union b tag bs) = DataNames b × P tag × Every PairNames bs
+  BodyNames (union b discriminator bs) = DataNames b × P discriminator × Every PairNames bs
   BodyNames (alternate alts) = Every PairNames alts
   BodyNames (command a t oob) = DataNames a × TypeNames t
 

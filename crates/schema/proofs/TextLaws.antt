@@ -25,8 +25,8 @@ use Rattle.rules.specs.Answers.{rank}
 use Rattle.rules.specs.Answers.{schemaResult}
 use Rattle.rules.proofs.NameSpans.{names-within}
 use Rattle.rules.proofs.CellBases.{named-bases}
-use Rattle.definitions.specs.declared.rows.Put.{Put}
-use Rattle.definitions.specs.declared.rows.Put.the-variants.{Rows, Refused as NoRows}
+use Rattle.definitions.specs.declared.writing.Put.{Put}
+use Rattle.definitions.specs.declared.writing.Put.the-variants.{Rows, Refused as NoRows}
 use Rattle.definitions.specs.Puts.{RowsPut, PutTold, PutsDefinitions}
 use Rattle.references.specs.Resolves.{Resolves}
 use Rattle.text.specs.Keys.{KeysOnce}

@@ -1,7 +1,7 @@
 // The compile call, from the bytes to the table; then the stages from the table on.
 use crate::stages::judge_names;
 use definitions::definitions::put_definitions;
-use definitions::rows::Put;
+use definitions::writing::Put;
 use references::resolve;
 use rules::ROW_WORDS;
 use rules::SCHEMA_BYTES;
@@ -35,9 +35,9 @@ fn judge_table(schema: &[u8], table: &mut [u32], rows: &mut [u32]) -> SchemaAnsw
 {
     let mut links = [0u32; MOST_ROWS];
     let found = resolve(schema, table, &mut links);
-    let mut marks = [0u32; MOST_ROWS];
+    let mut hashes = [0u32; MOST_ROWS];
     let n = table.len() / ROW_WORDS;
-    judge_names(schema, table, &mut marks[..n], &mut links, found, rows)
+    judge_names(schema, table, &mut hashes[..n], &mut links, found, rows)
 }
 
 // The objects of the text, by its nodes: no key repeated, and definitions all of them.

@@ -1,5 +1,5 @@
 // The stages of the compile call, from the table on: each rule is judged over the whole schema before the next.
-use rows::marks::put_marks;
+use rows::hashes::put_hashes;
 use rules::ROW_WORDS;
 use rules::SchemaAnswer;
 use rules::SchemaRefusal;
@@ -14,7 +14,7 @@ use words::copy;
 ghost use Prim.Native.Nat.{_*_, _≤_, _<_, _^_};
 ghost use lib.ListN.{length};
 ghost use Rattle.grammar.specs.Limits.{row-words};
-ghost use Rattle.rows.specs.Marks.{Marks};
+ghost use Rattle.rows.specs.Hashes.{Hashes};
 ghost use Rattle.rules.specs.declared.SchemaRefusal.the-variants.{BadName, BadChain, TooManyRows};
 ghost use Rattle.schema.specs.Stages.{Answered, Zero, IsTable, Refers};
 
@@ -35,14 +35,14 @@ fn judge_room(table: &[u32], rows: &mut [u32], schema: &[u8]) -> SchemaAnswer
 }
 
 // The rules on chains, unions, alternates and returns.
-fn judge_definitions(schema: &[u8], table: &[u32], marks: &[u32], rows: &mut [u32]) -> SchemaAnswer
-    requires { ⌜ (length (now table) < 2 ^ 32) × Zero (now rows) × IsTable (now schema) (now table) × Marks (now schema) (now table) (now marks) ⌝ }
+fn judge_definitions(schema: &[u8], table: &[u32], hashes: &[u32], rows: &mut [u32]) -> SchemaAnswer
+    requires { ⌜ (length (now table) < 2 ^ 32) × Zero (now rows) × IsTable (now schema) (now table) × Hashes (now schema) (now table) (now hashes) ⌝ }
     ensures { λ r. ⌜ Answered (now (schema .entry)) BadChain (now (rows .entry)) (now (rows .exit)) r ⌝ }
 {
-    if !good_chains(schema, table, marks) {
+    if !good_chains(schema, table, hashes) {
         return SchemaAnswer::Refused(SchemaRefusal::BadChain);
     }
-    if !good_unions(schema, table, marks) {
+    if !good_unions(schema, table, hashes) {
         return SchemaAnswer::Refused(SchemaRefusal::BadUnion);
     }
     if !good_alternates(schema, table) {
@@ -54,11 +54,11 @@ fn judge_definitions(schema: &[u8], table: &[u32], marks: &[u32], rows: &mut [u3
     judge_room(table, rows, schema)
 }
 
-// The rules on names: good, distinct, and known, which `found` tells of those that refer. The marks and the links lend a word for each row.
+// The rules on names: good, distinct, and known, which `found` tells of those that refer. The hashes and the links lend a word for each row.
 pub fn judge_names(
     schema: &[u8],
     table: &[u32],
-    marks: &mut [u32],
+    hashes: &mut [u32],
     links: &mut [u32],
     found: bool,
     rows: &mut [u32],
@@ -69,12 +69,12 @@ pub fn judge_names(
     if !good_names(schema, table) {
         return SchemaAnswer::Refused(SchemaRefusal::BadName);
     }
-    put_marks(schema, table, marks);
-    if !distinct_names(schema, table, marks, links) {
+    put_hashes(schema, table, hashes);
+    if !distinct_names(schema, table, hashes, links) {
         return SchemaAnswer::Refused(SchemaRefusal::RepeatedName);
     }
     if !found {
         return SchemaAnswer::Refused(SchemaRefusal::UnknownName);
     }
-    judge_definitions(schema, table, marks, rows)
+    judge_definitions(schema, table, hashes, rows)
 }

@@ -9,4 +9,4 @@ pub mod StringRuns
 pub mod StringReads
 pub mod Codes
 pub mod Comparisons
-pub mod MarkLaws
+pub mod HashLaws

@@ -2,4 +2,4 @@ pub mod Classes
 pub mod Chars
 pub mod Strings
 pub mod Meanings
-pub mod Marks
+pub mod Hashes

@@ -2,6 +2,6 @@
 pub mod chars;
 pub mod classes;
 pub mod dialects;
-pub mod marks;
+pub mod hashes;
 pub mod meanings;
 pub mod strings;

@@ -16,7 +16,7 @@ use Rattle.rules.specs.Names.{clash}
 use Rattle.rules.specs.Rows.{upFrom, rowCount, walk, children, nameOf}
 use Rattle.rules.specs.Rules.{those, isDefinition, namesOf, noClash, distinctNames}
 use Rattle.rules.specs.SchemaTable.{placeIn}
-use Rattle.rows.specs.Marks.{markOf, freshIn}
+use Rattle.rows.specs.Hashes.{hashOf, freshIn}
 use Rattle.rows.specs.Index.{itself, RowIndex, Entered}
 use Rattle.table.specs.Definitions.{definitionRows, withRow, DefinitionIndex, RowEntered, clearIn, DefinitionEntered, definitionsClear, childrenApart}
 use Rattle.rows.proofs.Walks.{upFrom-on, upFrom-end, upTo, upTo-of, upTo-back, upTo-none, upTo-miss}
@@ -101,9 +101,9 @@ module _ (S T : List ℕ) where
 
 -- one row comes into the index, or is none of its kind
 module _ {S T heads links : List ℕ} (r : ℕ) {d : Bool} (p : d ≡ isDefinition T r) where
-  pub row-entered : d ≡ true → {heads′ links′ x : List ℕ} {m : ℕ} → x ≡ nameOf S T r → m ≡ markOf x → r < length links → Added heads links m r heads′ links′
+  pub row-entered : d ≡ true → {heads′ links′ x : List ℕ} {m : ℕ} → x ≡ nameOf S T r → m ≡ hashOf x → r < length links → Added heads links m r heads′ links′
       → RowEntered S T heads links r heads′ links′
-  row-entered t n q h a = record { told = λ rs k f. rw (sym p ∙ t) (index-more r k f h (q ∙ ap markOf n) a) }
+  row-entered t n q h a = record { told = λ rs k f. rw (sym p ∙ t) (index-more r k f h (q ∙ ap hashOf n) a) }
 
   pub row-left : d ≡ false → RowEntered S T heads links r heads links
   row-left t = record { told = λ rs k f. rw (sym p ∙ t) k }

@@ -12,7 +12,7 @@ use Rattle.rules.specs.Types.{built-ins}
 use Rattle.rules.specs.Names.{goodName, sameName, clash}
 use Rattle.rules.specs.Rows.{upFrom, rowCount, kind, unnamed, children, nameOf}
 use Rattle.rules.specs.Rules.{those, everyRow, isDefinition, namesOf, noClash, definitionNames}
-use Rattle.rows.specs.Marks.{freshIn}
+use Rattle.rows.specs.Hashes.{freshIn}
 use Rattle.rows.specs.Index.{itself, RowIndex}
 
 -- row r is an inline struct or has a good name

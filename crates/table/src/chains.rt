@@ -1,7 +1,7 @@
 // Chains of bases and inherited members, by recursion over base links, the structs left falling: rule 8.
-use rows::marks::is_named;
-use rows::marks::mark_of;
-use rows::marks::runs_apart;
+use rows::hashes::hash_of;
+use rows::hashes::is_named;
+use rows::hashes::runs_apart;
 use rows::names::name_of;
 use rows::rows::child_count;
 use rows::rows::first_child;
@@ -19,7 +19,7 @@ ghost use lib.ListN.{length};
 ghost use Rattle.rules.specs.Rows.{children, nameOf};
 ghost use Rattle.rules.specs.Rules.{any, chainFits, goodChains};
 ghost use Rattle.rows.specs.Rows.{Near};
-ghost use Rattle.rows.specs.Marks.{Marks};
+ghost use Rattle.rows.specs.Hashes.{Hashes};
 ghost use Rattle.table.specs.Chains.{chainEnds, hasChild, isMember, listsApart, numberOf, membersApart};
 
 // The most structs on the chain of a base: the struct that has it is the first one counted.
@@ -39,16 +39,16 @@ pub fn chain_ends(rows: &[u32], link: usize, left: usize) -> bool
 }
 
 // Whether row r has a child with the name of row c.
-pub fn has_child(schema: &[u8], rows: &[u32], marks: &[u32], r: usize, c: usize) -> bool
-    requires { ⌜ Near r × Marks (now schema) (now rows) (now marks) ⌝ }
+pub fn has_child(schema: &[u8], rows: &[u32], hashes: &[u32], r: usize, c: usize) -> bool
+    requires { ⌜ Near r × Hashes (now schema) (now rows) (now hashes) ⌝ }
     ensures { λ b. ⌜ b ≡ hasChild (now (schema .entry)) (now (rows .entry)) r (nameOf (now (schema .entry)) (now (rows .entry)) c) ⌝ }
 {
     let name = name_of(schema, rows, c);
-    let mark = mark_of(name);
+    let hash = hash_of(name);
     let mut i = first_child(rows, r);
     let mut left = child_count(rows, r);
     while 0 < left {
-        if is_named(schema, rows, marks, i, name, mark) {
+        if is_named(schema, rows, hashes, i, name, hash) {
             return true;
         }
         i = next_row(rows, i);
@@ -58,15 +58,15 @@ pub fn has_child(schema: &[u8], rows: &[u32], marks: &[u32], r: usize, c: usize)
 }
 
 // Whether no child of row s clashes with one of row r.
-fn lists_apart(schema: &[u8], rows: &[u32], marks: &[u32], s: usize, r: usize) -> bool
-    requires { ⌜ Near s × Near r × Marks (now schema) (now rows) (now marks) ⌝ }
+fn lists_apart(schema: &[u8], rows: &[u32], hashes: &[u32], s: usize, r: usize) -> bool
+    requires { ⌜ Near s × Near r × Hashes (now schema) (now rows) (now hashes) ⌝ }
     ensures { λ b. ⌜ b ≡ listsApart (now (schema .entry)) (now (rows .entry)) s r ⌝ }
 {
     let a = first_child(rows, s);
     let m = child_count(rows, s);
     let b = first_child(rows, r);
     let n = child_count(rows, r);
-    runs_apart(schema, rows, marks, a, m, b, n)
+    runs_apart(schema, rows, hashes, a, m, b, n)
 }
 
 // Whether row m is a child of row r.
@@ -114,12 +114,12 @@ pub enum Against {
 pub fn members_apart(
     schema: &[u8],
     rows: &[u32],
-    marks: &[u32],
+    hashes: &[u32],
     link: usize,
     left: usize,
     others: Against,
 ) -> bool
-    requires { ⌜ Near link × Near (numberOf others) × Marks (now schema) (now rows) (now marks) ⌝ }
+    requires { ⌜ Near link × Near (numberOf others) × Hashes (now schema) (now rows) (now hashes) ⌝ }
     ensures { λ b. ⌜ b ≡ membersApart (now (schema .entry)) (now (rows .entry)) others left link ⌝ }
 {
     if link == 0 {
@@ -130,15 +130,15 @@ pub fn members_apart(
     }
     let s = link - 1;
     let base = wide(word(rows, s, row::BASE));
-    if !members_apart(schema, rows, marks, base, left - 1, others) {
+    if !members_apart(schema, rows, hashes, base, left - 1, others) {
         return false;
     }
     match others {
-        Against::Children(r) => lists_apart(schema, rows, marks, s, r),
+        Against::Children(r) => lists_apart(schema, rows, hashes, s, r),
         Against::Members(other) => members_apart(
             schema,
             rows,
-            marks,
+            hashes,
             other,
             CHAIN_STRUCTS,
             Against::Children(s),
@@ -147,8 +147,8 @@ pub fn members_apart(
 }
 
 // Whether the chain of struct r fits, and it repeats no inherited member.
-fn chain_fits(schema: &[u8], rows: &[u32], marks: &[u32], r: usize) -> bool
-    requires { ⌜ Near r × Marks (now schema) (now rows) (now marks) ⌝ }
+fn chain_fits(schema: &[u8], rows: &[u32], hashes: &[u32], r: usize) -> bool
+    requires { ⌜ Near r × Hashes (now schema) (now rows) (now hashes) ⌝ }
     ensures { λ b. ⌜ b ≡ chainFits (now (schema .entry)) (now (rows .entry)) r ⌝ }
 {
     let base = wide(word(rows, r, row::BASE));
@@ -156,18 +156,18 @@ fn chain_fits(schema: &[u8], rows: &[u32], marks: &[u32], r: usize) -> bool
         return false;
     }
     let own = Against::Children(r);
-    members_apart(schema, rows, marks, base, BASE_STRUCTS, own)
+    members_apart(schema, rows, hashes, base, BASE_STRUCTS, own)
 }
 
-pub fn good_chains(schema: &[u8], rows: &[u32], marks: &[u32]) -> bool
-    requires { ⌜ (length (now rows) < 2 ^ 32) × Marks (now schema) (now rows) (now marks) ⌝ }
+pub fn good_chains(schema: &[u8], rows: &[u32], hashes: &[u32]) -> bool
+    requires { ⌜ (length (now rows) < 2 ^ 32) × Hashes (now schema) (now rows) (now hashes) ⌝ }
     ensures { λ b. ⌜ b ≡ goodChains (now (schema .entry)) (now (rows .entry)) ⌝ }
 {
     let n = rows.len() / ROW_WORDS;
     let mut r = 0;
     while r < n {
         if word(rows, r, row::KIND) == kind::STRUCT {
-            if !chain_fits(schema, rows, marks, r) {
+            if !chain_fits(schema, rows, hashes, r) {
                 return false;
             }
         }

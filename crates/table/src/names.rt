@@ -1,9 +1,9 @@
 // Names of definitions and of what is in them: rules 5 and 6.
 use buckets::BUCKETS;
 use buckets::add;
+use rows::hashes::hash_of;
 use rows::index::add_new;
 use rows::index::all_apart;
-use rows::marks::mark_of;
 use rows::names::good_name;
 use rows::names::name_of;
 use rows::names::same_bytes;
@@ -28,7 +28,7 @@ ghost use Rattle.rules.specs.Rules.{isDefinition, goodNames, distinctNames};
 ghost use Rattle.rules.specs.SchemaTable.{placeIn};
 ghost use Rattle.strings.specs.Classes.{classOf, tabulate};
 ghost use Rattle.rows.specs.Rows.{Near};
-ghost use Rattle.rows.specs.Marks.{Marks};
+ghost use Rattle.rows.specs.Hashes.{Hashes};
 ghost use Rattle.table.specs.Definitions.{nameFits, placeFrom, DefinitionIndex, RowEntered, DefinitionEntered, definitionsClear, childrenApart};
 
 // The number of a name among five that are numbered from n on; 0 if it is none of them.
@@ -132,12 +132,12 @@ pub fn is_definition(rows: &[u32], r: usize) -> bool
 fn add_definition(
     schema: &[u8],
     rows: &[u32],
-    marks: &[u32],
+    hashes: &[u32],
     heads: &mut [u32; BUCKETS],
     links: &mut [u32],
     r: usize,
 ) -> bool
-    requires { ⌜ Marks (now schema) (now rows) (now marks) × (r < length (now links)) × (length (now links) < 2 ^ 32) ⌝ }
+    requires { ⌜ Hashes (now schema) (now rows) (now hashes) × (r < length (now links)) × (length (now links) < 2 ^ 32) ⌝ }
     ensures { λ b. ⌜ DefinitionEntered (now (schema .entry)) (now (rows .entry)) (now (heads .entry)) (now (links .entry)) r (now (heads .exit)) (now (links .exit)) b ⌝ }
 {
     if !is_definition(rows, r) {
@@ -146,24 +146,24 @@ fn add_definition(
     if built_in(name_of(schema, rows, r)) != 0 {
         return false;
     }
-    add_new(schema, rows, marks, heads, links, r)
+    add_new(schema, rows, hashes, heads, links, r)
 }
 
 // Whether no two definitions have the same name, and none a built-in's: each is looked up among those after it.
 fn definitions_apart(
     schema: &[u8],
     rows: &[u32],
-    marks: &[u32],
+    hashes: &[u32],
     heads: &mut [u32; BUCKETS],
     links: &mut [u32],
 ) -> bool
-    requires { ⌜ Marks (now schema) (now rows) (now marks) × (length (now rows) ≤ row-words * length (now links)) × (length (now links) < 2 ^ 32) × (now heads ≡ replicate buckets 0) ⌝ }
+    requires { ⌜ Hashes (now schema) (now rows) (now hashes) × (length (now rows) ≤ row-words * length (now links)) × (length (now links) < 2 ^ 32) × (now heads ≡ replicate buckets 0) ⌝ }
     ensures { λ b. ⌜ b ≡ definitionsClear (now (schema .entry)) (now (rows .entry)) ⌝ }
 {
     let mut r = rows.len() / ROW_WORDS;
     while 0 < r {
         r -= 1;
-        if !add_definition(schema, rows, marks, heads, links, r) {
+        if !add_definition(schema, rows, hashes, heads, links, r) {
             return false;
         }
     }
@@ -176,7 +176,7 @@ fn index_row(schema: &[u8], rows: &[u32], heads: &mut [u32; BUCKETS], links: &mu
     ensures { λ _. ⌜ RowEntered (now (schema .entry)) (now (rows .entry)) (now (heads .entry)) (now (links .entry)) r (now (heads .exit)) (now (links .exit)) ⌝ }
 {
     if is_definition(rows, r) {
-        add(heads, links, mark_of(name_of(schema, rows, r)), r);
+        add(heads, links, hash_of(name_of(schema, rows, r)), r);
     }
 }
 
@@ -193,8 +193,8 @@ pub fn index_definitions(schema: &[u8], rows: &[u32], heads: &mut [u32; BUCKETS]
 }
 
 // Whether in each list of values, members, branches or alternatives no two names are the same. The links are scratch.
-fn children_apart(schema: &[u8], rows: &[u32], marks: &[u32], links: &mut [u32]) -> bool
-    requires { ⌜ (length (now rows) < 2 ^ 32) × Marks (now schema) (now rows) (now marks) × (length (now links) < 2 ^ 32) ⌝ }
+fn children_apart(schema: &[u8], rows: &[u32], hashes: &[u32], links: &mut [u32]) -> bool
+    requires { ⌜ (length (now rows) < 2 ^ 32) × Hashes (now schema) (now rows) (now hashes) × (length (now links) < 2 ^ 32) ⌝ }
     ensures { λ b. ⌜ b ≡ childrenApart (now (schema .entry)) (now (rows .entry)) ⌝ }
 {
     let n = rows.len() / ROW_WORDS;
@@ -202,7 +202,7 @@ fn children_apart(schema: &[u8], rows: &[u32], marks: &[u32], links: &mut [u32])
     while r < n {
         let a = first_child(rows, r);
         let m = child_count(rows, r);
-        if !all_apart(schema, rows, marks, links, a, m) {
+        if !all_apart(schema, rows, hashes, links, a, m) {
             return false;
         }
         r += 1;
@@ -211,13 +211,13 @@ fn children_apart(schema: &[u8], rows: &[u32], marks: &[u32], links: &mut [u32])
 }
 
 // Rule 6. The links are scratch, a word for each row.
-pub fn distinct_names(schema: &[u8], rows: &[u32], marks: &[u32], links: &mut [u32]) -> bool
-    requires { ⌜ (length (now rows) < 2 ^ 32) × Marks (now schema) (now rows) (now marks) × (length (now rows) ≤ row-words * length (now links)) × (length (now links) < 2 ^ 32) ⌝ }
+pub fn distinct_names(schema: &[u8], rows: &[u32], hashes: &[u32], links: &mut [u32]) -> bool
+    requires { ⌜ (length (now rows) < 2 ^ 32) × Hashes (now schema) (now rows) (now hashes) × (length (now rows) ≤ row-words * length (now links)) × (length (now links) < 2 ^ 32) ⌝ }
     ensures { λ r. ⌜ r ≡ distinctNames (now (schema .entry)) (now (rows .entry)) ⌝ }
 {
     let mut heads = [0u32; BUCKETS];
-    if !definitions_apart(schema, rows, marks, &mut heads, links) {
+    if !definitions_apart(schema, rows, hashes, &mut heads, links) {
         return false;
     }
-    children_apart(schema, rows, marks, links)
+    children_apart(schema, rows, hashes, links)
 }

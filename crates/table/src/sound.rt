@@ -8,7 +8,7 @@ use crate::names::distinct_names;
 use crate::names::good_names;
 use crate::returns::good_returns;
 use crate::unions::good_unions;
-use rows::marks::put_marks;
+use rows::hashes::put_hashes;
 use rows::rows::wide;
 use rows::rows::word;
 use rules::ROW_WORDS;
@@ -20,7 +20,7 @@ ghost use Prim.Native.Nat.{_*_, _≤_, _<_, _^_};
 ghost use lib.ListN.{length};
 ghost use Rattle.grammar.specs.Limits.{row-words};
 ghost use Rattle.rules.specs.Sound.{sound};
-ghost use Rattle.rows.specs.Marks.{Marks};
+ghost use Rattle.rows.specs.Hashes.{Hashes};
 ghost use Rattle.table.specs.RuleParts.{namesWithin, rowsFit, shaped, definitionsFit, keepsRules};
 
 const TABLE_WORDS: usize = TABLE_ROWS * ROW_WORDS;
@@ -75,14 +75,14 @@ fn is_shaped(schema: &[u8], rows: &[u32]) -> bool
 }
 
 // Rules 8 to 11: chains, unions, alternates and what commands return.
-fn definitions_fit(schema: &[u8], rows: &[u32], marks: &[u32]) -> bool
-    requires { ⌜ (length (now rows) < 2 ^ 32) × Marks (now schema) (now rows) (now marks) ⌝ }
+fn definitions_fit(schema: &[u8], rows: &[u32], hashes: &[u32]) -> bool
+    requires { ⌜ (length (now rows) < 2 ^ 32) × Hashes (now schema) (now rows) (now hashes) ⌝ }
     ensures { λ b. ⌜ b ≡ definitionsFit (now (schema .entry)) (now (rows .entry)) ⌝ }
 {
-    if !good_chains(schema, rows, marks) {
+    if !good_chains(schema, rows, hashes) {
         return false;
     }
-    if !good_unions(schema, rows, marks) {
+    if !good_unions(schema, rows, hashes) {
         return false;
     }
     if !good_alternates(schema, rows) {
@@ -91,19 +91,19 @@ fn definitions_fit(schema: &[u8], rows: &[u32], marks: &[u32]) -> bool
     good_returns(schema, rows)
 }
 
-// Rules 5 to 11, of which 7 is that references fit; with room for a mark and a link of each row lent.
-fn keeps_rules(schema: &[u8], rows: &[u32], marks: &mut [u32], links: &mut [u32]) -> bool
+// Rules 5 to 11, of which 7 is that references fit; with room for a hash and a link of each row lent.
+fn keeps_rules(schema: &[u8], rows: &[u32], hashes: &mut [u32], links: &mut [u32]) -> bool
     requires { ⌜ (length (now rows) < 2 ^ 32) × (length (now rows) ≤ row-words * length (now links)) × (length (now links) < 2 ^ 32) ⌝ }
     ensures { λ b. ⌜ b ≡ keepsRules (now (schema .entry)) (now (rows .entry)) ⌝ }
 {
     if !good_names(schema, rows) {
         return false;
     }
-    put_marks(schema, rows, marks);
-    if !distinct_names(schema, rows, marks, links) {
+    put_hashes(schema, rows, hashes);
+    if !distinct_names(schema, rows, hashes, links) {
         return false;
     }
-    definitions_fit(schema, rows, marks)
+    definitions_fit(schema, rows, hashes)
 }
 
 // Whether the table is sound.
@@ -123,7 +123,7 @@ pub fn is_sound(schema: &[u8], rows: &[u32]) -> bool
         return false;
     }
     let n = rows.len() / ROW_WORDS;
-    let mut marks = [0u32; TABLE_ROWS];
+    let mut hashes = [0u32; TABLE_ROWS];
     let mut links = [0u32; TABLE_ROWS];
-    keeps_rules(schema, rows, &mut marks[..n], &mut links)
+    keeps_rules(schema, rows, &mut hashes[..n], &mut links)
 }

@@ -21,7 +21,7 @@ ghost use Rattle.grammar.specs.Notation.{all};
 ghost use Rattle.rules.specs.Rows.{children};
 ghost use Rattle.rules.specs.Rules.{unionFits, goodUnions};
 ghost use Rattle.rows.specs.Rows.{Near};
-ghost use Rattle.rows.specs.Marks.{Marks};
+ghost use Rattle.rows.specs.Hashes.{Hashes};
 ghost use Rattle.table.specs.RuleParts.{canDiscriminate, discriminates, branchNew};
 
 // Whether row d is a mandatory member, no array, of an enum type.
@@ -61,11 +61,11 @@ fn discriminator_fits(rows: &[u32], r: usize) -> bool
 }
 
 // Whether branch b is named by a value of the enum at row e, and its struct repeats no member of the one with the link `base`.
-fn branch_fits(schema: &[u8], rows: &[u32], marks: &[u32], b: usize, e: usize, base: usize) -> bool
-    requires { ⌜ Near e × Near base × Marks (now schema) (now rows) (now marks) ⌝ }
+fn branch_fits(schema: &[u8], rows: &[u32], hashes: &[u32], b: usize, e: usize, base: usize) -> bool
+    requires { ⌜ Near e × Near base × Hashes (now schema) (now rows) (now hashes) ⌝ }
     ensures { λ r. ⌜ r ≡ branchNew (now (schema .entry)) (now (rows .entry)) e base b ⌝ }
 {
-    if !has_child(schema, rows, marks, e, b) {
+    if !has_child(schema, rows, hashes, e, b) {
         return false;
     }
     let link = wide(word(rows, b, row::BRANCH_STRUCT));
@@ -73,18 +73,25 @@ fn branch_fits(schema: &[u8], rows: &[u32], marks: &[u32], b: usize, e: usize, b
         return false;
     }
     let inherited = Against::Members(base);
-    members_apart(schema, rows, marks, link, CHAIN_STRUCTS, inherited)
+    members_apart(schema, rows, hashes, link, CHAIN_STRUCTS, inherited)
 }
 
 // Whether every branch of union r fits.
-fn branches_fit(schema: &[u8], rows: &[u32], marks: &[u32], r: usize, e: usize, base: usize) -> bool
-    requires { ⌜ Near r × Near e × Near base × Marks (now schema) (now rows) (now marks) ⌝ }
+fn branches_fit(
+    schema: &[u8],
+    rows: &[u32],
+    hashes: &[u32],
+    r: usize,
+    e: usize,
+    base: usize,
+) -> bool
+    requires { ⌜ Near r × Near e × Near base × Hashes (now schema) (now rows) (now hashes) ⌝ }
     ensures { λ b. ⌜ b ≡ all (branchNew (now (schema .entry)) (now (rows .entry)) e base) (children (now (rows .entry)) r) ⌝ }
 {
     let mut b = first_child(rows, r);
     let mut left = child_count(rows, r);
     while 0 < left {
-        if !branch_fits(schema, rows, marks, b, e, base) {
+        if !branch_fits(schema, rows, hashes, b, e, base) {
             return false;
         }
         b = next_row(rows, b);
@@ -93,8 +100,8 @@ fn branches_fit(schema: &[u8], rows: &[u32], marks: &[u32], r: usize, e: usize, 
     true
 }
 
-fn union_is_good(schema: &[u8], rows: &[u32], marks: &[u32], r: usize) -> bool
-    requires { ⌜ Near r × Marks (now schema) (now rows) (now marks) ⌝ }
+fn union_is_good(schema: &[u8], rows: &[u32], hashes: &[u32], r: usize) -> bool
+    requires { ⌜ Near r × Hashes (now schema) (now rows) (now hashes) ⌝ }
     ensures { λ b. ⌜ b ≡ unionFits (now (schema .entry)) (now (rows .entry)) r ⌝ }
 {
     if word(rows, r, row::BRANCH_COUNT) == 0 {
@@ -109,18 +116,18 @@ fn union_is_good(schema: &[u8], rows: &[u32], marks: &[u32], r: usize) -> bool
     }
     let discriminator = wide(word(rows, r, row::DISCRIMINATOR)) - 1;
     let e = wide(word(rows, discriminator, row::TYPE_REF)) - FIRST_ROW;
-    branches_fit(schema, rows, marks, r, e, base)
+    branches_fit(schema, rows, hashes, r, e, base)
 }
 
-pub fn good_unions(schema: &[u8], rows: &[u32], marks: &[u32]) -> bool
-    requires { ⌜ (length (now rows) < 2 ^ 32) × Marks (now schema) (now rows) (now marks) ⌝ }
+pub fn good_unions(schema: &[u8], rows: &[u32], hashes: &[u32]) -> bool
+    requires { ⌜ (length (now rows) < 2 ^ 32) × Hashes (now schema) (now rows) (now hashes) ⌝ }
     ensures { λ b. ⌜ b ≡ goodUnions (now (schema .entry)) (now (rows .entry)) ⌝ }
 {
     let n = rows.len() / ROW_WORDS;
     let mut r = 0;
     while r < n {
         if word(rows, r, row::KIND) == kind::UNION {
-            if !union_is_good(schema, rows, marks, r) {
+            if !union_is_good(schema, rows, hashes, r) {
                 return false;
             }
         }

@@ -16,8 +16,8 @@ use Rattle.text.specs.Nodes.{node-words, putNode, next, Holds, HoldsItem
 use Rattle.text.specs.Readers.{Wrote, ValueEnds, ValueTold, ReadsValue, Opens}
 use Rattle.text.specs.declared.reader.Read.{Read}
 use Rattle.text.specs.declared.reader.Read.the-variants.{Past, Fault, Deep}
-use Rattle.tokens.specs.declared.members.Following.{Following}
-use Rattle.tokens.specs.declared.members.Following.the-variants as Follow
+use Rattle.tokens.specs.declared.separators.Following.{Following}
+use Rattle.tokens.specs.declared.separators.Following.the-variants as Follow
 use Rattle.text.proofs.Frames.{Put, put-wrote, Agree, word-same, items-rise, frame}
 use Rattle.text.proofs.Places.{Runs, then, then-ends, blanks, array-opens, no-element, first-element, item-comma, item-close, item-neither}
 use Rattle.text.proofs.Inside.{Stopped, past-no-stop, value-past, at-comma, at-close, at-neither}

@@ -14,8 +14,8 @@ use Rattle.text.specs.Nodes.{node-words, putNode}
 use Rattle.text.specs.Readers.{Wrote, Moved, ValueRead, ValueTold, ReadsValue, MemberRead, MemberTold, ReadsMember, Ready, Opens}
 use Rattle.text.specs.declared.reader.Read.{Read}
 use Rattle.text.specs.declared.reader.Read.the-variants.{Past}
-use Rattle.tokens.specs.declared.members.Following.{Following}
-use Rattle.tokens.specs.declared.members.Following.the-variants as Follow
+use Rattle.tokens.specs.declared.separators.Following.{Following}
+use Rattle.tokens.specs.declared.separators.Following.the-variants as Follow
 use Rattle.text.proofs.reader.Read.{enum}
 use Rattle.text.proofs.Frames.{Put, put-wrote, put-there}
 

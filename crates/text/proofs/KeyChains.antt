@@ -1,4 +1,4 @@
--- A key looked up along a chain of an index: its mark, and what each return and each turn of the walk gives.
+-- A key looked up along a chain of an index: its hash, and what each return and each turn of the walk gives.
 -- The idea: the keys left of the chain decide what all of them do.
 use Prim.Native.Nat.{ℕ, _-_, _≤_, _<_}
 use native.Mathlib.Omega.{arith}
@@ -12,16 +12,16 @@ use Rattle.grammar.specs.Machine.{Dialect}
 use Rattle.buckets.specs.Buckets.{Chain}
 use Rattle.buckets.proofs.BucketLaws.{chain-end, chain-step}
 use Rattle.strings.specs.Strings.{plainString, Means}
-use Rattle.strings.specs.Marks.{markOf, MeansMark}
+use Rattle.strings.specs.Hashes.{hashOf, MeansHash}
 use Rattle.text.specs.Nodes.{nodeEnd, nodeKind, nodeStart}
-use Rattle.text.specs.Keys.{KeyAt, SameKeys, KeyMark, Key, nodeOf, Known, noneMeans, Unlisted}
+use Rattle.text.specs.Keys.{KeyAt, SameKeys, KeyHash, Key, nodeOf, Known, noneMeans, Unlisted}
 use Rattle.text.proofs.KeyLoops.{plain-key}
 use Rattle.tokens.specs.NodeKinds.{plain-key-node}
 
-pub marked-key : (D : Dialect) (s w : List ℕ) (a : ℕ) {i j k r : ℕ} → i ≡ nodeStart w a → j ≡ nodeEnd w a → k ≡ nodeKind w a → MeansMark D s i j (eqb k plain-key-node) r → KeyMark D s w a r
-marked-key D s w a {i} {j} {k} {r} pi pj pk h = record { told = λ cs u. go cs u }
+pub hashed-key : (D : Dialect) (s w : List ℕ) (a : ℕ) {i j k r : ℕ} → i ≡ nodeStart w a → j ≡ nodeEnd w a → k ≡ nodeKind w a → MeansHash D s i j (eqb k plain-key-node) r → KeyHash D s w a r
+hashed-key D s w a {i} {j} {k} {r} pi pj pk h = record { told = λ cs u. go cs u }
   where
-    go : (cs : List ℕ) → KeyAt D s w a cs → r ≡ markOf cs
+    go : (cs : List ℕ) → KeyAt D s w a cs → r ≡ hashOf cs
     go cs u =
         let ui = sym (pi ∙ u .node-is .has-start) in
         let uj = sym (pj ∙ u .node-is .has-end) in

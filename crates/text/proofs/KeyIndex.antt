@@ -1,5 +1,5 @@
 -- Keys looked up in an index: what each return and each turn of the loop gives.
--- The idea: the keys so far are listed and apart, those left decide the rest. Keys that mean the same have the same mark, so a bucket tells of all that are listed.
+-- The idea: the keys so far are listed and apart, those left decide the rest. Keys that mean the same have the same hash, so a bucket tells of all that are listed.
 use Prim.{tt}
 use Prim.Native.Nat.{ℕ, _≤_, _<_}
 use native.Mathlib.Omega.{arith}
@@ -16,9 +16,9 @@ use Rattle.grammar.proofs.Booleans.{clash, both}
 use Rattle.grammar.proofs.Lists.{same-true}
 use Rattle.buckets.specs.Buckets.{buckets, bucketOf, Added, Free, inBucket, Indexed}
 use Rattle.buckets.proofs.BucketLaws.{bucket-kept, bucket-short, bucket-all, index-empty, index-walk, index-added}
-use Rattle.strings.specs.Marks.{markOf}
+use Rattle.strings.specs.Hashes.{hashOf}
 use Rattle.text.specs.Nodes.{next, HoldsFields}
-use Rattle.text.specs.Keys.{KeyAt, KeyMark, Key, nodeOf, keyMark, Known, noneMeans, Unlisted, KeysApart}
+use Rattle.text.specs.Keys.{KeyAt, KeyHash, Key, nodeOf, keyHash, Known, noneMeans, Unlisted, KeysApart}
 use Rattle.text.proofs.KeyLaws.{and-false, first, no-keys}
 
 -- no key of a list means one of others
@@ -56,7 +56,7 @@ module _ (D : Dialect) (s w : List ℕ) where
     pub done : List Key
     pub rest : Fields
     pub holds : HoldsFields D s w rest l i n
-    pub index : Indexed nodeOf keyMark heads links done
+    pub index : Indexed nodeOf keyHash heads links done
     pub short : length done ≤ i
     pub free : (j : ℕ) → i ≤ j → Free nodeOf j done
     pub known : Known D s w done
@@ -76,7 +76,7 @@ module _ {D : Dialect} {s w : List ℕ} where
               done = [];
               rest = fs;
               holds = h;
-              index = index-empty nodeOf keyMark links e;
+              index = index-empty nodeOf keyHash links e;
               short = omega arith;
               free = λ j g. tt;
               known = tt;
@@ -85,15 +85,15 @@ module _ {D : Dialect} {s w : List ℕ} where
       }
 
   module _ {b n : ℕ} {heads links : List ℕ} {i : ℕ} (v : Listing D s w b n heads links i) where
-    -- what the walk along the bucket of a key's mark says of all listed keys
-    module _ {m head : ℕ} {r : Bool} (g : KeyMark D s w i m) (p : head ≡ getD heads (bucketOf m) 0) (q : Unlisted D s w i links head i r) where
+    -- what the walk along the bucket of a key's hash says of all listed keys
+    module _ {m head : ℕ} {r : Bool} (g : KeyHash D s w i m) (p : head ≡ getD heads (bucketOf m) 0) (q : Unlisted D s w i links head i r) where
       of-listed : (cs : List ℕ) → KeyAt D s w i cs → {fs : Fields} {l : ℕ} (z : ListLeft D s w heads links i n fs l) → r ≡ noneMeans cs (z .done)
       of-listed cs u z =
-          q .told cs u (inBucket keyMark (bucketOf m) (z .done)) (index-walk nodeOf keyMark (z .index) m p)
-          (omega (arith, bucket-short keyMark (bucketOf m) (z .done), z .short))
-          (bucket-kept keyMark (λ (k : Key). KeyAt D s w (k .at) (k .codes)) (bucketOf m) (z .done) (z .known))
-          ∙ bucket-all keyMark (λ (k : Key). not (same (k .codes) cs)) m
-          (λ k e. ap markOf (same-true (k .codes) cs (not-false (same (k .codes) cs) e)) ∙ sym (g .told cs u)) (z .done)
+          q .told cs u (inBucket keyHash (bucketOf m) (z .done)) (index-walk nodeOf keyHash (z .index) m p)
+          (omega (arith, bucket-short keyHash (bucketOf m) (z .done), z .short))
+          (bucket-kept keyHash (λ (k : Key). KeyAt D s w (k .at) (k .codes)) (bucketOf m) (z .done) (z .known))
+          ∙ bucket-all keyHash (λ (k : Key). not (same (k .codes) cs)) m
+          (λ k e. ap hashOf (same-true (k .codes) cs (not-false (same (k .codes) cs) e)) ∙ sym (g .told cs u)) (z .done)
 
       pub listing-hit : i < n → r ≡ false → KeysApart D s w b n false
       listing-hit h t = record { told = λ fs l x. go fs l (v .told fs l x) }
@@ -118,7 +118,7 @@ module _ {D : Dialect} {s w : List ℕ} where
                 done = one ∷ z .done;
                 rest = y .rest;
                 holds = subst (λ (j : ℕ). HoldsFields D s w (y .rest) l j n) (sym pk) (y .after);
-                index = index-added nodeOf keyMark (z .index) one (v .wide) room refl (sym (g .told (y .key) (y .at))) (z .free i (omega arith)) a;
+                index = index-added nodeOf keyHash (z .index) one (v .wide) room refl (sym (g .told (y .key) (y .at))) (z .free i (omega arith)) a;
                 short = omega (arith, z .short, y .on);
                 free = λ j o. ((λ c. absurd (omega (arith, y .on))), z .free j (omega (arith, y .on)));
                 known = (y .at, z .known);

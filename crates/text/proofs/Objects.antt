@@ -16,8 +16,8 @@ use Rattle.text.specs.Nodes.{node-words, putNode, next, Holds, HoldsFiel
 use Rattle.text.specs.Readers.{Wrote, ValueEnds, MemberEnds, MemberTold, ReadsMember, ReadsObject, Opens}
 use Rattle.text.specs.declared.reader.Read.{Read}
 use Rattle.text.specs.declared.reader.Read.the-variants.{Past, Fault, Deep}
-use Rattle.tokens.specs.declared.members.Following.{Following}
-use Rattle.tokens.specs.declared.members.Following.the-variants as Follow
+use Rattle.tokens.specs.declared.separators.Following.{Following}
+use Rattle.tokens.specs.declared.separators.Following.the-variants as Follow
 use Rattle.text.proofs.Frames.{Put, put-wrote, Agree, fields-rise, frame-fields}
 use Rattle.text.proofs.Places.{Runs, then, then-ends, blanks, object-opens, no-member, first-member, member-comma, member-close, member-neither}
 use Rattle.text.proofs.Inside.{Stopped, past-no-stop, member-past, at-comma, at-close, at-neither}

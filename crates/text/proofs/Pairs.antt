@@ -14,8 +14,8 @@ use Rattle.text.specs.Nodes.{node-words, putNode, next, Holds, HoldsFiel
 use Rattle.text.specs.Readers.{ValueRead, ValueEnds, ValueTold, ReadsValue, MemberEnds, ReadsMember, Ready}
 use Rattle.text.specs.declared.reader.Read.{Read}
 use Rattle.text.specs.declared.reader.Read.the-variants.{Past, Fault, Deep}
-use Rattle.tokens.specs.declared.members.KeyRead.{KeyRead}
-use Rattle.tokens.specs.declared.members.KeyRead.the-variants as Keys
+use Rattle.tokens.specs.declared.separators.KeyRead.{KeyRead}
+use Rattle.tokens.specs.declared.separators.KeyRead.the-variants as Keys
 use Rattle.text.proofs.Frames.{Put, put-wrote, put-there, Agree, word-same, frame}
 use Rattle.text.proofs.Inside.{Stopped, past-no-stop, value-past, wrote-put}
 

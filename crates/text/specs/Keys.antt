@@ -10,7 +10,7 @@ use Rattle.grammar.specs.Keys.{keysOf, keysOnceI}
 use Rattle.grammar.specs.Machine.{Dialect}
 use Rattle.buckets.specs.Buckets.{All, Chain}
 use Rattle.strings.specs.Strings.{Means}
-use Rattle.strings.specs.Marks.{markOf}
+use Rattle.strings.specs.Hashes.{hashOf}
 use Rattle.tokens.specs.Tokens.{keyNode}
 use Rattle.text.specs.Nodes.{Node, HoldsItems, HoldsFields}
 
@@ -29,9 +29,9 @@ pub record SameKeys (D : Dialect) (s w : List ℕ) (a b : ℕ) (r : Bool) : Type
 pub record NewKey (D : Dialect) (s w : List ℕ) (a b n : ℕ) (r : Bool) : Type 0 where
   pub told : (cs : List ℕ) → KeyAt D s w a cs → (fs : Fields) (l : ℕ) → HoldsFields D s w fs l b n → r ≡ all (λ y. not (same cs y)) (keysOf fs)
 
--- the mark of what the key at node a means
-pub record KeyMark (D : Dialect) (s w : List ℕ) (a r : ℕ) : Type 0 where
-  pub told : (cs : List ℕ) → KeyAt D s w a cs → r ≡ markOf cs
+-- the hash of what the key at node a means
+pub record KeyHash (D : Dialect) (s w : List ℕ) (a r : ℕ) : Type 0 where
+  pub told : (cs : List ℕ) → KeyAt D s w a cs → r ≡ hashOf cs
 
 -- a key that an index lists: its node and what it means
 pub record Key : Type 0 where
@@ -41,8 +41,8 @@ pub record Key : Type 0 where
 abbrev pub nodeOf : Key → ℕ
 nodeOf k = k .at
 
-abbrev pub keyMark : Key → ℕ
-keyMark k = markOf (k .codes)
+abbrev pub keyHash : Key → ℕ
+keyHash k = hashOf (k .codes)
 
 -- the nodes of listed keys are keys that mean so
 abbrev pub Known : Dialect → List ℕ → List ℕ → List Key → Type 0

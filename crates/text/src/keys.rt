@@ -1,5 +1,5 @@
 // Repeated keys, over the nodes: one loop over all of them, and no value is read again.
-// The keys of a small object are compared pairwise, those of a larger one looked up in an index by the marks of what they mean.
+// The keys of a small object are compared pairwise, those of a larger one looked up in an index by the hashes of what they mean.
 use crate::nodes::NODE_END;
 use crate::nodes::NODE_KIND;
 use crate::nodes::NODE_NEXT;
@@ -13,7 +13,7 @@ use buckets::next;
 use grammar::MESSAGE_BYTES;
 use grammar::SCHEMA_BYTES;
 use strings::dialects::Dialect;
-use strings::marks::mark_of;
+use strings::hashes::hash_of;
 use strings::meanings::same_meaning;
 use tokens::node;
 ghost use mathlib.Core.Path.{_≡_};
@@ -22,7 +22,7 @@ ghost use Prim.Native.Nat.{_^_, _≤_, _<_};
 ghost use lib.ListN.{length, replicate};
 ghost use Rattle.buckets.specs.Buckets.{buckets};
 ghost use Rattle.strings.specs.Strings.{grammarOf};
-ghost use Rattle.text.specs.Keys.{SameKeys, NewKey, KeyMark, Unlisted, KeysApart, KeysOnce};
+ghost use Rattle.text.specs.Keys.{SameKeys, NewKey, KeyHash, Unlisted, KeysApart, KeysOnce};
 
 // In an object of fewer nodes an index costs more than it saves, by measurement.
 const LARGE: usize = 24;
@@ -85,14 +85,14 @@ fn are_pairs_apart(s: &[u8], dialect: Dialect, nodes: &[u32], b: usize, end: usi
     true
 }
 
-// The mark of what the key at node a means.
-fn key_mark(s: &[u8], dialect: Dialect, nodes: &[u32], a: usize) -> u32
-    ensures { λ r. ⌜ KeyMark (grammarOf dialect) (now (s .entry)) (now (nodes .entry)) a r ⌝ }
+// The hash of what the key at node a means.
+fn key_hash(s: &[u8], dialect: Dialect, nodes: &[u32], a: usize) -> u32
+    ensures { λ r. ⌜ KeyHash (grammarOf dialect) (now (s .entry)) (now (nodes .entry)) a r ⌝ }
 {
     let start = node_number(nodes, a, NODE_START);
     let end = node_number(nodes, a, NODE_END);
     let plain = node_word(nodes, a, NODE_KIND) == node::PLAIN_KEY;
-    mark_of(s, dialect, start, end, plain)
+    hash_of(s, dialect, start, end, plain)
 }
 
 // Whether no key of a chain, from the word `head` on, means what the key at node a does. The chain has at most `most` keys.
@@ -142,12 +142,12 @@ fn are_listed_apart(
         if n <= i {
             return true;
         }
-        let mark = key_mark(s, dialect, nodes, i);
-        let head = first(heads, mark);
+        let hash = key_hash(s, dialect, nodes, i);
+        let head = first(heads, hash);
         if !is_unlisted(s, dialect, nodes, i, links, head, i) {
             return false;
         }
-        add(heads, links, mark, i);
+        add(heads, links, hash, i);
         i = n;
     }
     true

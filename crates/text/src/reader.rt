@@ -2,13 +2,13 @@
 use crate::nodes::put_node;
 use strings::dialects::Dialect;
 use tokens::blanks::skip_blanks;
-use tokens::members::Following;
-use tokens::members::KeyRead;
-use tokens::members::read_following;
-use tokens::members::read_key;
 use tokens::node;
 use tokens::scalars::ScalarRead;
 use tokens::scalars::read_scalar;
+use tokens::separators::Following;
+use tokens::separators::KeyRead;
+use tokens::separators::read_following;
+use tokens::separators::read_key;
 ghost use mathlib.Core.Path.{_≡_};
 ghost use Prim.Native.Nat.{suc};
 ghost use Rattle.strings.specs.Classes.{classOf, tabulate};

@@ -17,8 +17,8 @@ use Rattle.tokens.specs.Tokens.{Skips.at-key, Skips.at-colon, Skipped, k
 use Rattle.tokens.specs.TokenParts.{ColonRuns, ColonTold, ReadsColon}
 use Rattle.strings.specs.declared.strings.StringRead.{StringRead}
 use Rattle.strings.specs.declared.strings.StringRead.the-variants as Strings
-use Rattle.tokens.specs.declared.members.KeyRead.{KeyRead}
-use Rattle.tokens.specs.declared.members.KeyRead.the-variants.{Key, Fault}
+use Rattle.tokens.specs.declared.separators.KeyRead.{KeyRead}
+use Rattle.tokens.specs.declared.separators.KeyRead.the-variants.{Key, Fault}
 use Rattle.tokens.proofs.Scanning.{scan-to, scan-stuck, scan-end}
 use Rattle.tokens.proofs.StringTokens.{key-quote, string-run}
 

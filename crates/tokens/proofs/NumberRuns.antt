@@ -10,10 +10,10 @@ use lib.ListN.{length, getD}
 use Rattle.grammar.specs.MessageText.{digit, letter-e, sign}
 use Rattle.grammar.specs.Machine.Message.{NumberState}
 use Rattle.grammar.specs.Machine.Message.NumberState.{begin, after-minus, after-zero, in-int, after-point, in-frac, after-e, after-sign, in-exp}
-use Rattle.tokens.specs.declared.numbers.TokenRead.{TokenRead}
-use Rattle.tokens.specs.declared.numbers.TokenRead.the-variants as Tokens
-use Rattle.tokens.specs.declared.numbers.NumberRead.{NumberRead}
-use Rattle.tokens.specs.declared.numbers.NumberRead.the-variants as Numbers
+use Rattle.tokens.specs.declared.literals.TokenRead.{TokenRead}
+use Rattle.tokens.specs.declared.literals.TokenRead.the-variants as Tokens
+use Rattle.tokens.specs.declared.literals.NumberRead.{NumberRead}
+use Rattle.tokens.specs.declared.literals.NumberRead.the-variants as Numbers
 use Rattle.tokens.specs.Numbers.{Passes, NumberRuns, NumberStops, NumberEnds, NumberTold, NoDigit, Loops, DigitsRun, DigitsTold, BeforePower, BeforePoint, BeforeInt}
 use Rattle.tokens.specs.Numbers.{IntTold, PowerTold, ReadsDigits, ReadsInt, ReadsPower, ReadsRest, ReadsNumber}
 use Rattle.tokens.proofs.NumberSteps.{one-byte, stops-here, ends-here}

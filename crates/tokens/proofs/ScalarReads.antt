@@ -31,10 +31,10 @@ use Rattle.tokens.specs.TokenParts.{ReadsWord, WordTold, stringNode, num
 use Rattle.tokens.specs.Numbers.{InNumber, NumberEnds, NumberTold, ReadsNumber}
 use Rattle.strings.specs.declared.strings.StringRead.{StringRead}
 use Rattle.strings.specs.declared.strings.StringRead.the-variants as Strings
-use Rattle.tokens.specs.declared.numbers.TokenRead.{TokenRead}
-use Rattle.tokens.specs.declared.numbers.TokenRead.the-variants as Tokens
-use Rattle.tokens.specs.declared.numbers.NumberRead.{NumberRead}
-use Rattle.tokens.specs.declared.numbers.NumberRead.the-variants as Numbers
+use Rattle.tokens.specs.declared.literals.TokenRead.{TokenRead}
+use Rattle.tokens.specs.declared.literals.TokenRead.the-variants as Tokens
+use Rattle.tokens.specs.declared.literals.NumberRead.{NumberRead}
+use Rattle.tokens.specs.declared.literals.NumberRead.the-variants as Numbers
 use Rattle.tokens.specs.declared.scalars.ScalarRead.the-variants as Scalars
 use Rattle.tokens.proofs.Scanning.{scan-to, scan-stuck, scan-end, scan-alike}
 use Rattle.tokens.proofs.NumberSteps.{gathered-none}

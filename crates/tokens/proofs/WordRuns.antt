@@ -21,7 +21,7 @@ use Rattle.grammar.proofs.TokenRuns.{TokensComplete}
 use Rattle.grammar.proofs.Words.{Words, word-complete}
 use Rattle.grammar.proofs.Complete.{in-token-run}
 use Rattle.tokens.specs.TokenParts.{Misspells, Misspells.ended, Misspells.differs, Misspells.later, ReadsWord}
-use Rattle.tokens.specs.declared.numbers.TokenRead.the-variants.{Past, Fault}
+use Rattle.tokens.specs.declared.literals.TokenRead.the-variants.{Past, Fault}
 
 -- i bytes of the word w stand at place p
 pub record WordPassed (s : List ℕ) (p : ℕ) (w : List ℕ) (i : ℕ) : Type 0 where

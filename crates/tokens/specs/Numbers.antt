@@ -15,10 +15,10 @@ use Rattle.grammar.specs.Machine.Out.{fault}
 use Rattle.grammar.specs.Machine.Message.{message, NumberState, numberStep, numberEnd}
 use Rattle.grammar.specs.Machine.Message.NumberState.{begin, after-zero, in-int, after-point, after-e}
 use Rattle.grammar.specs.Machine.Message.TokenState.{number}
-use Rattle.tokens.specs.declared.numbers.TokenRead.{TokenRead}
-use Rattle.tokens.specs.declared.numbers.TokenRead.the-variants as Tokens
-use Rattle.tokens.specs.declared.numbers.NumberRead.{NumberRead}
-use Rattle.tokens.specs.declared.numbers.NumberRead.the-variants as Numbers
+use Rattle.tokens.specs.declared.literals.TokenRead.{TokenRead}
+use Rattle.tokens.specs.declared.literals.TokenRead.the-variants as Tokens
+use Rattle.tokens.specs.declared.literals.NumberRead.{NumberRead}
+use Rattle.tokens.specs.declared.literals.NumberRead.the-variants as Numbers
 
 -- the bytes from place a to p, the last first: what the machine has gathered at p of a number that began at a
 unfoldable pub gathered : List ℕ → ℕ → ℕ → List ℕ

@@ -13,14 +13,14 @@ use Rattle.grammar.specs.Machine.Control.{AtValue, AtColon, InComment}
 use Rattle.strings.specs.Strings.{StopsAt}
 use Rattle.strings.specs.declared.strings.StringRead.{StringRead}
 use Rattle.strings.specs.declared.strings.StringRead.the-variants as Strings
-use Rattle.tokens.specs.declared.numbers.TokenRead.{TokenRead}
-use Rattle.tokens.specs.declared.numbers.TokenRead.the-variants as Tokens
-use Rattle.tokens.specs.declared.numbers.NumberRead.{NumberRead}
-use Rattle.tokens.specs.declared.numbers.NumberRead.the-variants as Numbers
+use Rattle.tokens.specs.declared.literals.TokenRead.{TokenRead}
+use Rattle.tokens.specs.declared.literals.TokenRead.the-variants as Tokens
+use Rattle.tokens.specs.declared.literals.NumberRead.{NumberRead}
+use Rattle.tokens.specs.declared.literals.NumberRead.the-variants as Numbers
 use Rattle.tokens.specs.declared.scalars.ScalarRead.{ScalarRead}
 use Rattle.tokens.specs.declared.scalars.ScalarRead.the-variants as Scalars
-use Rattle.tokens.specs.declared.members.KeyRead.{KeyRead}
-use Rattle.tokens.specs.declared.members.KeyRead.the-variants as Keys
+use Rattle.tokens.specs.declared.separators.KeyRead.{KeyRead}
+use Rattle.tokens.specs.declared.separators.KeyRead.the-variants as Keys
 
 -- at place p, where l is left, the bytes w do not stand: the first that differs, or the end of l, is at place e
 pub data Misspells : List ℕ → ℕ → List ℕ → ℕ → Type 0 where

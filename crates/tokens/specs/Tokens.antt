@@ -15,10 +15,10 @@ use Rattle.strings.specs.Strings.{plainString, StopsAt, Means}
 use Rattle.tokens.specs.NodeKinds.{null-node, false-node, true-node, integer-node, other-number-node, plain-string-node, other-string-node, plain-key-node, other-key-node}
 use Rattle.tokens.specs.declared.scalars.ScalarRead.{ScalarRead}
 use Rattle.tokens.specs.declared.scalars.ScalarRead.the-variants as Scalars
-use Rattle.tokens.specs.declared.members.KeyRead.{KeyRead}
-use Rattle.tokens.specs.declared.members.KeyRead.the-variants as Keys
-use Rattle.tokens.specs.declared.members.Following.{Following}
-use Rattle.tokens.specs.declared.members.Following.the-variants as Follow
+use Rattle.tokens.specs.declared.separators.KeyRead.{KeyRead}
+use Rattle.tokens.specs.declared.separators.KeyRead.the-variants as Keys
+use Rattle.tokens.specs.declared.separators.Following.{Following}
+use Rattle.tokens.specs.declared.separators.Following.the-variants as Follow
 
 -- the kind of the node of a value without brackets, and of a key
 abbrev pub scalarNode : List ℕ → ℕ → ℕ → Scalar → ℕ

@@ -1,7 +1,7 @@
 // Blanks, numbers, words, keys and what stands between values.
 pub mod blanks;
 pub mod integers;
-pub mod members;
+pub mod literals;
 pub mod node;
-pub mod numbers;
 pub mod scalars;
+pub mod separators;

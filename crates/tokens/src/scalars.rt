@@ -1,9 +1,9 @@
 // Values without brackets: strings, numbers, words.
+use crate::literals::NumberRead;
+use crate::literals::TokenRead;
+use crate::literals::read_number;
+use crate::literals::read_word;
 use crate::node;
-use crate::numbers::NumberRead;
-use crate::numbers::TokenRead;
-use crate::numbers::read_number;
-use crate::numbers::read_word;
 use strings::dialects::Dialect;
 use strings::strings::StringRead;
 use strings::strings::read_string;

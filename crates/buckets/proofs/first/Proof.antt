@@ -1,4 +1,4 @@
--- `first` meets its contract: the head of the mark's bucket.
+-- `first` meets its contract: the head of the hash's bucket.
 use Prim.Native.Nat.{ℕ}
 use mathlib.Core.Path.{ap, _∙_}
 use lib.ListN.{getD}

@@ -29,11 +29,11 @@ loop-holds c = (children-room (c .before .first-child .ensures) (c .child-count 
 name-of-requires : tie.Need-name-of-requires Inv-loop μ-loop
 name-of-requires c κs = search needs
 
-name-mark-requires : tie.Need-name-mark-requires Inv-loop μ-loop
-name-mark-requires c κs = search needs
+name-hash-requires : tie.Need-name-hash-requires Inv-loop μ-loop
+name-hash-requires c κs = search needs
 
-owner-mark-requires : tie.Need-owner-mark-requires Inv-loop μ-loop
-owner-mark-requires c κs = search needs
+owner-hash-requires : tie.Need-owner-hash-requires Inv-loop μ-loop
+owner-hash-requires c κs = search needs
 
 put-child-requires : tie.Need-put-child-requires Inv-loop μ-loop
 put-child-requires c κs =
@@ -62,7 +62,7 @@ loop-again c =
     let e = d .before .before .before .before .before in
     let l = e .loop-test .taken in
     let f = c .next-row .ensures in
-    (room-next (e .before .loop .inv .0) l f, run-more (e .before .loop .inv .1) l (e .before .before .before .before .before .before .before .pre .1) (d .before .before .before .before .name-of .ensures) (d .before .before .before .name-mark .ensures) (d .before .before .owner-mark .ensures) (d .put-child .ensures) (c .before .before .before .put-owner .ensures) f)
+    (room-next (e .before .loop .inv .0) l f, run-more (e .before .loop .inv .1) l (e .before .before .before .before .before .before .before .pre .1) (d .before .before .before .before .name-of .ensures) (d .before .before .before .name-hash .ensures) (d .before .before .owner-hash .ensures) (d .put-child .ensures) (c .before .before .before .put-owner .ensures) f)
 
 same-length : tie.Need-same-length Inv-loop μ-loop
 same-length c = search needs
@@ -80,8 +80,8 @@ add-children-spec =
     child-count-requires
     loop-holds
     name-of-requires
-    name-mark-requires
-    owner-mark-requires
+    name-hash-requires
+    owner-hash-requires
     put-child-requires
     put-owner-requires
     next-row-requires

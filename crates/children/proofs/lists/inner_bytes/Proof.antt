@@ -2,7 +2,7 @@
 use Prim.Native.Nat.{_+_, _*_}
 use mathlib.Core.Path.{refl}
 use native.Mathlib.Omega.{arith}
-use Rattle.children.proofs.MarkLaws.{token-bytes}
+use Rattle.children.proofs.HashLaws.{token-bytes}
 use borrow.Author.Needs.{needs}
 use Rattle.children.proofs.lists.inner_bytes.Statement.{statement}
 use Rattle.children.proofs.lists.inner_bytes.Tie as tie

@@ -25,17 +25,17 @@ write-all-requires c κs = search needs
 enum-known-n : tie.Need-enum-known-n
 enum-known-n c = search needs
 
-sub-with-schema : tie.Need-sub-with-schema
-sub-with-schema c = search needs
+sub-compile-and-answer : tie.Need-sub-compile-and-answer
+sub-compile-and-answer c = search needs
 
-part-with-schema-start : tie.Need-part-with-schema-start
-part-with-schema-start c = search needs
+part-compile-and-answer-start : tie.Need-part-compile-and-answer-start
+part-compile-and-answer-start c = search needs
 
-part-with-schema-end : tie.Need-part-with-schema-end
-part-with-schema-end c = bytes-in _ (c .before .before .n .given .1) (c .before .before .before .before .before .read-all .ensures)
+part-compile-and-answer-end : tie.Need-part-compile-and-answer-end
+part-compile-and-answer-end c = bytes-in _ (c .before .before .n .given .1) (c .before .before .before .before .before .read-all .ensures)
 
-with-schema-requires : tie.Need-with-schema-requires
-with-schema-requires c κs = search needs
+compile-and-answer-requires : tie.Need-compile-and-answer-requires
+compile-and-answer-requires c κs = search needs
 
 returns : tie.Need-returns
 returns c = search needs
@@ -54,9 +54,9 @@ run-spec =
     slice-aggregate-write-all
     write-all-requires
     enum-known-n
-    sub-with-schema
-    part-with-schema-start
-    part-with-schema-end
-    with-schema-requires
+    sub-compile-and-answer
+    part-compile-and-answer-start
+    part-compile-and-answer-end
+    compile-and-answer-requires
     returns
     returns-2)

@@ -3,7 +3,7 @@ use borrow.Author.Tests.{not-true, not-false}
 use mathlib.Core.Path.{refl}
 use native.Mathlib.Omega.{arith}
 use borrow.Author.Needs.{needs}
-use Rattle.definitions.proofs.UnionLaws.{union-no-base, union-no-tag, union-bad-tag, union-handed}
+use Rattle.definitions.proofs.UnionLaws.{union-no-base, union-no-discriminator, union-bad-discriminator, union-handed}
 use Rattle.definitions.proofs.Stores.{handed, refused}
 use Rattle.definitions.proofs.bodies.put_union.Statement.{statement}
 use Rattle.definitions.proofs.bodies.put_union.Tie as tie
@@ -24,7 +24,7 @@ value-at-requires-2 : tie.Need-value-at-requires-2
 value-at-requires-2 c κs = search needs
 
 returns-2 : tie.Need-returns-2
-returns-2 c = refused refl (union-no-tag (c .before .before .before .before .value-at .ensures) (c .before .value-at2 .ensures) (c .if2 .taken))
+returns-2 c = refused refl (union-no-discriminator (c .before .before .before .before .value-at .ensures) (c .before .value-at2 .ensures) (c .if2 .taken))
 
 is-string-requires : tie.Need-is-string-requires
 is-string-requires c κs = search needs
@@ -34,7 +34,7 @@ returns-3 c =
     let if2 = c .before .before .if2 in
     let value-at2 = c .before .before .before .value-at2 in
     let value-at = c .before .before .before .before .before .before .value-at in
-    refused refl (union-bad-tag (value-at .ensures) (value-at2 .ensures) (if2 .left) (c .before .is-string .ensures) (not-true _ (c .if3 .taken)))
+    refused refl (union-bad-discriminator (value-at .ensures) (value-at2 .ensures) (if2 .left) (c .before .is-string .ensures) (not-true _ (c .if3 .taken)))
 
 slice-aggregate-value-at-3 : tie.Need-slice-aggregate-value-at-3
 slice-aggregate-value-at-3 c = search needs

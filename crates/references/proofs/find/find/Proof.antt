@@ -12,8 +12,8 @@ Inv-loop s rows heads links name structs link₀ left₀ link left = Left s rows
 abbrev μ-loop : tie.MeasureT-loop
 μ-loop s rows heads links name structs link₀ left₀ link left = left
 
-mark-of-requires : tie.Need-mark-of-requires Inv-loop μ-loop
-mark-of-requires c κs = search needs
+hash-of-requires : tie.Need-hash-of-requires Inv-loop μ-loop
+hash-of-requires c κs = search needs
 
 first-requires : tie.Need-first-requires Inv-loop μ-loop
 first-requires c κs = search needs
@@ -22,7 +22,7 @@ loop-holds : tie.Need-loop-holds Inv-loop μ-loop
 loop-holds c = left-start
 
 returns : tie.Need-returns Inv-loop μ-loop
-returns c = left-end (c .before .before .before .before .mark-of .ensures) (c .before .before .before .first .ensures) (c .before .before .loop .inv) (c .if1 .taken)
+returns c = left-end (c .before .before .before .before .hash-of .ensures) (c .before .before .before .first .ensures) (c .before .before .loop .inv) (c .if1 .taken)
 
 sub-r : tie.Need-sub-r Inv-loop μ-loop
 sub-r c = search needs
@@ -36,7 +36,7 @@ cast-result c = let a = c .before .before .before .before .before .before .befor
 returns-2 : tie.Need-returns-2 Inv-loop μ-loop
 returns-2 c =
     let a = c .before .before .before .before .before .before .before .before .before .before .before .args in
-    left-hit (c .before .before .before .before .before .before .mark-of .ensures) (c .before .before .before .before .before .first .ensures) (c .before .before .before .before .loop .inv) (left-small (a .s .now) (a .rows .now) (a .structs) (a .name .now) (c .before .before .before .before .before .before .before .before .before .before .before .pre) (c .before .is-named .ensures) (c .if2 .taken)) (search needs) (c .before .is-named .ensures) (c .if2 .taken)
+    left-hit (c .before .before .before .before .before .before .hash-of .ensures) (c .before .before .before .before .before .first .ensures) (c .before .before .before .before .loop .inv) (left-small (a .s .now) (a .rows .now) (a .structs) (a .name .now) (c .before .before .before .before .before .before .before .before .before .before .before .pre) (c .before .is-named .ensures) (c .if2 .taken)) (search needs) (c .before .is-named .ensures) (c .if2 .taken)
 
 next-requires : tie.Need-next-requires Inv-loop μ-loop
 next-requires c κs = search needs
@@ -51,7 +51,7 @@ loop-again : tie.Need-loop-again Inv-loop μ-loop
 loop-again c = left-on (c .before .before .before .before .before .loop .inv) (search needs) (c .before .before .is-named .ensures) (c .before .if2 .left) (c .next .ensures)
 
 returns-3 : tie.Need-returns-3 Inv-loop μ-loop
-returns-3 c = left-out (c .before .before .before .mark-of .ensures) (c .before .before .first .ensures) (c .before .loop .inv) (search needs)
+returns-3 c = left-out (c .before .before .before .hash-of .ensures) (c .before .before .first .ensures) (c .before .loop .inv) (search needs)
 
 pub find-spec : {M : Type 1} → statement M
 find-spec =
@@ -59,7 +59,7 @@ find-spec =
     (tie.spec
     Inv-loop
     μ-loop
-    mark-of-requires
+    hash-of-requires
     first-requires
     loop-holds
     returns

@@ -6,10 +6,10 @@ use Rattle.rows.proofs.index.is_unlisted.Statement.{statement}
 use Rattle.rows.proofs.index.is_unlisted.Tie as tie
 
 abbrev Inv-loop : tie.InvT-loop
-Inv-loop schema rows marks links head name mark word₀ left₀ word left = NameWalk schema rows links name head word left
+Inv-loop schema rows hashes links head name hash word₀ left₀ word left = NameWalk schema rows links name head word left
 
 abbrev μ-loop : tie.MeasureT-loop
-μ-loop schema rows marks links head name mark word₀ left₀ word left = left
+μ-loop schema rows hashes links head name hash word₀ left₀ word left = left
 
 loop-holds : tie.Need-loop-holds Inv-loop μ-loop
 loop-holds c = name-start

@@ -17,11 +17,11 @@ use Rattle.rows.proofs.index.listed_apart.Statement.{statement}
 use Rattle.rows.proofs.index.listed_apart.Tie as tie
 
 abbrev Inv-loop : tie.InvT-loop
-Inv-loop schema rows marks a n heads₀ links₀ i₀ left₀ heads links i left =
+Inv-loop schema rows hashes a n heads₀ links₀ i₀ left₀ heads links i left =
     Room i left × (past rows i left ≤ length links) × (length links ≡ length links₀) × RunIndex schema rows (apart clash (namesOf schema rows (walk rows a n))) heads links i left
 
 abbrev μ-loop : tie.MeasureT-loop
-μ-loop schema rows marks a n heads₀ links₀ i₀ left₀ heads links i left = left
+μ-loop schema rows hashes a n heads₀ links₀ i₀ left₀ heads links i left = left
 
 loop-holds : tie.Need-loop-holds Inv-loop μ-loop
 loop-holds c = let p = c .before .before .before .before .pre in (p .1, p .2, refl, run-start _ _ _ _ _ (p .4))

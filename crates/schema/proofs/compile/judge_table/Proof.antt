@@ -12,8 +12,8 @@ slice-aggregate-resolve c = search needs
 resolve-requires : tie.Need-resolve-requires
 resolve-requires c κs = search needs
 
-array-borrow-prefix-marks : tie.Need-array-borrow-prefix-marks
-array-borrow-prefix-marks c = search needs
+array-borrow-prefix-hashes : tie.Need-array-borrow-prefix-hashes
+array-borrow-prefix-hashes c = search needs
 
 slice-aggregate-judge-names : tie.Need-slice-aggregate-judge-names
 slice-aggregate-judge-names c = sym (length-take-le _ _ (search needs))
@@ -39,7 +39,7 @@ judge-table-spec =
     (tie.spec
     slice-aggregate-resolve
     resolve-requires
-    array-borrow-prefix-marks
+    array-borrow-prefix-hashes
     slice-aggregate-judge-names
     slice-aggregate-judge-names-2
     judge-names-requires

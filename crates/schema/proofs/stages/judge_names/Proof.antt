@@ -16,8 +16,8 @@ good-names-requires c κs = search needs
 returns : tie.Need-returns
 returns c = let p = c .before .before .before .before .before .before .before .pre in let S = c .before .before .before .before .before .before .before .args .schema .now in broken (p .4) BadName (goodNames S) refl (p .3) (denied (c .before .good-names .ensures) (c .if1 .taken))
 
-put-marks-requires : tie.Need-put-marks-requires
-put-marks-requires c κs = search needs
+put-hashes-requires : tie.Need-put-hashes-requires
+put-hashes-requires c κs = search needs
 
 distinct-names-requires : tie.Need-distinct-names-requires
 distinct-names-requires c κs = search needs
@@ -64,7 +64,7 @@ judge-names-spec =
     (tie.spec
     good-names-requires
     returns
-    put-marks-requires
+    put-hashes-requires
     distinct-names-requires
     same-length
     same-length-2

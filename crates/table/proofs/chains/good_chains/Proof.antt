@@ -12,10 +12,10 @@ use Rattle.table.proofs.chains.good_chains.Statement.{statement}
 use Rattle.table.proofs.chains.good_chains.Tie as tie
 
 abbrev Inv-loop : tie.InvT-loop
-Inv-loop schema rows marks n r₀ r = KindLeft (goodChains schema rows) rows 3 (chainFits schema rows) r n
+Inv-loop schema rows hashes n r₀ r = KindLeft (goodChains schema rows) rows 3 (chainFits schema rows) r n
 
 abbrev μ-loop : tie.MeasureT-loop
-μ-loop schema rows marks n r₀ r = n - r
+μ-loop schema rows hashes n r₀ r = n - r
 
 loop-holds : tie.Need-loop-holds Inv-loop μ-loop
 unfolding goodChains

@@ -12,17 +12,17 @@ use Rattle.table.proofs.chains.has_child.Statement.{statement}
 use Rattle.table.proofs.chains.has_child.Tie as tie
 
 abbrev Inv-loop : tie.InvT-loop
-Inv-loop schema rows marks r c name mark i₀ left₀ i left =
+Inv-loop schema rows hashes r c name hash i₀ left₀ i left =
     Room i left × AnyWalk (hasChild schema rows r (nameOf schema rows c)) rows (λ k. sameName (nameOf schema rows c) (nameOf schema rows k)) i left
 
 abbrev μ-loop : tie.MeasureT-loop
-μ-loop schema rows marks r c name mark i₀ left₀ i left = left
+μ-loop schema rows hashes r c name hash i₀ left₀ i left = left
 
 name-of-requires : tie.Need-name-of-requires Inv-loop μ-loop
 name-of-requires c κs = search needs
 
-mark-of-requires : tie.Need-mark-of-requires Inv-loop μ-loop
-mark-of-requires c κs = search needs
+hash-of-requires : tie.Need-hash-of-requires Inv-loop μ-loop
+hash-of-requires c κs = search needs
 
 first-child-requires : tie.Need-first-child-requires Inv-loop μ-loop
 first-child-requires c κs = search needs
@@ -35,7 +35,7 @@ loop-holds c =
     (children-room (c .before .first-child .ensures) (c .child-count .ensures), has-child-walk _ _ (c .before .first-child .ensures) (c .child-count .ensures) _)
 
 is-named-requires : tie.Need-is-named-requires Inv-loop μ-loop
-is-named-requires c κs = (c .before .before .before .before .before .before .before .before .before .pre .1, c .before .before .before .before .mark-of .ensures)
+is-named-requires c κs = (c .before .before .before .before .before .before .before .before .before .pre .1, c .before .before .before .before .hash-of .ensures)
 
 returns : tie.Need-returns Inv-loop μ-loop
 returns c =
@@ -68,7 +68,7 @@ has-child-spec =
     Inv-loop
     μ-loop
     name-of-requires
-    mark-of-requires
+    hash-of-requires
     first-child-requires
     child-count-requires
     loop-holds

@@ -17,11 +17,11 @@ use Rattle.table.proofs.names.children_apart.Statement.{statement}
 use Rattle.table.proofs.names.children_apart.Tie as tie
 
 abbrev Inv-loop : tie.InvT-loop
-Inv-loop schema rows marks links₀ n r₀ links r =
+Inv-loop schema rows hashes links₀ n r₀ links r =
     (length links ≡ length links₀) × (childrenApart schema rows ≡ upTo (λ x. apart clash (namesOf schema rows (children rows x))) r n)
 
 abbrev μ-loop : tie.MeasureT-loop
-μ-loop schema rows marks links₀ n r₀ links r = n - r
+μ-loop schema rows hashes links₀ n r₀ links r = n - r
 
 loop-holds : tie.Need-loop-holds Inv-loop μ-loop
 loop-holds c = (refl, upTo-rows _ (c .before .before .before .before .args .rows .now))

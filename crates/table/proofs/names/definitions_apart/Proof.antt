@@ -10,10 +10,10 @@ use Rattle.table.proofs.names.definitions_apart.Statement.{statement}
 use Rattle.table.proofs.names.definitions_apart.Tie as tie
 
 abbrev Inv-loop : tie.InvT-loop
-Inv-loop schema rows marks heads₀ links₀ r₀ heads links r = (length links ≡ length links₀) × ClearFrom schema rows heads links r
+Inv-loop schema rows hashes heads₀ links₀ r₀ heads links r = (length links ≡ length links₀) × ClearFrom schema rows heads links r
 
 abbrev μ-loop : tie.MeasureT-loop
-μ-loop schema rows marks heads₀ links₀ r₀ heads links r = r
+μ-loop schema rows hashes heads₀ links₀ r₀ heads links r = r
 
 loop-holds : tie.Need-loop-holds Inv-loop μ-loop
 loop-holds c = (refl, clear-start _ _ _ (c .before .before .before .before .pre .3))

@@ -10,8 +10,8 @@ is-definition-requires c κs = search needs
 name-of-requires : tie.Need-name-of-requires
 name-of-requires c κs = search needs
 
-mark-of-requires : tie.Need-mark-of-requires
-mark-of-requires c κs = search needs
+hash-of-requires : tie.Need-hash-of-requires
+hash-of-requires c κs = search needs
 
 add-requires : tie.Need-add-requires
 add-requires c κs = search needs
@@ -20,7 +20,7 @@ same-length : tie.Need-same-length
 same-length c = search needs
 
 returns : tie.Need-returns
-returns c = row-entered (c .before .before .before .before .before .before .before .before .before .before .before .before .args .r) (c .before .before .before .before .before .before .before .before .is-definition .ensures) (c .before .before .before .before .before .before .before .if1 .taken) (c .before .before .before .before .name-of .ensures) (c .before .before .before .mark-of .ensures) (c .before .before .before .before .before .before .before .before .before .before .before .before .pre .0) (c .before .before .add .ensures)
+returns c = row-entered (c .before .before .before .before .before .before .before .before .before .before .before .before .args .r) (c .before .before .before .before .before .before .before .before .is-definition .ensures) (c .before .before .before .before .before .before .before .if1 .taken) (c .before .before .before .before .name-of .ensures) (c .before .before .before .hash-of .ensures) (c .before .before .before .before .before .before .before .before .before .before .before .before .pre .0) (c .before .before .add .ensures)
 
 returns-2 : tie.Need-returns-2
 returns-2 c = row-left (c .before .before .before .before .before .args .r) (c .before .is-definition .ensures) (c .if1 .left)
@@ -31,7 +31,7 @@ index-row-spec =
     (tie.spec
     is-definition-requires
     name-of-requires
-    mark-of-requires
+    hash-of-requires
     add-requires
     same-length
     returns

@@ -23,8 +23,8 @@ is-shaped-requires c κs = search needs
 returns-4 : tie.Need-returns-4
 returns-4 c = not-shaped _ _ (c .before .before .before .before .if1 .left) (c .before .before .before .if2 .left) (c .before .before .if3 .left) (denied (c .before .is-shaped .ensures) (c .if4 .taken))
 
-array-borrow-prefix-marks : tie.Need-array-borrow-prefix-marks
-array-borrow-prefix-marks c = search needs
+array-borrow-prefix-hashes : tie.Need-array-borrow-prefix-hashes
+array-borrow-prefix-hashes c = search needs
 
 slice-aggregate-keeps-rules : tie.Need-slice-aggregate-keeps-rules
 slice-aggregate-keeps-rules c = sym (length-take-le _ _ (search needs))
@@ -47,7 +47,7 @@ is-sound-spec =
     returns-3
     is-shaped-requires
     returns-4
-    array-borrow-prefix-marks
+    array-borrow-prefix-hashes
     slice-aggregate-keeps-rules
     slice-aggregate-keeps-rules-2
     keeps-rules-requires

@@ -13,8 +13,8 @@ returns : tie.Need-returns
 unfolding keepsRules
 returns c = rw (denied (c .before .good-names .ensures) (c .if1 .taken))
 
-put-marks-requires : tie.Need-put-marks-requires
-put-marks-requires c κs = search needs
+put-hashes-requires : tie.Need-put-hashes-requires
+put-hashes-requires c κs = search needs
 
 distinct-names-requires : tie.Need-distinct-names-requires
 distinct-names-requires c κs = search needs
@@ -48,7 +48,7 @@ keeps-rules-spec =
     (tie.spec
     good-names-requires
     returns
-    put-marks-requires
+    put-hashes-requires
     distinct-names-requires
     same-length
     same-length-2

@@ -13,10 +13,10 @@ use Rattle.table.proofs.unions.branches_fit.Statement.{statement}
 use Rattle.table.proofs.unions.branches_fit.Tie as tie
 
 abbrev Inv-loop : tie.InvT-loop
-Inv-loop schema rows marks r e base b₀ left₀ b left = Room b left × AllWalk (all (branchNew schema rows e base) (children rows r)) rows (branchNew schema rows e base) b left
+Inv-loop schema rows hashes r e base b₀ left₀ b left = Room b left × AllWalk (all (branchNew schema rows e base) (children rows r)) rows (branchNew schema rows e base) b left
 
 abbrev μ-loop : tie.MeasureT-loop
-μ-loop schema rows marks r e base b₀ left₀ b left = left
+μ-loop schema rows hashes r e base b₀ left₀ b left = left
 
 first-child-requires : tie.Need-first-child-requires Inv-loop μ-loop
 first-child-requires c κs = search needs

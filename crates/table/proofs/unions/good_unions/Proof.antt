@@ -12,10 +12,10 @@ use Rattle.table.proofs.unions.good_unions.Statement.{statement}
 use Rattle.table.proofs.unions.good_unions.Tie as tie
 
 abbrev Inv-loop : tie.InvT-loop
-Inv-loop schema rows marks n r₀ r = KindLeft (goodUnions schema rows) rows 5 (unionFits schema rows) r n
+Inv-loop schema rows hashes n r₀ r = KindLeft (goodUnions schema rows) rows 5 (unionFits schema rows) r n
 
 abbrev μ-loop : tie.MeasureT-loop
-μ-loop schema rows marks n r₀ r = n - r
+μ-loop schema rows hashes n r₀ r = n - r
 
 loop-holds : tie.Need-loop-holds Inv-loop μ-loop
 unfolding goodUnions

@@ -29,8 +29,8 @@ same-length c = search needs
 returns : tie.Need-returns Inv-loop μ-loop
 returns c = listing-stuck (c .before .before .before .loop .inv .1) _ (search needs) (c .before .node-number .ensures) (c .if1 .taken)
 
-key-mark-requires : tie.Need-key-mark-requires Inv-loop μ-loop
-key-mark-requires c κs = search needs
+key-hash-requires : tie.Need-key-hash-requires Inv-loop μ-loop
+key-hash-requires c κs = search needs
 
 first-requires : tie.Need-first-requires Inv-loop μ-loop
 first-requires c κs = search needs
@@ -42,7 +42,7 @@ same-length-2 : tie.Need-same-length-2 Inv-loop μ-loop
 same-length-2 c = search needs
 
 returns-2 : tie.Need-returns-2 Inv-loop μ-loop
-returns-2 c = listing-hit (c .before .before .before .before .before .before .before .before .before .loop .inv .1) (c .before .before .before .before .before .key-mark .ensures) (c .before .before .before .first .ensures) (c .before .is-unlisted .ensures) (search needs) (not-true _ (c .if2 .taken))
+returns-2 c = listing-hit (c .before .before .before .before .before .before .before .before .before .loop .inv .1) (c .before .before .before .before .before .key-hash .ensures) (c .before .before .before .first .ensures) (c .before .is-unlisted .ensures) (search needs) (not-true _ (c .if2 .taken))
 
 add-requires : tie.Need-add-requires Inv-loop μ-loop
 add-requires c κs = (omega (arith, c .before .before .before .before .before .before .before .before .before .before .before .before .before .before .before .pre .0, c .before .before .before .before .before .before .before .before .before .before .before .loop .inv .0, c .before .before .before .before .before .before .before .before .before .before .loop-test .taken), omega (arith, c .before .before .before .before .before .before .before .before .before .before .before .before .before .before .before .pre .0, c .before .before .before .before .before .before .before .before .before .before .before .before .before .before .before .pre .1, c .before .before .before .before .before .before .before .before .before .before .loop-test .taken))
@@ -54,7 +54,7 @@ loop-again : tie.Need-loop-again Inv-loop μ-loop
 loop-again c =
     let l = c .before .before .before .before .before .before .before .before .before .before .before .before .before .before .loop in (
       ap length (c .before .before .add .ensures .link) ∙ length-set (l .links) _ _ ∙ l .inv .0,
-      listing-on (l .inv .1) (c .before .before .before .before .before .before .before .before .before .before .key-mark .ensures) (c .before .before .before .before .before .before .before .before .first .ensures) (c .before .before .before .before .before .before .is-unlisted .ensures) (c .before .before .before .before .before .before .before .before .before .before .before .before .before .loop-test .taken) (omega (arith, c .before .before .before .before .before .before .before .before .before .before .before .before .before .before .before .before .before .before .pre .0, l .inv .0, c .before .before .before .before .before .before .before .before .before .before .before .before .before .loop-test .taken)) (c .before .before .before .before .before .before .before .before .before .before .before .before .node-number .ensures) (not-false _ (c .before .before .before .before .before .if2 .left)) (c .before .before .add .ensures),
+      listing-on (l .inv .1) (c .before .before .before .before .before .before .before .before .before .before .key-hash .ensures) (c .before .before .before .before .before .before .before .before .first .ensures) (c .before .before .before .before .before .before .is-unlisted .ensures) (c .before .before .before .before .before .before .before .before .before .before .before .before .before .loop-test .taken) (omega (arith, c .before .before .before .before .before .before .before .before .before .before .before .before .before .before .before .before .before .before .pre .0, l .inv .0, c .before .before .before .before .before .before .before .before .before .before .before .before .before .loop-test .taken)) (c .before .before .before .before .before .before .before .before .before .before .before .before .node-number .ensures) (not-false _ (c .before .before .before .before .before .if2 .left)) (c .before .before .add .ensures),
     )
 
 same-length-3 : tie.Need-same-length-3 Inv-loop μ-loop
@@ -73,7 +73,7 @@ are-listed-apart-spec =
     node-number-requires
     same-length
     returns
-    key-mark-requires
+    key-hash-requires
     first-requires
     is-unlisted-requires
     same-length-2

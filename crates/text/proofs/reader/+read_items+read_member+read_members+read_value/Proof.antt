@@ -26,8 +26,8 @@ use Rattle.text.proofs.reader.read_value.Reads as read-value
 use Rattle.text.proofs.reader.read_value.Kinds as read-value-kinds
 use Rattle.text.proofs.reader.+read_items+read_member+read_members+read_value.Lts-read_value as read-value-lts
 use Rattle.tokens.proofs.blanks.skip_blanks.Reads as blanks
-use Rattle.tokens.proofs.members.read_following.Reads as following
-use Rattle.tokens.proofs.members.read_key.Reads as key
+use Rattle.tokens.proofs.separators.read_following.Reads as following
+use Rattle.tokens.proofs.separators.read_key.Reads as key
 use Rattle.text.proofs.nodes.put_node.Reads as put
 use Rattle.text.proofs.reader.scalar_node.Reads as scalar
 use Rattle.text.proofs.reader.stands.Reads as stands
