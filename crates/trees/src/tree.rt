@@ -36,6 +36,14 @@ pub struct Progress {
     pub at: usize,
 }
 
+// What a record says of a value: where it stands in the message, and its type.
+struct Typed {
+    start: usize,
+    end: usize,
+    reference: u32,
+    array: u32,
+}
+
 fn put_spaces(out: &mut [u8], at: usize, count: usize) -> usize
     requires { ⌜ at + count ≤ length (now out) ⌝ }
     ensures { λ r. ⌜ Puts (replicate count 32) at (now (out .entry)) (now (out .exit)) r ⌝ }
@@ -92,20 +100,17 @@ fn put_right(
     schema: &[u8],
     table: &[u32],
     message: &[u8],
-    start: usize,
-    end: usize,
-    reference: u32,
-    array: u32,
+    value: Typed,
     out: &mut [u8],
     at: usize,
 ) -> usize
     requires { ⌜ at + right-room ≤ length (now out) ⌝ }
-    ensures { λ r. ⌜ Puts (rightText (now (schema .entry)) (now (table .entry)) (now (message .entry)) start end reference array) at (now (out .entry)) (now (out .exit)) r ⌝ }
+    ensures { λ r. ⌜ Puts (rightText (now (schema .entry)) (now (table .entry)) (now (message .entry)) (value .start) (value .end) (value .reference) (value .array)) at (now (out .entry)) (now (out .exit)) r ⌝ }
 {
     let a = put_bytes(out, at, b": ");
-    let b = put_type(schema, table, reference, array, out, a);
+    let b = put_type(schema, table, value.reference, value.array, out, a);
     let c = put_bytes(out, b, b" = ");
-    let d = put_value(message, start, end, out, c);
+    let d = put_value(message, value.start, value.end, out, c);
     put_bytes(out, d, b"\n")
 }
 
@@ -115,35 +120,34 @@ fn put_next(
     table: &[u32],
     message: &[u8],
     records: &[u32],
-    n: usize,
+    from: Progress,
     ends: &mut [u32],
-    around: usize,
     out: &mut [u8],
-    at: usize,
 ) -> Progress
-    requires { ⌜ at + line-room ≤ length (now out) ⌝ }
-    ensures { λ r. ⌜ One (now (schema .entry)) (now (table .entry)) (now (message .entry)) (now (records .entry)) (length (now (ends .entry))) n (before (now (ends .entry)) around) at (now (out .entry)) (now (out .exit)) (r .next) (before (now (ends .exit)) (r .around)) (r .at) ⌝ }
+    requires { ⌜ from .at + line-room ≤ length (now out) ⌝ }
+    ensures { λ r. ⌜ One (now (schema .entry)) (now (table .entry)) (now (message .entry)) (now (records .entry)) (length (now (ends .entry))) (from .next) (before (now (ends .entry)) (from .around)) (from .at) (now (out .entry)) (now (out .exit)) (r .next) (before (now (ends .exit)) (r .around)) (r .at) ⌝ }
 {
+    let n = from.next;
     let step = ask(message, n, records);
     let seen = step.seen;
     let next = step.next;
     match seen {
-        Seen::Nothing => Progress { next, around, at },
+        Seen::Nothing => Progress {
+            next,
+            around: from.around,
+            at: from.at,
+        },
         Seen::Record(start, end, reference, array) => {
             let a = wide(start);
-            let k = still_open(ends, around, a);
-            let p = put_left(table, message, records, n, a, k, out, at);
-            let e = put_right(
-                schema,
-                table,
-                message,
-                a,
-                wide(end),
+            let k = still_open(ends, from.around, a);
+            let p = put_left(table, message, records, n, a, k, out, from.at);
+            let value = Typed {
+                start: a,
+                end: wide(end),
                 reference,
                 array,
-                out,
-                p,
-            );
+            };
+            let e = put_right(schema, table, message, value, out, p);
             let inside = open_record(ends, k, end);
             Progress {
                 next,
@@ -171,7 +175,12 @@ pub fn put_tree(
     let mut k = around;
     let mut at = 0;
     while LINE <= out.len() - at {
-        let p = put_next(schema, table, message, records, i, ends, k, out, at);
+        let here = Progress {
+            next: i,
+            around: k,
+            at,
+        };
+        let p = put_next(schema, table, message, records, here, ends, out);
         let next = p.next;
         k = p.around;
         at = p.at;

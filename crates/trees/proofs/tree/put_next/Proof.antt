@@ -38,7 +38,7 @@ open-record-requires c κs = search needs
 returns : tie.Need-returns
 returns c =
     let a = c .before .before .before .before .before .before .before .before .before .args in
-    one-none (a .schema .now) (a .table .now) (a .message .now) (a .records .now) (length (a .ends .now)) (a .n) (before (a .ends .now) (a .around)) (c .before .before .ask .ensures) refl refl (c .enum-told .given .1) (omega (arith, c .before .before .before .before .before .before .before .before .before .pre))
+    one-none (a .schema .now) (a .table .now) (a .message .now) (a .records .now) (length (a .ends .now)) (a .from .next) (before (a .ends .now) (a .from .around)) (c .before .before .ask .ensures) refl refl (c .enum-told .given .1) (omega (arith, c .before .before .before .before .before .before .before .before .before .pre))
 
 same-length : tie.Need-same-length
 same-length c = search needs
@@ -49,7 +49,7 @@ same-length-2 c = search needs
 returns-2 : tie.Need-returns-2
 returns-2 c =
     let a = c .before .before .before .before .before .before .before .before .before .before .before .before .before .before .before .before .before .before .before .before .before .before .before .before .before .before .args in
-    one-line (a .schema .now) (a .table .now) (a .message .now) (a .records .now) (length (a .ends .now)) (a .n) (before (a .ends .now) (a .around)) (c .before .before .before .before .before .before .before .before .before .before .before .before .before .before .before .before .before .before .before .ask .ensures) (a .ends .now) (c .before .before .before .before .before .before .before .before .before .before .before .before .before .still-open .result) refl refl (c .before .before .before .before .before .before .before .before .before .before .before .before .before .before .before .before .before .seen .given .1) (c .before .before .before .before .before .before .before .before .before .before .before .before .before .before .before .wide .ensures) (c .before .before .before .before .before .before .before .before .wide2 .ensures)
+    one-line (a .schema .now) (a .table .now) (a .message .now) (a .records .now) (length (a .ends .now)) (a .from .next) (before (a .ends .now) (a .from .around)) (c .before .before .before .before .before .before .before .before .before .before .before .before .before .before .before .before .before .before .before .ask .ensures) (a .ends .now) (c .before .before .before .before .before .before .before .before .before .before .before .before .before .still-open .result) refl refl (c .before .before .before .before .before .before .before .before .before .before .before .before .before .before .before .before .before .seen .given .1) (c .before .before .before .before .before .before .before .before .before .before .before .before .before .before .before .wide .ensures) (c .before .before .before .before .before .before .before .before .wide2 .ensures)
     (c .before .before .before .before .before .before .before .before .before .before .before .before .before .still-open .ensures .0) (c .before .before .before .before .before .before .before .before .before .before .before .put-left .ensures .0) (c .before .before .before .before .before .before .put-right .ensures) (c .before .before .open-record .ensures)
 
 pub put-next-spec : {M : Type 1} → statement M
