@@ -174,9 +174,6 @@ module _ (f g : Name → ℕ) (h k : ℕ → Name → ℕ) where
           let m : length es ≤ r = ltb-false r (length es) e in
           word-past f g h es r i m ∙ sym (word-past f g k es r i m)
 
-  pub table-alike : (ds : List Definition) → Alike (tableFrom f g h 0 ds) (tableFrom f g k 0 ds)
-  table-alike ds = rw (table-words f g h 0 ds, table-words f g k 0 ds) (words-alike (entries ds))
-
 -- members are rows of the table
 module _ (f g : Name → ℕ) (h : ℕ → Name → ℕ) (ds : List Definition) (p : EveryName Behind ds) where
   abbrev T : List ℕ

@@ -157,10 +157,6 @@ module _ (T : List ℕ) where
   unfolding children
   children-length r = walk-length T (childCount T r) (firstChild T r)
 
-  pub children-bounds : (r x : ℕ) → List·Memᴰ x (children T r) → (firstChild T r ≤ x) × (x < pastChildren T r)
-  unfolding children pastChildren
-  children-bounds r x m = walk-bounds T (childCount T r) (firstChild T r) x m
-
   pub in-children : (r x : ℕ) → firstChild T r ≤ x → x < pastChildren T r → List·Memᴰ x (children T r)
   unfolding children pastChildren
   in-children r x p q = in-walk T (childCount T r) (firstChild T r) x p q

@@ -3,7 +3,6 @@
 use Prim.Native.Nat.{ℕ, zero, suc, _-_}
 use mathlib.Core.Path.{_≡_, refl, sym, ap, ap₂, _∙_}
 use mathlib.Core.Bool.{Bool, true, false, not, _&&_, _||_}
-use mathlib.Core.Logic.{_↔_}
 use mathlib.Core.List.{List, [], _++_}
 use mathlib.Core.Option.{Option, none, some}
 use native.Mathlib.Omega.{arith}
@@ -13,7 +12,7 @@ use Rattle.grammar.specs.Notation.{all}
 use Rattle.rules.specs.Names.{sameName, clash}
 use Rattle.rules.specs.Rows.{base, walk, children, members, after, nameOf}
 use Rattle.rules.specs.Rules.{any, is, namesOf, noClash, base-structs, chainFits}
-use Rattle.rules.proofs.Lists.{none-not-some, is-true}
+use Rattle.rules.proofs.Lists.{none-not-some}
 use Rattle.rules.proofs.Clashes.{fresh}
 use Rattle.rows.specs.Rows.{First, Counted}
 use Rattle.table.specs.declared.chains.Against.{Against}
@@ -80,12 +79,6 @@ module _ (T : List ℕ) where
       go : (o : Option (List ℕ)) → is o (λ _. true) ≡ is (after o (children T r)) (λ _. true)
       go none = refl
       go (some ms) = refl
-
-  pub ends-exactly : (n l : ℕ) → (chainEnds T n l ≡ true) ↔ ((ms : List ℕ) × (members T n l ≡ some ms))
-  ends-exactly n l = (
-    λ e. let m = is-true (members T n l) (λ _. true) (sym (ends-is n l) ∙ e) in (m .0, m .1),
-    λ m. ends-is n l ∙ ap (λ (o : Option (List ℕ)). is o (λ _. true)) (m .1),
-  )
 
 -- names of children and of members
 module _ (S T : List ℕ) where

@@ -4,25 +4,18 @@ use native.Mathlib.Omega.{arith}
 use mathlib.Core.Path.{_≡_, refl, sym, ap, _∙_}
 use mathlib.Core.Bool.{Bool, true, false}
 use mathlib.Core.List.{List, [], _∷_}
-use lib.ListN.{length, take, drop, getD}
+use lib.ListN.{length, getD}
 use borrow.Author.Tests.{lt-ltb, le-ltb, eq-eqb, ne-eqb}
 use Rattle.grammar.specs.Limits.{first-row}
 use Rattle.grammar.specs.Notation.{text}
 use Rattle.rules.specs.Kinds.{struct-kind}
-use Rattle.rules.specs.Rows.{kind, start, size, isStruct, nameOf}
+use Rattle.rules.specs.Rows.{kind, isStruct, nameOf}
 use Rattle.lines.specs.Text.{Puts}
 use Rattle.lines.proofs.TextLaws.{puts-as, puts-on}
-use Rattle.walker.specs.Seeing.{partOf}
 use Rattle.trees.specs.TextTable.{boundsFrom}
 use Rattle.trees.specs.Escapes.{shown}
 use Rattle.trees.specs.Typing.{builtInNames, rowText, rowName, typeName, typeText}
 use Rattle.trees.proofs.TableLaws.{Part, part-at, entry-short}
-
-pub name-part : (S T : List ℕ) (r : ℕ) {a b c d : ℕ} {n : List ℕ} → a ≡ start T r → b ≡ a → c ≡ size T r → d ≡ c → n ≡ partOf S b (b + d) → n ≡ nameOf S T r
-unfolding nameOf partOf
-name-part S T r {b = b} {d = d} p q u v e =
-    let f : (b + d) - b ≡ d = omega arith in
-    e ∙ ap (λ (k : ℕ). take k (drop b S)) f ∙ ap (λ (k : ℕ). take k (drop b S)) (v ∙ u) ∙ ap (λ (k : ℕ). take (size T r) (drop k S)) (q ∙ p)
 
 -- no built-in type's name is longer
 abbrev longest-built-in : ℕ
