@@ -84,6 +84,8 @@ enum windosprio_message_refusal {
  *
  * Gives 0 or a windosprio_schema_refusal. The table of an accepted schema is the first
  * row_count * WINDOSPRIO_ROW_WORDS words; those after it are 0. Stack: WINDOSPRIO_COMPILE_STACK.
+ *
+ * Proved of this call, whatever comes: CompileCall in crates/gateway/specs/Calls.antt.
  */
 uint32_t windosprio_compile_schema(const uint8_t *schema, size_t schema_bytes, uint32_t *rows, size_t row_words,
                                    size_t *row_count);
@@ -100,6 +102,8 @@ uint32_t windosprio_compile_schema(const uint8_t *schema, size_t schema_bytes, u
  *   record_count            set to the number of records, 0 where the message is refused
  *
  * Gives 0 or a windosprio_message_refusal. The words after the last record are 0. Stack: WINDOSPRIO_CHECK_STACK.
+ *
+ * Proved of this call, whatever comes: CheckCall in crates/gateway/specs/Calls.antt.
  */
 uint32_t windosprio_check_message(const uint32_t *table, size_t table_words, const uint8_t *schema, size_t schema_bytes,
                                   const uint8_t *message, size_t message_bytes, uint32_t *records, size_t record_words,
@@ -111,7 +115,7 @@ uint32_t windosprio_check_message(const uint32_t *table, size_t table_words, con
  *   schema, schema_bytes  the schema, read only
  *   table, table_words    the words, read only
  *
- * Stack: WINDOSPRIO_IS_SOUND_STACK.
+ * Stack: WINDOSPRIO_IS_SOUND_STACK. Proved of this call, whatever comes: SoundCall in crates/gateway/specs/Calls.antt.
  */
 bool windosprio_is_sound(const uint8_t *schema, size_t schema_bytes, const uint32_t *table, size_t table_words);
 

@@ -1,4 +1,4 @@
-/* P1 of the paper: compiles a schema of one command, checks a message, and prints both answers as the program does. */
+/* P1 of docs/REFERENCE.md: compiles a schema of one command, checks a message, and prints both answers as the program does. */
 #include <stdio.h>
 #include <string.h>
 

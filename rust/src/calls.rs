@@ -1,4 +1,4 @@
-//! The calls as the library exports them: over slices that the caller lends, with the paper's numbers.
+//! The calls as the library exports them: over slices that the caller lends, with the numbers of docs/REFERENCE.md.
 //!
 //! Any bytes and any words may be handed over. A call sets every word lent to it. A refusal leaves them all zero, an
 //! acceptance those after the last row or record. No call keeps anything, so calls may run on several threads at once.

@@ -3,8 +3,8 @@
 //! the other way round.
 //!
 //! The work is done by a static library written in Rattle, in which every function is proved to meet its contract. This
-//! crate hands slices to it and gives its answers types. "The paper" is the project's scope, whose numbers the refusals
-//! have.
+//! crate hands slices to it and gives its answers types. The rules, and the numbers that refusals have, are in
+//! docs/REFERENCE.md.
 //!
 //! ```
 //! use windosprio::{BuiltIn, MessageRefusal, Schema, Type};
@@ -53,7 +53,7 @@
 //!
 //! # Panics
 //!
-//! The library's contracts rule out an answer that the paper doesn't have. On one this crate panics, as on records that
+//! The library's contracts rule out an answer that the rules don't have. On one this crate panics, as on records that
 //! point nowhere: the library that was linked isn't the proved one.
 //!
 //! # Linking

@@ -27,10 +27,8 @@ pub const IS_SOUND_STACK: usize = 64 * 1_024;
 
 /// As many records as an accepted message of so many bytes can have, so that a room for them is never too small.
 ///
-/// It is the number of bytes. A text of n bytes has at most (n + 1) / 2 values and keys: each takes a byte or more and,
-/// but for the whole, has a comma, a colon or a closing bracket of its own. The envelope, the key `execute` and the
-/// command's name have no record. A value has at most two, an alternate's and its alternative's, which is no alternate.
-/// That makes at most 2 · ((n + 1) / 2 − 3) records, which is less than n. Absent arguments have one record.
+/// It is the number of bytes: a theorem (`crates/rules`, specs/Room `RecordsSuffice`). A value has at most two records,
+/// an alternate's and its alternative's, and its text a byte or more and a comma or a closing bracket after it.
 ///
 /// A message over the limit has none: it is refused.
 pub const fn most_records(message_bytes: usize) -> usize {

@@ -1,4 +1,4 @@
-//! Why a schema or a message is refused, one variant for each number of the paper.
+//! Why a schema or a message is refused, one variant for each number of docs/REFERENCE.md.
 
 use std::error::Error;
 use std::fmt;
@@ -20,12 +20,12 @@ macro_rules! refusals {
             /// All of them, by number.
             pub const ALL: &'static [Self] = &[$(Self::$variant),*];
 
-            /// The paper's number.
+            /// Its number.
             pub const fn number(self) -> u32 {
                 self as u32
             }
 
-            /// The refusal that has a number of the paper.
+            /// The refusal that has a number, if one does.
             pub const fn from_number(number: u32) -> Option<Self> {
                 match number {
                     $($number => Some(Self::$variant),)*
@@ -33,9 +33,9 @@ macro_rules! refusals {
                 }
             }
 
-            /// The refusal of an answer, whose number is one of the paper by the library's contract.
+            /// The refusal of an answer, whose number is one of a refusal by the library's contract.
             pub(crate) fn answered(number: u32) -> Self {
-                Self::from_number(number).unwrap_or_else(|| panic!("the library answered {number}, no number of the paper"))
+                Self::from_number(number).unwrap_or_else(|| panic!("the library answered {number}, no number of a refusal"))
             }
         }
 
@@ -100,7 +100,7 @@ mod tests {
     use super::*;
 
     #[test]
-    fn every_number_of_the_paper_has_its_refusal() {
+    fn every_number_has_its_refusal() {
         assert!(SchemaRefusal::ALL.iter().map(|refusal| refusal.number()).eq(1..=13));
         assert!(MessageRefusal::ALL.iter().map(|refusal| refusal.number()).eq(21..=30));
         assert!(SchemaRefusal::ALL.iter().all(|&x| SchemaRefusal::from_number(x.number()) == Some(x)));

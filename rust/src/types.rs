@@ -42,7 +42,7 @@ impl fmt::Display for Type<'_> {
     }
 }
 
-/// The types that every schema has, with the paper's numbers.
+/// The types that every schema has, with their numbers.
 #[derive(Clone, Copy, Debug, PartialEq, Eq, Hash)]
 #[allow(missing_docs)]
 pub enum BuiltIn {
@@ -83,7 +83,7 @@ impl BuiltIn {
         (BuiltIn::Any, "any"),
     ];
 
-    /// The paper's number, 1 to 15: the reference that a record has.
+    /// Its number, 1 to 15: the type reference that a record has.
     pub const fn number(self) -> u32 {
         self as u32
     }

@@ -1,4 +1,4 @@
-//! P1 to P12 of 01, "Lots on either side of the line", through the calls: every number and every word lent.
+//! P1 to P12 of docs/REFERENCE.md, Cases, through the calls: every number and every word lent.
 
 use windosprio::calls::{check, compile, is_sound};
 
@@ -100,6 +100,6 @@ fn each_message_has_its_answer() {
 }
 
 #[test]
-fn p1_has_the_lengths_the_paper_says() {
+fn p1_has_the_lengths_that_the_cases_say() {
     assert_eq!((STOP_LOT.len(), MESSAGES[0].2.len()), (43, 48));
 }

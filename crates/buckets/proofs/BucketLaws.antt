@@ -9,9 +9,9 @@ use mathlib.Core.List.{List, [], _∷_}
 use lib.Dec.{eqb}
 use lib.ListN.{length, getD, set, replicate, getD-replicate}
 use lib.Seq.{getD-set-same, getD-set-other}
-use borrow.Author.Tests.{eqb-true, eqb-false}
+use borrow.Author.Tests.{eqb-true, eqb-false, eq-eqb}
 use Rattle.grammar.specs.Notation.{all}
-use Rattle.buckets.specs.Buckets.{buckets, bucketOf, Added, All, Free, Chain, inBucket, Indexed}
+use Rattle.buckets.specs.Buckets.{buckets, bucketOf, Added, All, Free, Chain, inBucket, Linked, Indexed}
 
 module _ {A : Type 0} (place : A → ℕ) where
   -- a store at an item that is on no chain
@@ -68,6 +68,17 @@ module _ {A : Type 0} (hash : A → ℕ) where
       go false p true q r = r ∙ sym (ap (λ (x : Bool). x && all g ys) q)
       go false p false q r = absurd (eqb-false (bucketOf (hash y)) (bucketOf m) p (ap bucketOf (f y q)))
 
+-- another hash that is the same of every item
+module _ {A : Type 0} {hash hash′ : A → ℕ} (e : (y : A) → hash y ≡ hash′ y) where
+  bucket-alike : (h : ℕ) (ys : List A) → inBucket hash h ys ≡ inBucket hash′ h ys
+  bucket-alike h [] = refl
+  bucket-alike h (y ∷ ys) = rw (e y, bucket-alike h ys)
+
+  pub linked-alike : (place : A → ℕ) (links : List ℕ) (ys : List A) → Linked place hash links ys → Linked place hash′ links ys
+  linked-alike place links [] l = tt
+  linked-alike place links (y ∷ ys) l =
+      (subst (Chain place links (getD links (place y) 0)) (ap (λ (m : ℕ). inBucket hash (bucketOf m) ys) (e y) ∙ bucket-alike (bucketOf (hash′ y)) ys) (l .0), linked-alike place links ys (l .1))
+
 module _ {A : Type 0} (place hash : A → ℕ) where
   -- with every head 0 there is no item
   pub index-empty : {heads : List ℕ} (links : List ℕ) → heads ≡ replicate buckets 0 → Indexed place hash heads links []
@@ -102,3 +113,26 @@ module _ {A : Type 0} (place hash : A → ℕ) where
             let u : getD heads′ h 0 ≡ getD heads h 0 =
             ap (λ (w : List ℕ). getD w h 0) (a .head) ∙ getD-set-other heads (bucketOf m) h (suc i) 0 (λ e. eqb-false (bucketOf (hash y)) h t (ap bucketOf q ∙ sym e)) in
             subst (λ (w : ℕ). Chain place links′ w (inBucket hash h items)) (sym u) (old h l)
+
+  -- every bucket's items are a chain from somewhere on
+  record Chained (links : List ℕ) (ys : List A) (h : ℕ) : Type 0 where
+    pub head : ℕ
+    pub chain : Chain place links head (inBucket hash h ys)
+
+  linked : (links : List ℕ) (ys : List A) → ((h : ℕ) → h < buckets → Chained links ys h) → Linked place hash links ys
+  linked links [] c = tt
+  linked links (y ∷ ys) c = (here, linked links ys (λ h l. go h (eqb (bucketOf (hash y)) h) (c h l .head) (c h l .chain)))
+    where
+      own : ℕ
+      own = bucketOf (hash y)
+
+      here : Chain place links (getD links (place y) 0) (inBucket hash own ys)
+      here =
+          subst (λ (b : Bool). Chain place links (c own (omega arith) .head) (cond b (y ∷ inBucket hash own ys) (inBucket hash own ys))) (eq-eqb own own refl) (c own (omega arith) .chain) .1
+
+      go : (h : ℕ) (b : Bool) (x : ℕ) → Chain place links x (cond b (y ∷ inBucket hash h ys) (inBucket hash h ys)) → Chained links ys h
+      go h true x e = record { head = getD links (place y) 0; chain = e .1 }
+      go h false x e = record { head = x; chain = e }
+
+  pub index-linked : {heads links : List ℕ} {items : List A} → Indexed place hash heads links items → Linked place hash links items
+  index-linked {heads} {links} {items} x = linked links items (λ h l. record { head = getD heads h 0; chain = x .chains h l })

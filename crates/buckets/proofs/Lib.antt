@@ -1,2 +1,3 @@
 -- Laws of the index.
 pub mod BucketLaws
+pub mod ChainWalks

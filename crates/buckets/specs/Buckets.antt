@@ -40,6 +40,12 @@ module _ {A : Type 0} (hash : A → ℕ) where
   inBucket h [] = []
   inBucket h (y ∷ ys) = cond (eqb (bucketOf (hash y)) h) (y ∷ inBucket h ys) (inBucket h ys)
 
+module _ {A : Type 0} (place hash : A → ℕ) (links : List ℕ) where
+  -- the link of each item leads to the items after it in its bucket
+  abbrev pub Linked : List A → Type 0
+  Linked [] = Unit {0}
+  Linked (y ∷ ys) = Chain place links (getD links (place y) 0) (inBucket hash (bucketOf (hash y)) ys) × Linked ys
+
 -- the chain of each bucket has its items, in the order of the list
 pub record Indexed {A : Type 0} (place hash : A → ℕ) (heads links : List ℕ) (items : List A) : Type 0 where
   pub chains : (h : ℕ) → h < buckets → Chain place links (getD heads h 0) (inBucket hash h items)

@@ -15,7 +15,7 @@ use Rattle.grammar.specs.Limits.{table-rows}
 use Rattle.buckets.specs.Buckets.{All, Indexed}
 use Rattle.buckets.proofs.BucketLaws.{index-added}
 use Rattle.strings.specs.Hashes.{hashMore, hashOf}
-use Rattle.rules.specs.Rows.{next, walk, past, firstChild, children, pastChildren, nameOf}
+use Rattle.rules.specs.Rows.{walk, past, firstChild, children, pastChildren, nameOf}
 use Rattle.rules.proofs.Lists.{clash}
 use Rattle.rules.proofs.TableRows.{next-above, past-children-above, past-children-least}
 use Rattle.rows.specs.Rows.{Follows, First, Counted as Sized}

@@ -7,7 +7,7 @@ use mathlib.Core.List.{List}
 use lib.ListN.{length, getD, take, drop, drop-of-length-le}
 use lib.Seq.{drop-cons}
 use Rattle.grammar.specs.Tree.Scalar.{str}
-use Rattle.grammar.specs.Machine.Message.{message}
+use Rattle.grammar.specs.Serving.Machine.Message.{message}
 use Rattle.strings.specs.declared.dialects.Dialect.the-variants.{Message}
 use Rattle.strings.specs.Strings.{plainString, Means}
 use Rattle.strings.specs.Meanings.{inside}

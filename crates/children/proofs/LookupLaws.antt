@@ -1,5 +1,6 @@
 -- A child looked up in the index: the walk along the chain of its bucket, and that what is found there is what a look at every child finds.
 -- The idea: a child of that name has the bucket's hash, so it is on the chain; a row of the chain whose owner is the list's is a child, and no other child has that name.
+use Prim.{tt}
 use Prim.Native.Nat.{ℕ, zero, suc, _-_, _≤_, _<_}
 use native.Mathlib.Omega.{arith}
 use mathlib.Core.Path.{_≡_, refl, sym, ap, _∙_, subst₂}
@@ -10,7 +11,7 @@ use lib.Dec.{eqb}
 use lib.ListN.{length, getD, length-map}
 use borrow.Author.Tests.{eqb-true, eqb-false, eq-eqb, ne-eqb}
 use Rattle.grammar.specs.Limits.{table-rows}
-use Rattle.grammar.specs.Machine.Message.{message}
+use Rattle.grammar.specs.Serving.Machine.Message.{message}
 use Rattle.buckets.specs.Buckets.{bucketOf, Chain, inBucket}
 use Rattle.buckets.proofs.BucketLaws.{bucket-short, index-walk}
 use Rattle.strings.specs.Hashes.{hashMore, hashOf}
@@ -20,9 +21,10 @@ use Rattle.rules.proofs.Lists.{clash, and-left, and-right, same-true, same-is, 
 use Rattle.rules.proofs.Lookups.{member-found, member-finds}
 use Rattle.rules.proofs.SoundFacts.{sound-facts}
 use Rattle.rows.specs.Index.{itself}
-use Rattle.rows.proofs.IndexLaws.{Walk, walk-start, walk-hit, walk-on, walk-end, walk-out}
+use Rattle.buckets.proofs.ChainWalks.{walk-start, walk-end, walk-out}
+use Rattle.rows.proofs.IndexLaws.{Walk, walk-hit, walk-on}
 use Rattle.lookups.specs.Lookups.{NodeMeans}
-use Rattle.children.specs.Index.{headsOf, linksOf, ownersOf, isLong, Child, childAt, rowOf, childHash, Given}
+use Rattle.children.specs.Index.{headsOf, linksOf, ownersOf, isLong, Child, childAt, rowOf, childHash, IndexedTable}
 use Rattle.children.specs.Children.{MeaningAt}
 use Rattle.children.specs.Lookup.{namedIn, firstNamed, MeaningHash, RowMeant, ChildListed, ChildIndexed}
 use Rattle.children.proofs.PartLaws.{head-at}
@@ -41,27 +43,27 @@ pub record ChildWalk (S T m w links owners : List ℕ) (head r k x n : ℕ) : Ty
   pub walks : (cs : List ℕ) → MeaningAt m w k cs → Walk (firstNamed S T cs owners r) links head table-rows x n
 
 pub child-walk : {S T m w links owners : List ℕ} {head r k : ℕ} → ChildWalk S T m w links owners head r k head table-rows
-child-walk {S} {T} {links = links} {owners} {r = r} = record { walks = λ cs u. walk-start (firstNamed S T cs owners r) links }
+child-walk {S} {T} {links = links} {owners} {r = r} = record { walks = λ cs u. walk-start }
 
 module _ {S T m w links owners : List ℕ} {head r k x n : ℕ} (v : ChildWalk S T m w links owners head r k x n) where
   pub listed-on : {b : Bool} {y : ℕ} → 0 < x → RowMeant S T m w owners r k (x - 1) b → b ≡ false → y ≡ getD links (x - 1) 0 → ChildWalk S T m w links owners head r k y (n - 1)
   unfolding firstNamed
-  listed-on h g t p = record { walks = λ cs u. walk-on (firstNamed S T cs owners r) links (v .walks cs u) h p (λ rs. rw (sym (g .told cs u) ∙ t)) }
+  listed-on h g t p = record { walks = λ cs u. walk-on (v .walks cs u) h p (λ rs. rw (sym (g .told cs u) ∙ t)) }
 
 module _ {S T m w ix : List ℕ} {head r k x n : ℕ} (v : ChildWalk S T m w (linksOf ix) (ownersOf ix) head r k x n) where
   pub listed-hit : {b : Bool} → 0 < x → RowMeant S T m w (ownersOf ix) r k (x - 1) b → b ≡ true → ChildListed S T m w ix head r k x
   unfolding firstNamed
   listed-hit h g t = record {
-    told = λ cs u. let z : suc (x - 1) ≡ x = omega arith in walk-hit (firstNamed S T cs (ownersOf ix) r) (linksOf ix) (v .walks cs u) h x (λ rs. rw (sym (g .told cs u) ∙ t) z) .told;
+    told = λ cs u rs c l. let z : suc (x - 1) ≡ x = omega arith in walk-hit (v .walks cs u) h x (λ rs. rw (sym (g .told cs u) ∙ t) z) .told rs c l tt;
   }
 
   pub listed-end : x ≡ 0 → ChildListed S T m w ix head r k 0
   unfolding firstNamed
-  listed-end z = record { told = λ cs u. walk-end (firstNamed S T cs (ownersOf ix) r) (linksOf ix) (v .walks cs u) z .told }
+  listed-end z = record { told = λ cs u rs c l. walk-end (v .walks cs u) z .told rs c l tt }
 
   pub listed-out : n ≤ 0 → ChildListed S T m w ix head r k 0
   unfolding firstNamed
-  listed-out z = record { told = λ cs u. walk-out (firstNamed S T cs (ownersOf ix) r) (linksOf ix) (v .walks cs u) z .told }
+  listed-out z = record { told = λ cs u rs c l. walk-out (v .walks cs u) z .told rs c l tt }
 
 -- an item is in the bucket of its hash
 in-bucket : {A : Type 0} (hash : A → ℕ) (h : ℕ) (ys : List A) (y : A) → List·Memᴰ y ys → bucketOf (hash y) ≡ h → List·Memᴰ y (inBucket hash h ys)
@@ -119,7 +121,7 @@ module _ (S T cs owners : List ℕ) (r : ℕ) where
       go false q (inr p) e = e p
 
 -- the index of a sound table, asked for a child of row r
-module _ {S T ix : List ℕ} (g : Given S T ix) (cs : List ℕ) (r : ℕ) (long : isLong T r ≡ true) where
+module _ {S T ix : List ℕ} (g : IndexedTable S T ix) (cs : List ℕ) (r : ℕ) (long : isLong T r ≡ true) where
   one-child : (c d : ℕ) → List·Memᴰ c (children T r) → List·Memᴰ d (children T r) → nameOf S T c ≡ cs → nameOf S T d ≡ cs → c ≡ d
   one-child c d m m′ p q = apart-injective (nameOf S T) (children T r) (sound-facts S T (g .sound-table) .children-apart r) c d m m′ (p ∙ sym q)
 

@@ -4,15 +4,13 @@ use Prim.Native.Nat.{ℕ, _+_, _-_, _<_, _≤_}
 use mathlib.Core.Path.{_≡_, refl, sym, ap, _∙_}
 use mathlib.Core.Bool.{Bool, true, false}
 use mathlib.Core.List.{List}
-use native.Mathlib.Numerals.{add-one}
 use Rattle.grammar.specs.Notation.{same}
-use Rattle.grammar.specs.Machine.Message.{message}
+use Rattle.grammar.specs.Serving.Machine.Message.{message}
 use Rattle.rules.specs.Rows.{children, nameOf}
 use Rattle.rules.specs.SchemaTable.{memberIn}
 use Rattle.rules.specs.Sound.{sound}
 use Rattle.rows.specs.Rows.{Follows, First, Counted}
-use Rattle.rows.proofs.LoopLaws.{WalkLeft, left-hit, left-on, left-ends}
-use Rattle.rows.proofs.ChildLaws.{left-children}
+use Rattle.rows.proofs.ChildLaws.{LinkLeft, link-starts, link-hit, link-on, link-ends}
 use Rattle.text.specs.Nodes.{nodeKind}
 use Rattle.lookups.specs.Lookups.{plainKind, NodeMeans}
 use Rattle.children.specs.Children.{MeaningAt, InnerBytes, RowNamed, ChildNamed, ChildScanned}
@@ -24,22 +22,22 @@ meaning-is {cs = cs} n (a-string a e l u) = n .string a e l cs u
 
 -- a walk over a row's children: what is left to look at for a name
 pub record NameLeft (S T cs : List ℕ) (r c n : ℕ) : Type 0 where
-  pub left : sound S T ≡ true → WalkLeft (memberIn S T cs) T (memberIn S T cs (children T r)) c n
+  pub left : sound S T ≡ true → LinkLeft (memberIn S T cs (children T r)) S T cs c n
 
 module _ (S T cs : List ℕ) {r : ℕ} where
   pub name-start : {a n : ℕ} → First T r a → Counted T r n → NameLeft S T cs r a n
-  name-start p q = record { left = λ o. left-children p q (memberIn S T cs) refl }
+  name-start p q = record { left = λ o. link-starts S T cs p q }
 
 module _ {S T cs : List ℕ} {r c n : ℕ} (v : NameLeft S T cs r c n) where
   pub name-end : n ≤ 0 → ChildNamed S T cs r 0
-  name-end h = record { told = λ o. left-ends (v .left o) h }
+  name-end h = record { told = λ o. link-ends (v .left o) h }
 
   module _ (h : 0 < n) {t : Bool} (g : RowNamed S T cs c t) where
     pub name-hit : t ≡ true → ChildNamed S T cs r (c + 1)
-    name-hit q = record { told = λ o. left-hit (v .left o) h (λ rs. rw (← g .told o, q, add-one c)) }
+    name-hit q = record { told = λ o. link-hit (v .left o) h refl (g .told o) q }
 
     pub name-on : t ≡ false → {c′ : ℕ} → Follows T c c′ → NameLeft S T cs r c′ (n - 1)
-    name-on q f = record { left = λ o. left-on (v .left o) h (f .is) (λ rs. rw (← g .told o, q)) }
+    name-on q f = record { left = λ o. link-on (v .left o) h refl (g .told o) q f }
 
 -- and for what a key or a string means
 pub record ChildLeft (S T m w : List ℕ) (r k c n : ℕ) : Type 0 where

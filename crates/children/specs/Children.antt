@@ -5,7 +5,7 @@ use mathlib.Core.Bool.{Bool, true}
 use mathlib.Core.List.{List}
 use Rattle.grammar.specs.Tree.Scalar.{str}
 use Rattle.grammar.specs.Tree.Json.{leaf}
-use Rattle.grammar.specs.Machine.Message.{message}
+use Rattle.grammar.specs.Serving.Machine.Message.{message}
 use Rattle.grammar.specs.Notation.{same}
 use Rattle.rules.specs.Rows.{children, nameOf}
 use Rattle.rules.specs.SchemaTable.{memberIn}
@@ -14,7 +14,7 @@ use Rattle.text.specs.Nodes.{node, Holds, nodeKind}
 use Rattle.text.specs.Keys.{KeyAt}
 use Rattle.lookups.specs.Lookups.{plainKind}
 use Rattle.children.specs.Counts.{mandatoryIn}
-use Rattle.children.specs.Index.{Given}
+use Rattle.children.specs.Index.{IndexedTable}
 
 -- node k is a key or a string that means cs
 pub data MeaningAt (m w : List ℕ) (k : ℕ) (cs : List ℕ) : Type 0 where
@@ -39,9 +39,9 @@ pub record ChildScanned (S T m w : List ℕ) (r k x : ℕ) : Type 0 where
 
 -- and with an index
 pub record ChildMeant (S T m w ix : List ℕ) (r k x : ℕ) : Type 0 where
-  pub told : (cs : List ℕ) → Given S T ix → MeaningAt m w k cs → x ≡ memberIn S T cs (children T r)
+  pub told : (cs : List ℕ) → IndexedTable S T ix → MeaningAt m w k cs → x ≡ memberIn S T cs (children T r)
 
 -- how many children are mandatory
 pub record OwnMandatory (T ix : List ℕ) (r x : ℕ) : Type 0 where
   pub small : x ≤ 2 ^ 32
-  pub told : (S : List ℕ) → Given S T ix → x ≡ mandatoryIn T (children T r)
+  pub told : (S : List ℕ) → IndexedTable S T ix → x ≡ mandatoryIn T (children T r)

@@ -78,6 +78,6 @@ pub record Filled (S T ix : List ℕ) : Type 0 where
   pub owned : (r : ℕ) → isLong T r ≡ true → Owned T ix items r
 
 -- what a lookup is given: a sound table, and its index
-pub record Given (S T ix : List ℕ) : Type 0 where
+pub record IndexedTable (S T ix : List ℕ) : Type 0 where
   pub sound-table : sound S T ≡ true
   pub filled : Filled S T ix

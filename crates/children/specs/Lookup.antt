@@ -12,7 +12,7 @@ use Rattle.strings.specs.Hashes.{hashOf}
 use Rattle.rules.specs.Rows.{children, nameOf}
 use Rattle.rules.specs.SchemaTable.{memberIn}
 use Rattle.rows.specs.Index.{itself}
-use Rattle.children.specs.Index.{linksOf, ownersOf, isLong, Given}
+use Rattle.children.specs.Index.{linksOf, ownersOf, isLong, IndexedTable}
 use Rattle.children.specs.Children.{MeaningAt}
 
 -- the hash of what the key or string at node k means
@@ -37,4 +37,4 @@ pub record ChildListed (S T m w ix : List ℕ) (head r k x : ℕ) : Type 0 where
 
 -- the link of the child of row r that is meant, where the list is long
 pub record ChildIndexed (S T m w ix : List ℕ) (r k x : ℕ) : Type 0 where
-  pub told : isLong T r ≡ true → (cs : List ℕ) → Given S T ix → MeaningAt m w k cs → x ≡ memberIn S T cs (children T r)
+  pub told : isLong T r ≡ true → (cs : List ℕ) → IndexedTable S T ix → MeaningAt m w k cs → x ≡ memberIn S T cs (children T r)

@@ -21,14 +21,15 @@ use text::nodes::node_number;
 use text::nodes::node_word;
 ghost use mathlib.Core.Path.{_≡_};
 ghost use mathlib.Core.List.{[], _∷_};
-ghost use Prim.Native.Nat.{_-_, _<_, _^_};
+ghost use Prim.Native.Nat.{_-_};
+ghost use Rattle.rows.specs.Rows.{Near};
 ghost use Rattle.rules.specs.Rows.{children};
 ghost use Rattle.children.specs.Counts.{mandatoryIn};
 ghost use Rattle.children.specs.Children.{InnerBytes, RowNamed, ChildNamed, ChildScanned, ChildMeant, OwnMandatory};
 
 // The link of the first child of row r that the key or string at node k means; 0 if there is none.
 fn scanned_child(schema: &[u8], rows: &[u32], m: &[u8], nodes: &[u32], r: usize, k: usize) -> usize
-    requires { ⌜ r < 2 ^ 39 ⌝ }
+    requires { ⌜ Near r ⌝ }
     ensures { λ x. ⌜ ChildScanned (now (schema .entry)) (now (rows .entry)) (now (m .entry)) (now (nodes .entry)) r k x ⌝ }
 {
     let mut c = first_child(rows, r);
@@ -55,7 +56,7 @@ fn is_named(schema: &[u8], rows: &[u32], c: usize, name: &[u8]) -> bool
 
 // The link of the first child of row r with a name; 0 if there is none.
 fn named_child(schema: &[u8], rows: &[u32], r: usize, name: &[u8]) -> usize
-    requires { ⌜ r < 2 ^ 39 ⌝ }
+    requires { ⌜ Near r ⌝ }
     ensures { λ x. ⌜ ChildNamed (now (schema .entry)) (now (rows .entry)) (now (name .entry)) r x ⌝ }
 {
     let mut c = first_child(rows, r);
@@ -94,7 +95,7 @@ fn inner_bytes<'a>(m: &'a [u8], nodes: &[u32], k: usize) -> &'a [u8]
 
 // The link of the child of row r that the key or string at node k means, where the bytes of a plain one are compared as they are; 0 if there is none.
 fn short_child(schema: &[u8], rows: &[u32], m: &[u8], nodes: &[u32], r: usize, k: usize) -> usize
-    requires { ⌜ r < 2 ^ 39 ⌝ }
+    requires { ⌜ Near r ⌝ }
     ensures { λ x. ⌜ ChildScanned (now (schema .entry)) (now (rows .entry)) (now (m .entry)) (now (nodes .entry)) r k x ⌝ }
 {
     if plain_kind(node_word(nodes, k, NODE_KIND)) {
@@ -113,7 +114,7 @@ pub fn child_meant(
     r: usize,
     k: usize,
 ) -> usize
-    requires { ⌜ r < 2 ^ 39 ⌝ }
+    requires { ⌜ Near r ⌝ }
     ensures { λ x. ⌜ ChildMeant (now (schema .entry)) (now (rows .entry)) (now (m .entry)) (now (nodes .entry)) (now (index .entry)) r k x ⌝ }
 {
     if is_long(rows, r) {
@@ -134,7 +135,7 @@ pub fn mandatory_one(rows: &[u32], c: usize) -> usize
 
 // How many children of row r are mandatory, where each is looked at.
 pub fn scanned_mandatory(rows: &[u32], r: usize) -> usize
-    requires { ⌜ r < 2 ^ 39 ⌝ }
+    requires { ⌜ Near r ⌝ }
     ensures { λ x. ⌜ x ≡ mandatoryIn (now (rows .entry)) (children (now (rows .entry)) r) ⌝ }
 {
     let mut n = 0;
@@ -150,7 +151,7 @@ pub fn scanned_mandatory(rows: &[u32], r: usize) -> usize
 
 // How many children of row r of a sound table are mandatory: a short list is looked through, the count of a long one stands in the index.
 pub fn own_mandatory(rows: &[u32], index: &[u32], r: usize) -> usize
-    requires { ⌜ r < 2 ^ 39 ⌝ }
+    requires { ⌜ Near r ⌝ }
     ensures { λ x. ⌜ OwnMandatory (now (rows .entry)) (now (index .entry)) r x ⌝ }
 {
     if is_long(rows, r) {

@@ -12,8 +12,9 @@ use rows::rows::wide;
 use rules::TABLE_ROWS;
 use strings::dialects::Dialect;
 ghost use mathlib.Core.Path.{_≡_};
-ghost use Prim.Native.Nat.{_≤_, _<_, _^_};
+ghost use Prim.Native.Nat.{_≤_};
 ghost use lib.ListN.{length, getD};
+ghost use Rattle.rows.specs.Rows.{Near};
 ghost use Rattle.children.specs.Index.{index-words, countPlace};
 ghost use Rattle.children.specs.Lookup.{RowMeant, ChildListed, ChildIndexed};
 
@@ -100,7 +101,7 @@ pub fn indexed_child(
 
 // How many children of row r are mandatory, by the index.
 pub fn indexed_mandatory(index: &[u32], r: usize) -> usize
-    requires { ⌜ r < 2 ^ 39 ⌝ }
+    requires { ⌜ Near r ⌝ }
     ensures { λ x. ⌜ x ≡ getD (now (index .entry)) (countPlace r) 0 ⌝ }
 {
     number_at(index, COUNTS + r)

@@ -13,7 +13,7 @@ use Rattle.rules.specs.declared.SchemaAnswer.{SchemaAnswer}
 use Rattle.rules.specs.declared.MessageAnswer.{MessageAnswer}
 use Rattle.rules.specs.SchemaAnswers as Schemas
 use Rattle.rules.specs.MessageAnswers as Messages
-use Rattle.rules.specs.Answers.{MessageResult}
+use Rattle.rules.specs.Serving.Answers.{MessageResult}
 use Rattle.message.specs.Stages.{Answered}
 use Rattle.lines.specs.Text.{Puts, lineText}
 use Rattle.lines.proofs.TextLaws.{puts-as}
@@ -21,7 +21,8 @@ use Rattle.trees.specs.TreeText.{linesFrom, linesOf}
 use Rattle.wordings.specs.Wordings.{schemaHead, messageHead}
 use Rattle.console.specs.declared.answers.Style.{Style}
 use Rattle.console.specs.declared.answers.Style.the-variants.{Numbers, Tree}
-use Rattle.console.specs.Program.{schemaLine, schemaText, resultLine, treeLines, resultText, answerText, Says}
+use Rattle.console.specs.Program.{schemaLine, schemaText, resultLine, treeLines, resultText, answerText}
+use Rattle.console.specs.Serving.Steps.{Says}
 
 -- ---- of a schema
 pub schema-numbers : {s : Style} (a : SchemaAnswer) {n k : ℕ} {at r : ℕ} {old new : List ℕ} → s ≡ Numbers → n ≡ Schemas.answerNumber a → k ≡ Schemas.answerRows a → Puts (lineText n (k ∷ [])) at old new r
@@ -33,7 +34,7 @@ pub schema-words : {s : Style} (a : SchemaAnswer) {at r : ℕ} {old new : List �
 schema-words a e x = puts-as (ap (λ (t : Style). schemaText t a) (sym e)) x
 
 -- ---- of a message: the words that a count stands for, of those there are
-take-least : (n : ℕ) (l : List ℕ) (b : Bool) → leb n (length l) ≡ b → take (min n (length l)) l ≡ take n l
+pub take-least : (n : ℕ) (l : List ℕ) (b : Bool) → leb n (length l) ≡ b → take (min n (length l)) l ≡ take n l
 take-least n l true e = ap (λ (k : ℕ). take k l) (min-eq-left (leb-true n (length l) e))
 take-least n l false e =
     let h : length l ≤ n = le-of-lt (leb-false n (length l) e) in

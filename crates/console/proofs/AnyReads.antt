@@ -1,21 +1,28 @@
--- Wherever the system cuts the input into reads, what a program writes is the answers to the whole of it, in either style.
--- The idea: a step's contract holds whatever follows the chunk; so step by step, then chunk by chunk.
+-- Wherever the system cuts the input into reads, what a program writes is its text for the whole file and the whole input, in either style.
+-- The idea: a step's contract holds whatever follows the chunk; so step by step, then chunk by chunk, after the first line.
 use Prim.Native.Nat.{ℕ, zero, suc, _+_, _-_, _/_, _≤_, _<_}
 use native.Mathlib.Nat.{not-suc-le-zero}
 use native.Mathlib.Omega.{arith}
 use mathlib.Core.Path.{_≡_, refl, sym, ap, _∙_}
 use mathlib.Core.List.{List, [], _∷_, _++_, append-assoc, append-nil}
+use mathlib.Core.Option.{Option}
 use lib.ListN.{length, take, drop, drop-of-length-le}
 use Rattle.grammar.specs.Limits.{record-words}
 use Rattle.lines.specs.Lines.{beforeLF}
 use Rattle.lines.specs.Text.{Puts, put}
 use Rattle.lines.proofs.TextLaws.{put-length}
-use Rattle.trees.specs.TreeText.{linesOf, linesFrom}
+use Rattle.walker.specs.Seeing.{placeAfter}
+use Rattle.trees.specs.TreeText.{lineAt, openThen, linesOf, linesFrom, One}
+use Rattle.trees.proofs.TreeLaws.{lines-on}
 use Rattle.console.specs.declared.answers.Style.{Style}
+use Rattle.console.specs.declared.opening.Opening.{Opening}
 use Rattle.console.specs.declared.steps.Taken.{Taken}
-use Rattle.console.specs.Program.{treeLines, answerText, answersTo, Takes}
-use Rattle.console.specs.Runs.{Lists, Lists.listed, Lists.piece, Turns, Turns.used-up, Turns.waits, Turns.writes, Run, Run.ends, Run.last, Run.reads, inputOf}
+use Rattle.console.specs.Program.{record-room, treeLines, answerText, answersTo, firstLine, laterLines, programText}
+use Rattle.console.specs.Serving.Steps.{Takes}
+use Rattle.console.specs.Serving.Beginning.{cutFile, Opens}
+use Rattle.console.specs.Serving.Runs.{Lists, Lists.listed, Lists.line-waits, Lists.line-written, Turns, Turns.used-up, Turns.waits, Turns.writes, Run, Run.ends, Run.last, Run.reads, WholeRun, WholeRun.stops, WholeRun.goes-on, inputOf}
 use Rattle.console.proofs.AnswerLaws.{no-lines}
+use Rattle.console.proofs.BeginningLaws.{table-answers, first-cut, later-cut}
 
 -- what is put stands after what was put before it
 put-after : (at n : ℕ) (t l : List ℕ) → n ≡ at + length t → n ≤ length l → take n (put at t l) ≡ take at l ++ t
@@ -34,11 +41,21 @@ so-far : {t old new : List ℕ} {at r : ℕ} → Puts t at old new r → take r 
 so-far {t} {old} {new} {at} {r} p = ap (take r) (p .words) ∙ put-after at r t old (p .after) (omega (arith, p .within, ap length (p .words), put-length at t old))
 
 module _ (s : Style) (S T : List ℕ) (room : ℕ) where
-  -- the pieces of a message's records are their lines
-  lists-all : {m ws es tree : List ℕ} {n : ℕ} → Lists s S T room m ws n es tree → linesFrom S T m ws (room / record-words) n es ≡ tree
+  -- what is written of a message's records is the lines put before them and their own
+  line-on : {m ws es es′ out new : List ℕ} {n next at r : ℕ} → n < length ws / record-words → One S T m ws (room / record-words) n es at out new next es′ r
+      → take at out ++ linesFrom S T m ws (room / record-words) n es ≡ take r new ++ linesFrom S T m ws (room / record-words) next es′
+  line-on {m} {ws} {es} {es′} {out} {new} {n} {next} {at} {r} h o =
+      ap (λ (l : List ℕ). take at out ++ l) (lines-on S T m ws (room / record-words) n es h) ∙ sym (append-assoc (take at out) (lineAt S T m ws (room / record-words) n es) (linesFrom S T m ws (room / record-words) (placeAfter ws n) (openThen S T m ws (room / record-words) n es)))
+      ∙ ap (λ (l : List ℕ). l ++ linesFrom S T m ws (room / record-words) (placeAfter ws n) (openThen S T m ws (room / record-words) n es)) (sym (so-far (o .puts)))
+      ∙ ap (λ (k : ℕ). take r new ++ linesFrom S T m ws (room / record-words) k (openThen S T m ws (room / record-words) n es)) (sym (o .moves)) ∙ ap (λ (l : List ℕ). take r new ++ linesFrom S T m ws (room / record-words) next l) (sym (o .opens))
+
+  lists-all : {m ws es out tree : List ℕ} {n at : ℕ} → Lists s S T room m ws n es at out tree → take at out ++ linesFrom S T m ws (room / record-words) n es ≡ tree
   unfolding linesFrom linesOf
-  lists-all {m} {ws} {es} {n = n} (listed h) = let e : length ws / record-words - n ≡ 0 = omega arith in ap (λ (k : ℕ). linesOf S T m ws (room / record-words) k n es) e
-  lists-all (piece {more = more} d l e) = d .splits ∙ ap (λ (t : List ℕ). d .lines ++ t) (lists-all l) ∙ ap (λ (t : List ℕ). t ++ more) (sym (so-far (d .puts))) ∙ sym e
+  lists-all {m} {ws} {es} {out} {n = n} {at} (listed h e) =
+      let z : length ws / record-words - n ≡ 0 = omega arith in
+      ap (λ (k : ℕ). take at out ++ linesOf S T m ws (room / record-words) k n es) z ∙ append-nil (take at out) ∙ sym e
+  lists-all (line-waits h o l) = line-on h o ∙ lists-all l
+  lists-all (line-written {r = r} {new = new} h o l e) = line-on h o ∙ ap (λ (t : List ℕ). take r new ++ t) (lists-all l) ∙ sym e
 
   abbrev answers : List ℕ → List ℕ → List ℕ
   answers m l = answersTo s S T room m l
@@ -84,3 +101,19 @@ module _ (s : Style) (S T : List ℕ) (room : ℕ) where
 
   pub any-reads : (chunks : List (List ℕ)) (text : List ℕ) → Run s S T room [] chunks text → text ≡ answers [] (inputOf chunks)
   any-reads chunks text r = sym (from-run r)
+
+-- ---- the whole run: the first line, by what was read of the file, and what follows it
+module _ (s : Style) (file : Option (List ℕ)) (input : List ℕ) {read : Option (List ℕ)} (e : read ≡ cutFile file) where
+  written-first : {schema rows old new : List ℕ} {r : Opening} → Opens s read schema rows old new r → take (r .at) new ≡ firstLine s file
+  written-first o = so-far (o .puts) ∙ ap (firstLine s) e ∙ first-cut s file
+
+  written-later : {text : List ℕ} → laterLines s read input ≡ text → text ≡ laterLines s file input
+  written-later l = sym l ∙ ap (λ (x : Option (List ℕ)). laterLines s x input) e ∙ later-cut s file input
+
+pub whole-run : (s : Style) (file : Option (List ℕ)) (chunks : List (List ℕ)) (text : List ℕ) → WholeRun s file chunks text → text ≡ programText s file (inputOf chunks)
+unfolding programText
+whole-run s file chunks text (stops read e o w) =
+    w ∙ written-first s file (inputOf chunks) e o ∙ sym (append-nil (firstLine s file)) ∙ ap (λ (l : List ℕ). firstLine s file ++ l) (written-later s file (inputOf chunks) e (o .follows (inputOf chunks)))
+whole-run s file chunks text (goes-on read {schema} {rows} {more = more} {size = size} {words} e o r w) =
+    let later = ap (λ (x : Option (List ℕ)). laterLines s x (inputOf chunks)) (o .follows .2) ∙ table-answers s (o .follows .3) (inputOf chunks) ∙ sym (any-reads s (take size schema) (take words rows) record-room chunks more r) in
+    w ∙ ap (λ (l : List ℕ). l ++ more) (written-first s file (inputOf chunks) e o) ∙ ap (λ (l : List ℕ). firstLine s file ++ l) (written-later s file (inputOf chunks) e later)

@@ -12,14 +12,9 @@ use Rattle.grammar.proofs.Booleans.{min-right}
 use Rattle.lines.specs.Text.{put}
 use Rattle.lines.specs.Lines.{beforeLF, LineEnd}
 use Rattle.lines.proofs.TextLaws.{put-length}
-use Rattle.console.specs.declared.files.Read.{Read}
-use Rattle.console.specs.declared.files.Read.the-variants.{Bytes}
 use Rattle.console.specs.declared.joins.Joined.{Joined}
 use Rattle.console.specs.declared.joins.Joined.the-variants.{Line}
-use Rattle.console.specs.Joining.{Within, lineSoFar, Holds, Joins}
-
-pub bytes-in : (room : ℕ) {n : ℕ} {t : Read} → t ≡ Bytes n → Within room t → n ≤ room
-bytes-in room e h = subst (Within room) e h
+use Rattle.console.specs.Serving.Joining.{lineSoFar, Holds, Joins}
 
 -- whole rows within the words lent, or past them
 pub within-words : (w n l : ℕ) → 0 < w → n ≤ l / w → w * n ≤ l

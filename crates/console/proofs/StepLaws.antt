@@ -3,21 +3,17 @@ use Prim.Native.Nat.{ℕ, zero, suc, _+_, _-_, _≤_, _<_}
 use native.Mathlib.Nat.{not-suc-le-zero, min-eq-left, le-of-lt}
 use native.Mathlib.Omega.{arith}
 use mathlib.Core.Path.{_≡_, refl, sym, ap, subst, _∙_}
-use mathlib.Core.Bool.{Bool, true, false, cond, not}
+use mathlib.Core.Bool.{Bool, true, false, cond}
 use mathlib.Core.List.{List, [], _∷_, _++_, append-assoc, append-nil}
-use mathlib.Core.Option.{Option, some}
 use lib.Dec.{eqb, leb, ltb}
 use lib.ListN.{length, take, drop, replicate, length-take, length-drop}
 use lib.Seq.{take-all, drop-drop, drop-length}
 use borrow.Author.Tests.{leb-true, leb-false, lt-ltb}
 use Rattle.grammar.specs.Limits.{message-bytes}
-use Rattle.grammar.proofs.Booleans.{clash}
-use Rattle.rules.specs.declared.MessageRefusal.{MessageRefusal}
 use Rattle.rules.specs.declared.MessageRefusal.the-variants as M
 use Rattle.rules.specs.declared.MessageAnswer.the-variants as MA
 use Rattle.rules.specs.Sound.{sound}
-use Rattle.rules.specs.Readings.{Typed}
-use Rattle.rules.specs.Answers.{MessageResult, refusedBy, soundResult, messageResult}
+use Rattle.rules.specs.Serving.Answers.{MessageResult, refusedBy, soundResult, messageResult}
 use Rattle.lines.specs.Lines.{beforeLF, orNext}
 use Rattle.lines.proofs.TextLaws.{puts-none}
 use Rattle.trees.specs.TreeText.{linesFrom, linesOf}
@@ -31,8 +27,9 @@ use Rattle.console.specs.declared.turns.Turn.{Turn}
 use Rattle.console.specs.declared.turns.Turn.the-variants.{Kept}
 use Rattle.console.specs.declared.turns.Wrote.{Wrote}
 use Rattle.console.specs.declared.turns.Wrote.the-variants.{At}
-use Rattle.console.specs.Joining.{lineSoFar, Joins}
-use Rattle.console.specs.Program.{longest-line, treeLines, resultText, answerText, lastLine, answersTo, Says, Takes, RoomIn, KeptIn}
+use Rattle.console.specs.Serving.Joining.{lineSoFar, Joins}
+use Rattle.console.specs.Program.{treeLines, resultText, answerText, lastLine, answersTo}
+use Rattle.console.specs.Serving.Steps.{longest-line, Says, Takes, RoomIn, KeptIn}
 use Rattle.console.proofs.JoinLaws.{cut-again}
 use Rattle.console.proofs.AnswerLaws.{no-lines}
 

@@ -1,4 +1,3 @@
--- What the contracts and theorems cite.
-pub mod Joining
+-- What a reader must believe of both programs. Serving has what only contracts and proofs cite.
 pub mod Program
-pub mod Runs
+pub mod Serving

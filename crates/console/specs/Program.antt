@@ -1,42 +1,32 @@
--- What a program answers to its schema and to each line of its input, in each style, and what its functions promise each other.
-use Prim.Native.Nat.{ℕ, _+_, _*_, _/_, _≤_, _<_}
+-- Reference, Program: what a program writes, given its schema file and its input, in each style.
+use Prim.Native.Nat.{ℕ, _*_, _/_}
 use mathlib.Core.Bool.{true, false}
-use mathlib.Core.Path.{_≡_}
 use mathlib.Core.List.{List, [], _∷_, _++_}
+use mathlib.Core.Option.{Option, none, some}
 use lib.Dec.{eqb}
-use lib.ListN.{length, take, drop}
-use Rattle.grammar.specs.Limits.{message-bytes, record-words}
+use lib.ListN.{take}
+use Rattle.grammar.specs.Notation.{text}
+use Rattle.grammar.specs.Limits.{table-rows, row-words, record-words}
 use Rattle.rules.specs.declared.SchemaAnswer.{SchemaAnswer}
+use Rattle.rules.specs.declared.SchemaAnswer.the-variants.{Accepted, Refused}
 use Rattle.rules.specs.SchemaAnswers as Schemas
 use Rattle.rules.specs.MessageAnswers as Messages
-use Rattle.rules.specs.Answers.{MessageResult, messageResult}
-use Rattle.lines.specs.Lines.{beforeLF}
-use Rattle.lines.specs.Text.{Puts, lineText, number-room, word-room}
+use Rattle.rules.specs.Serving.Answers.{SchemaResult, MessageResult, schemaResult, messageResult}
+use Rattle.lines.specs.Text.{lineText}
 use Rattle.trees.specs.TreeText.{linesFrom}
 use Rattle.wordings.specs.Wordings.{schemaHead, messageHead}
 use Rattle.console.specs.declared.answers.Style.{Style}
 use Rattle.console.specs.declared.answers.Style.the-variants.{Numbers, Tree}
-use Rattle.console.specs.declared.steps.Place.{Place}
-use Rattle.console.specs.declared.steps.Taken.{Taken}
-use Rattle.console.specs.declared.turns.Turn.{Turn}
-use Rattle.console.specs.declared.turns.Turn.the-variants as Turns
-use Rattle.console.specs.declared.turns.Wrote.{Wrote}
-use Rattle.console.specs.declared.turns.Wrote.the-variants as Wrotes
 
--- 01, What the gateway reads: the program lends words for 4,096 records
+-- Reference, Program: a program lends words for 1,024 rows and for 4,096 records
+abbrev pub table-room : ℕ
+table-room = table-rows * row-words
+
 abbrev pub record-count : ℕ
 record-count = 4096
 
 abbrev pub record-room : ℕ
 record-room = record-count * record-words
-
--- the longest line of numbers: three, and those words
-abbrev pub longest-line : ℕ
-longest-line = 3 * number-room + word-room * record-room
-
--- what is lent for answers
-abbrev pub out-room : ℕ
-out-room = 2 * longest-line
 
 -- the line of a schema: its number and the count of rows
 unfoldable pub schemaLine : SchemaAnswer → List ℕ
@@ -69,7 +59,7 @@ module _ (S T : List ℕ) (room : ℕ) where
 
 -- in a style
 module _ (s : Style) (S T : List ℕ) (room : ℕ) where
-  -- 01, What the gateway reads: a last line needs no LF, and nothing after a last LF is no message
+  -- Reference, Program: at the end of the input a line may lack its LF, but has to have a byte
   abbrev pub lastLine : List ℕ → List ℕ
   lastLine [] = []
   lastLine (b ∷ m) = answerText S T room s (b ∷ m)
@@ -79,36 +69,25 @@ module _ (s : Style) (S T : List ℕ) (room : ℕ) where
   answersTo m [] = lastLine m
   answersTo m (b ∷ l) = elim (eqb b 10) [ true ↦ answerText S T room s m ++ answersTo [] l | false ↦ answersTo (m ++ (b ∷ [])) l ]
 
-  -- the answer to a message is put, but for the lines of its first n record words, which are to be shown after it
-  pub record Says (m : List ℕ) (at : ℕ) (old new words : List ℕ) (n r : ℕ) : Type 0 where
-    pub text : List ℕ
-    pub puts : Puts text at old new r
-    pub rest : answerText S T room s m ≡ text ++ treeLines S T room m (take n words)
-    pub few : n ≤ length words
+-- a file that can't be opened, or not be read
+abbrev pub no-schema : List ℕ
+no-schema = text "no schema" ++ (10 ∷ [])
 
-  -- From a place in a chunk to the next the input is answered, whatever follows the chunk, but for the lines that are to be shown.
-  pub record Takes (chunk : List ℕ) (p : Place) (carry old carry′ words new : List ℕ) (r : Taken) : Type 0 where
-    pub text : List ℕ
-    pub puts : Puts text (p .at) old new (r .at)
-    pub splits : (rest : List ℕ) → answersTo (take (p .kept) carry) (drop (p .next) chunk ++ rest) ≡ text ++ (treeLines S T room (take (r .size) carry′) (take (r .words) words) ++ answersTo (take (r .kept) carry′) (drop (r .next) chunk ++ rest))
-    pub moves : p .next < length chunk → p .next < r .next
-    pub within : r .next ≤ length chunk
-    pub keeps : r .kept ≤ length carry′
-    pub ended : p .next + beforeLF (drop (p .next) chunk) < length chunk → r .kept ≡ 0
-    pub sized : r .size ≤ length carry′
-    pub few : r .words ≤ length words
+module _ (s : Style) where
+  -- what stands first: the schema's line, where there is a file
+  abbrev pub firstLine : Option (List ℕ) → List ℕ
+  firstLine none = no-schema
+  firstLine (some S) = schemaText s (schemaResult S table-room .answer)
 
--- no more than 4,096 records are lent, the longest line has room, and of a line that goes on a byte more than the longest message
-pub record Room (records out carry : List ℕ) : Type 0 where
-  pub few : length records ≤ record-room
-  pub wide : longest-line ≤ length out
-  pub long : message-bytes < length carry
+  -- a program stops after a refused schema, and answers messages by the rows counted of an accepted one
+  abbrev pub messageLines : List ℕ → List ℕ → SchemaAnswer → List ℕ → List ℕ
+  messageLines S words (Accepted n) input = answersTo s S (take (row-words * n) words) record-room [] input
+  messageLines S words (Refused x) input = []
 
--- there is room for another line
-abbrev pub RoomIn : ℕ → Wrote → Type 0
-RoomIn room (Wrotes.At p) = p + longest-line ≤ room
-RoomIn room Wrotes.Stop = Unit {0}
+  abbrev pub laterLines : Option (List ℕ) → List ℕ → List ℕ
+  laterLines none input = []
+  laterLines (some S) input = let o = schemaResult S table-room in messageLines S (o .words) (o .answer) input
 
-abbrev pub KeptIn : ℕ → Turn → Type 0
-KeptIn room (Turns.Kept n) = n ≤ room
-KeptIn room Turns.Stop = Unit {0}
+  -- all that a program writes, given the bytes of its schema file, if there is one, and of its input
+  unfoldable pub programText : Option (List ℕ) → List ℕ → List ℕ
+  programText file input = firstLine file ++ laterLines file input

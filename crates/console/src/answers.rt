@@ -20,7 +20,8 @@ ghost use Prim.Native.Nat.{_+_, _≤_};
 ghost use lib.ListN.{length};
 ghost use Rattle.lines.specs.Text.{Puts};
 ghost use Rattle.wordings.specs.Wordings.{refusal-room};
-ghost use Rattle.console.specs.Program.{record-room, longest-line, schemaText, resultLine, Says};
+ghost use Rattle.console.specs.Program.{record-room, schemaText, resultLine};
+ghost use Rattle.console.specs.Serving.Steps.{longest-line, Says};
 
 // How a program answers: in numbers, or in words and as a tree of records.
 pub enum Style {

@@ -1,6 +1,6 @@
 // A file, read to its end or as far as the room goes.
 ghost use lib.ListN.{length};
-ghost use Rattle.console.specs.Joining.{Within};
+ghost use Rattle.console.specs.Serving.Beginning.{Within};
 
 pub enum Read {
     Bytes(usize),

@@ -3,7 +3,7 @@ use lines::ends::keep;
 use lines::ends::line_end;
 ghost use Prim.Native.Nat.{_≤_};
 ghost use lib.ListN.{length};
-ghost use Rattle.console.specs.Joining.{Joins};
+ghost use Rattle.console.specs.Serving.Joining.{Joins};
 
 // A whole line in the first so many bytes of the carry, and the place in the chunk after its LF; or the chunk is used up, and so many bytes are kept.
 pub enum Joined {

@@ -2,7 +2,9 @@
 pub mod answers;
 pub mod files;
 pub mod joins;
+pub mod opening;
 pub mod rooms;
 pub mod run;
+pub mod showing;
 pub mod steps;
 pub mod turns;

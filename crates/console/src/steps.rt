@@ -5,7 +5,7 @@ use crate::joins::Joined;
 use crate::joins::join_line;
 ghost use Prim.Native.Nat.{_+_, _≤_};
 ghost use lib.ListN.{length};
-ghost use Rattle.console.specs.Program.{longest-line, Room, Takes};
+ghost use Rattle.console.specs.Serving.Steps.{longest-line, Room, Takes};
 
 // A place in a chunk, how many bytes are kept of the line that goes on there, and the place after the answers put so far.
 pub struct Place {

@@ -1,22 +1,21 @@
 // Standard input, chunk by chunk. What is answered is written before the next read.
 use crate::answers::LINE;
 use crate::answers::Style;
-use crate::rooms::LINE_ROOM;
-use crate::rooms::RECORD_COUNT;
-use crate::rooms::RECORD_ROOM;
+use crate::rooms::end_room;
+use crate::rooms::line_room;
+use crate::rooms::record_room;
+use crate::showing::show_records;
 use crate::steps::Place;
 use crate::steps::take_line;
 use libc::STDIN_FILENO;
 use libc::STDOUT_FILENO;
-use trees::tree::put_tree;
-use walker::records::whole_records;
-ghost use Prim.Native.Nat.{_+_, _*_, _≤_};
+ghost use Prim.Native.Nat.{_≤_};
 ghost use mathlib.Core.Bool.{true};
 ghost use mathlib.Core.Path.{_≡_};
 ghost use lib.ListN.{length};
-ghost use Rattle.grammar.specs.Limits.{message-bytes};
 ghost use Rattle.trees.specs.TreeText.{line-room};
-ghost use Rattle.console.specs.Program.{record-room, longest-line, out-room, Room, RoomIn, KeptIn};
+ghost use Rattle.console.specs.Serving.Steps.{longest-line, out-room, Room, RoomIn, KeptIn};
+ghost use Rattle.console.specs.Serving.Beginning.{TableOf};
 
 // Room for answers: twice the longest line.
 const OUT: usize = 2 * LINE;
@@ -33,42 +32,17 @@ enum Wrote {
     Stop,
 }
 
-// Writes the lines of the records, as many at a time as there is room for.
-fn show_records(
-    table: &[u32],
-    schema: &[u8],
-    message: &[u8],
-    records: &[u32],
-    ends: &mut [u32],
-    out: &mut [u8],
-) -> bool
-    requires { ⌜ line-room ≤ length (now out) ⌝ }
-{
-    let count = whole_records(records);
-    let mut i = 0;
-    let mut around = 0;
-    while i < count {
-        let p = put_tree(schema, table, message, records, i, ends, around, out);
-        i = p.next;
-        let at = p.at;
-        around = p.around;
-        if !io::write_all(STDOUT_FILENO, &out[0..at]) {
-            return false;
-        }
-    }
-    true
-}
-
+// The records of a message as lines.
 fn show_tree(table: &[u32], schema: &[u8], message: &[u8], records: &[u32], out: &mut [u8]) -> bool
     requires { ⌜ line-room ≤ length (now out) ⌝ }
 {
-    let mut ends = [0u32; RECORD_COUNT];
-    show_records(table, schema, message, records, &mut ends, out)
+    let mut ends = end_room();
+    show_records(schema, table, message, records, &mut ends, out)
 }
 
 // Nothing is to be shown, and there is room for another line.
 fn may_wait(words: usize, room: usize) -> bool
-    ensures { λ r. ⌜ ((r ≡ true) → longest-line ≤ room) ⌝ }
+    ensures { λ r. ⌜ ((r ≡ true) → (words ≡ 0) × (longest-line ≤ room)) ⌝ }
 {
     if words != 0 {
         return false;
@@ -204,27 +178,17 @@ fn take_all(
     }
 }
 
-// The rooms for records, for a line and for answers.
-fn record_room() -> [u32; RECORD_ROOM]
-    ensures { λ r. ⌜ record-room ≡ length r ⌝ }
-{
-    [0; RECORD_ROOM]
-}
-
-fn line_room() -> [u8; LINE_ROOM]
-    ensures { λ r. ⌜ message-bytes + 1 ≡ length r ⌝ }
-{
-    [0; LINE_ROOM]
-}
-
+// The room for answers.
 fn out_room() -> [u8; OUT]
     ensures { λ r. ⌜ out-room ≡ length r ⌝ }
 {
     [0; OUT]
 }
 
-// Answers every line of standard input.
-pub fn take_input(style: Style, table: &[u32], schema: &[u8]) {
+// Answers every line of standard input, by the table of an accepted schema.
+pub fn take_input(style: Style, table: &[u32], schema: &[u8])
+    requires { ⌜ TableOf (now schema) (now table) ⌝ }
+{
     let mut chunk = io::large_buffer();
     let mut carry = line_room();
     let mut records = record_room();

@@ -7,17 +7,21 @@ use mathlib.Core.List.{List, map}
 use mathlib.Core.Option.{Option, none, some}
 use lib.ListN.{length-map}
 use Rattle.grammar.specs.Notation.{text}
-use Rattle.grammar.specs.Tree.{Json, Fields}
-use Rattle.grammar.specs.Machine.Schema.{schema}
+use Rattle.grammar.specs.Tree.{Json, Fields, startOf, endOf, kindOf}
+use Rattle.grammar.specs.Tree.Kind.{string}
+use Rattle.grammar.specs.Serving.Machine.Schema.{schema}
 use Rattle.lookups.specs.Lookups.{FindsValue}
 use Rattle.rules.specs.Kinds.{alternative-kind}
-use Rattle.rules.specs.Definitions.{Name, Data, Body, asNames, asMembers, asPairs, asData, asStructName, must, may}
+use Rattle.rules.specs.Types.{sameKind}
+use Rattle.rules.specs.Definitions.{Name, Body, quoted, asName, asNames, asMembers, asPairs, asData, must, may}
 use Rattle.rules.specs.Definitions.{enumBody, structBody, alternateBody}
-use Rattle.rules.specs.Definitions.Data.{absent}
+use Rattle.rules.specs.Definitions.Data.{inline, named}
 use Rattle.rules.specs.Definitions.Body.{enum, struct, alternate}
-use Rattle.rules.specs.Values.{_>>=_, valueAt}
+use Rattle.rules.specs.Values.{_>>=_, ifAbsent, valueAt}
+use Rattle.rules.specs.Rules.{is}
 use Rattle.rules.specs.SchemaTable.{dataLink}
-use Rattle.rules.specs.RawTable.{packed}
+use Rattle.rules.specs.Serving.RawTable.{packed}
+use Rattle.rules.proofs.Lists.{clash, none-not-some, is-true}
 use Rattle.definitions.specs.Places.{Found, NameWord, Links, BaseFits}
 use Rattle.definitions.specs.Parts.{valueRow, memberRow, pairRow, childRows, countedRows, CountedAt, FieldsAt, ListAt, BodyAt, bodyRows}
 use Rattle.definitions.proofs.Options.{then, must-then, never}
@@ -26,6 +30,16 @@ use Rattle.definitions.proofs.CountLaws.{counted-rows}
 -- what stands under a key
 pub found-at : {s w : List ℕ} {name : List ℕ} {fs : Fields} {k r : ℕ} → FieldsAt s w fs k → FindsValue schema s w k name r → Found s w (valueAt name fs) r
 found-at {fs = fs} h g = record { small = h .small; level = h .level; found = g .told fs (h .level) (h .holds) }
+
+-- it is there, or nowhere
+pub record Somewhere (s w : List ℕ) (o : Option Json) (k : ℕ) : Type 0 where
+  pub value : Json
+  pub is : o ≡ some value
+  pub found : Found s w (some value) k
+
+pub somewhere : {s w : List ℕ} {k : ℕ} (o : Option Json) → Found s w o k → (k ≡ 0 → ⊥) → Somewhere s w o k
+somewhere none f n = absurd (n (f .found))
+somewhere (some j) f n = record { value = j; is = refl; found = f }
 
 pub nowhere : {s w : List ℕ} {k : ℕ} (o : Option Json) → Found s w o k → k ≡ 0 → o ≡ none
 nowhere none f e = refl
@@ -53,6 +67,24 @@ list-counted {s} {w} {kind} {link} g a b o h =
           (sym (b .told (h .name) (h .named)));
     }
 
+-- a struct's base is data that is a name
+base-data : (o : Option Json) (x : Option Name) → may asName o ≡ some x → may asData o ≡ some (x >>= λ n. some (named n))
+base-data none x e = let z : x ≡ none = cc in rw z
+base-data (some j) x e = go (sameKind (kindOf j) string) e
+  where
+    go : (b : Bool) → (cond b (some (quoted (startOf j) (endOf j))) none >>= λ n. some (some n)) ≡ some x
+        → (cond b (some (named (quoted (startOf j) (endOf j)))) (asMembers j >>= λ ms. some (inline ms)) >>= λ d. some (some d)) ≡ some (x >>= λ n. some (named n))
+    go true q = let z : x ≡ some (quoted (startOf j) (endOf j)) = cc in rw z
+    go false q = none-not-some q
+
+base-link : (n : ℕ) (x : Option Name) → ifAbsent 0 (dataLink packed n) (x >>= λ m. some (named m)) ≡ ifAbsent 0 packed x
+base-link n none = refl
+base-link n (some m) = refl
+
+none-is : {A : Type 0} (o : Option A) → is o (λ _. true) ≡ false → o ≡ none
+none-is none e = refl
+none-is (some x) e = clash refl e
+
 module _ {s w : List ℕ} {k v n : ℕ} where
   list-of : {body : Fields → Option Body} (kind link : ℕ) (o : Option (List ℕ)) (h : BodyAt s w body k v n o)
       → (body (h .fs) >>= λ b. some (bodyRows n (h .name) b))
@@ -70,16 +102,15 @@ module _ {s w : List ℕ} {k v n : ℕ} where
   struct-list {link = link} u e t l o h =
       let b = valueAt (text "base") (h .fs) in
       let f = found-at (h .fields) u in
-      let x = e .fits s b f t in
-      let y : link ≡ dataLink packed packed (λ _ m. packed m) n (x .0) = l .told s b f (x .0) (x .1) in
-      let z : may absent asStructName b ≡ some (x .0) = e .told s b f ∙ ap (λ (i : Bool). cond i (may absent asData b) none) t ∙ x .1 in
+      let x = is-true (may asName b) (λ _. true) (e .told s b f ∙ t) in
+      let y : link ≡ ifAbsent 0 packed (x .0) = l .told s b f (x .0 >>= λ i. some (named i)) (base-data b (x .0) (x .1)) ∙ base-link n (x .0) in
       list-of 3 link o h
-      (ap (λ (i : Option Data). (must asMembers (valueAt (text "data") (h .fs)) >>= λ ms. i >>= λ b. some (struct b ms)) >>= λ b. some (bodyRows n (h .name) b)) z
+      (ap (λ (i : Option (Option Name)). (must asMembers (valueAt (text "data") (h .fs)) >>= λ ms. i >>= λ b. some (struct b ms)) >>= λ b. some (bodyRows n (h .name) b)) (x .1)
       ∙ counted-body memberRow 3 link n (h .name) (λ ms. struct (x .0) ms) (λ ms. rw (y, length-map ms memberRow)) asMembers (valueAt (text "data") (h .fs)))
 
 pub struct-refused : {s w : List ℕ} {k v n base : ℕ} {r : Bool} → FindsValue schema s w k (text "base") base → BaseFits w base r → r ≡ false
     → (o : Option (List ℕ)) → BodyAt s w structBody k v n o → o ≡ none
 struct-refused {s} {n = n} u e t o h =
     let b = valueAt (text "base") (h .fs) in
-    let z : may absent asStructName b ≡ none = e .told s b (found-at (h .fields) u) ∙ ap (λ (i : Bool). cond i (may absent asData b) none) t in
+    let z : may asName b ≡ none = none-is (may asName b) (e .told s b (found-at (h .fields) u) ∙ t) in
     h .are ∙ rw z (ap (λ (i : Option Body). i >>= λ x. some (bodyRows n (h .name) x)) (never (must asMembers (valueAt (text "data") (h .fs)))))

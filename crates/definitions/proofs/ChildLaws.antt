@@ -10,14 +10,14 @@ use Rattle.grammar.specs.Tree.{Json}
 use Rattle.text.specs.Nodes.{nodeKind}
 use Rattle.lookups.specs.Lookups.{stringKind}
 use Rattle.rules.specs.Kinds.{value-kind, member-kind}
-use Rattle.rules.specs.Definitions.{Name, TypeText, quoted, starred, memberOf, asType}
-use Rattle.rules.specs.SchemaTable.{row, flag, isList, typeOf}
-use Rattle.rules.specs.RawTable.{packed}
+use Rattle.rules.specs.Definitions.{Name, TypeText, quoted, starred, keyedMember, asType}
+use Rattle.rules.specs.SchemaTable.{row, flag, listFlag, typeOf}
+use Rattle.rules.specs.Serving.RawTable.{packed}
 use Rattle.definitions.specs.declared.writing.Put.{Put}
 use Rattle.definitions.specs.declared.writing.Put.the-variants.{Rows, Refused}
 use Rattle.definitions.specs.declared.shapes.TypeRead.{TypeRead}
 use Rattle.definitions.specs.declared.shapes.TypeRead.the-variants as Types
-use Rattle.definitions.specs.Places.{Held, Named, NameWord, Star, TypeTold, TypeTaken, TakesType}
+use Rattle.definitions.specs.Places.{Held, Named, NameWord, Star, TypeTold, TakesType}
 use Rattle.definitions.specs.Written.{NamedRowPut, PutsRows}
 use Rattle.definitions.specs.Parts.{ValueAt, FieldAt, memberField, pairField, memberRow, ChildAt}
 use Rattle.definitions.specs.Parts.ChildAt.{value, member, pair}
@@ -44,7 +44,7 @@ value-held {s} {w} e v = subst (λ (i : ℕ). Held s w (v .value) i) (sym e) (he
 
 -- the row of a member does not depend on how its name begins
 member-row : (x e : ℕ) (b : Bool) (t : TypeText)
-    → memberRow (memberOf x e b t) ≡ row member-kind (memberOf x e b t .name) (typeOf packed packed (λ _ m. packed m) t) (flag (isList t)) (flag b) 0
+    → memberRow (keyedMember x e b t) ≡ row member-kind (keyedMember x e b t .name) (typeOf packed t) (listFlag t) (flag b) 0
 member-row x e true t = refl
 member-row x e false t = refl
 
@@ -81,12 +81,12 @@ module _ {s w old : List ℕ} {a n : ℕ} where
         → PutsRows (FieldAt s w memberField a) old new n 1 (Rows (n + 1))
     member-put {place = place} {list} {star} e g m =
         one-row m (λ (o : Option (List ℕ)) (v : FieldAt s w memberField a o).
-        let t : TypeTaken (asType (v .value)) place list = type-of h e v in
+        let t : TypeTold (asType (v .value)) (Types.Taken place list) = type-of h e v in
         let b = starred (v .key) in
         let x : star ≡ flag b = g .told (v .start) (v .end) (v .key) (v .keyed) in
-        let name = memberOf (v .start) (v .end) b (t .type) .name in
+        let name = keyedMember (v .start) (v .end) b (t .type) .name in
         let y : Named w a (flag b) name = member-named (v .keyed) (t .type) in
-        let z : memberField (v .start) (v .end) (v .key) (v .value) ≡ some (memberRow (memberOf (v .start) (v .end) b (t .type))) = rw (t .is) in (
+        let z : memberField (v .start) (v .end) (v .key) (v .value) ≡ some (memberRow (keyedMember (v .start) (v .end) b (t .type))) = rw (t .is) in (
           name,
           subst (λ (i : ℕ). Named w a i name) (sym x) y,
           v .are ∙ z ∙ ap some (member-row (v .start) (v .end) b (t .type) ∙ same-row name x (t .place) (t .list)),

@@ -13,17 +13,16 @@ use Rattle.grammar.proofs.Booleans.{none-not-some, some-is}
 use Rattle.text.specs.Nodes.{nodeKind}
 use Rattle.lookups.specs.Lookups.{stringKind}
 use Rattle.rules.specs.Kinds.{value-kind, member-kind}
-use Rattle.rules.specs.Definitions.{Data, asNames, asMembers, asPairs, asData, must, may}
-use Rattle.rules.specs.Definitions.Data.{absent, inline}
+use Rattle.rules.specs.Definitions.{Member, Data, asNames, asMembers, asPairs, asData, must, may}
+use Rattle.rules.specs.Definitions.Data.{inline}
 use Rattle.rules.specs.Values.{_>>=_}
-use Rattle.rules.specs.SchemaTable.{concat, inlineStruct}
-use Rattle.rules.specs.RawTable.{packed}
+use Rattle.rules.specs.SchemaTable.{concat}
 use Rattle.definitions.specs.declared.writing.Put.{Put}
 use Rattle.definitions.specs.declared.writing.Put.the-variants.{Rows, Refused}
 use Rattle.definitions.specs.Places.{Found}
 use Rattle.definitions.specs.Written.{RowPut, RowsAre, PutsRows}
-use Rattle.definitions.specs.Parts.{valueRow, memberRow, pairRow, childRows, ChildrenAt, countedRows, CountedAt, InlineAt}
-use Rattle.definitions.proofs.Options.{came-of, none-of, then}
+use Rattle.definitions.specs.Parts.{valueRow, memberRow, pairRow, childRows, ChildrenAt, countedRows, CountedAt, inlineWords, InlineAt}
+use Rattle.definitions.proofs.Options.{came-of, none-of}
 use Rattle.definitions.proofs.Stores.{put-none, put-under, came, failed}
 use Rattle.definitions.proofs.NameLaws.{is-name, no-string}
 use Rattle.definitions.proofs.ShapeLaws.{held-there}
@@ -107,14 +106,17 @@ module _ {A : Type 0} (f : A → List ℕ) (kind start size link : ℕ) (rows : 
   counted-rows none = refl
   counted-rows (some l) = ap some (same l)
 
-abbrev pub inlineRows : Data → List ℕ
-inlineRows d = inlineStruct packed packed (λ _ n. packed n) d
+-- members written out
+inline-rows : (x : Option (List Member))
+    → (((x >>= λ ms. some (inline ms)) >>= λ d. some (some d)) >>= λ d. some (inlineWords d)) ≡ ((x >>= λ ms. some (map memberRow ms)) >>= λ rs. some (countedRows 3 0 0 0 rs))
+inline-rows none = refl
+inline-rows (some ms) = rw (length-map ms memberRow)
 
 module _ {s w : List ℕ} {k : ℕ} where
   pub inline-absent : k ≡ 0 → (o : Option (List ℕ)) → InlineAt s w k o → o ≡ some []
   inline-absent e o v = go (v .value) (v .found) (v .are)
     where
-      go : (x : Option Json) → Found s w x k → o ≡ (may absent asData x >>= λ d. some (inlineRows d)) → o ≡ some []
+      go : (x : Option Json) → Found s w x k → o ≡ (may asData x >>= λ d. some (inlineWords d)) → o ≡ some []
       go none f q = q
       go (some j) f q = absurd (omega (arith, f .found .0))
 
@@ -122,35 +124,34 @@ module _ {s w : List ℕ} {k : ℕ} where
     pub inline-name : t ≡ true → (o : Option (List ℕ)) → InlineAt s w k o → o ≡ some []
     inline-name y o v = go (v .value) (v .found) (v .are)
       where
-        go : (x : Option Json) → Found s w x k → o ≡ (may absent asData x >>= λ d. some (inlineRows d)) → o ≡ some []
+        go : (x : Option Json) → Found s w x k → o ≡ (may asData x >>= λ d. some (inlineWords d)) → o ≡ some []
         go none f q = absurd (z (f .found))
         go (some j) f q = let u = is-name (held-there f) e y in q ∙ rw (u .kind)
 
     pub inline-members : t ≡ false → (o : Option (List ℕ)) → InlineAt s w k o → CountedAt s w 3 0 0 0 k o
     inline-members y o v = record { value = v .value; found = v .found; are = go (v .value) (v .found) (v .are) }
       where
-        go : (x : Option Json) → Found s w x k → o ≡ (may absent asData x >>= λ d. some (inlineRows d)) → o ≡ (must (childRows 4) x >>= λ rs. some (countedRows 3 0 0 0 rs))
+        go : (x : Option Json) → Found s w x k → o ≡ (may asData x >>= λ d. some (inlineWords d)) → o ≡ (must (childRows 4) x >>= λ rs. some (countedRows 3 0 0 0 rs))
         go none f q = absurd (z (f .found))
         go (some j) f q =
-            q ∙ rw (no-string (held-there f) e y)
-            (then inline (λ d. some (inlineRows d)) (asMembers j) ∙ counted-rows memberRow 3 0 0 0 (λ ms. inlineRows (inline ms)) (λ ms. rw (length-map ms memberRow)) (asMembers j))
+            q ∙ rw (no-string (held-there f) e y) (inline-rows (asMembers j))
 
 -- an inline struct that was put
 pub record InlinePut (o : Option Json) (old new : List ℕ) (n m : ℕ) : Type 0 where
-  pub data-is : Data
-  pub are : may absent asData o ≡ some data-is
-  pub size : row-words * m ≡ row-words * n + length (inlineRows data-is)
-  pub put : RowPut old new n (inlineRows data-is)
+  pub data-is : Option Data
+  pub are : may asData o ≡ some data-is
+  pub size : row-words * m ≡ row-words * n + length (inlineWords data-is)
+  pub put : RowPut old new n (inlineWords data-is)
 
 module _ {s w : List ℕ} {k : ℕ} {old new : List ℕ} {n most : ℕ} {r : Put} (h : PutsRows (InlineAt s w k) old new n most r) {o : Option Json} (f : Found s w o k) where
-  inside : InlineAt s w k (may absent asData o >>= λ d. some (inlineRows d))
+  inside : InlineAt s w k (may asData o >>= λ d. some (inlineWords d))
   inside = record { value = o; found = f; are = refl }
 
   pub inline-put : {m : ℕ} → r ≡ Rows m → InlinePut o old new n m
   inline-put e =
-      let c = came h e (may absent asData o >>= λ d. some (inlineRows d)) inside in
-      let u = came-of inlineRows (may absent asData o) (c .are) in
+      let c = came h e (may asData o >>= λ d. some (inlineWords d)) inside in
+      let u = came-of inlineWords (may asData o) (c .are) in
       record { data-is = u .0; are = u .1; size = c .size ∙ ap (λ (xs : List ℕ). row-words * n + length xs) (u .2); put = subst (λ (xs : List ℕ). RowPut old new n xs) (u .2) (c .put) }
 
-  pub inline-none : r ≡ Refused → may absent asData o ≡ none
-  inline-none e = none-of inlineRows (may absent asData o) (failed h e (may absent asData o >>= λ d. some (inlineRows d)) inside)
+  pub inline-none : r ≡ Refused → may asData o ≡ none
+  inline-none e = none-of inlineWords (may asData o) (failed h e (may asData o >>= λ d. some (inlineWords d)) inside)

@@ -6,7 +6,7 @@ use mathlib.Core.List.{List}
 use lib.Dec.{eqb}
 use borrow.Author.Tests.{ne-eqb}
 use Rattle.grammar.specs.Notation.{same, apart}
-use Rattle.grammar.specs.Machine.Schema.{schema}
+use Rattle.grammar.specs.Serving.Machine.Schema.{schema}
 use Rattle.grammar.proofs.Booleans.{by}
 use Rattle.lookups.specs.Lookups.{FindsKeys}
 use Rattle.rules.specs.Kinds.{enum-kind, struct-kind, union-kind, alternate-kind, command-kind}

@@ -10,7 +10,7 @@ use Rattle.grammar.specs.Tree.{Json, Fields}
 use Rattle.grammar.specs.Tree.Json.{leaf, arr, obj}
 use Rattle.grammar.proofs.Booleans.{both, none-not-some}
 use Rattle.grammar.specs.Keys.{keysOf, keysOnce, keysOnceF}
-use Rattle.grammar.specs.Machine.Schema.{schema}
+use Rattle.grammar.specs.Serving.Machine.Schema.{schema}
 use Rattle.text.specs.Nodes.{nodeKind}
 use Rattle.lookups.specs.Lookups.{stringKind, FindsValue, NoOtherKeys}
 use Rattle.rules.specs.Kinds.{enum-kind, struct-kind, union-kind, alternate-kind}
@@ -18,11 +18,10 @@ use Rattle.rules.specs.Definitions.{Name, Body, Definition, only, commandBody, 
 use Rattle.rules.specs.Values.{_>>=_, asFields, anyOf, valueAt}
 use Rattle.definitions.specs.declared.definitions.KindKey.{KindKey}
 use Rattle.definitions.specs.declared.definitions.KindKey.the-variants.{Key, NoKey}
-use Rattle.definitions.specs.Places.{Held, Found}
 use Rattle.definitions.specs.Parts.{FieldsAt, BodyAt, keysFor, bodyFor, bodyRows, rowsAt, kindOnly, KindAt, KindTold, FindsKind, DefinitionAt}
 use Rattle.definitions.proofs.NameLaws.{is-name, no-name}
 use Rattle.definitions.proofs.ShapeLaws.{held-there, as-object, no-object}
-use Rattle.definitions.proofs.BodyLaws.{found-at, nowhere}
+use Rattle.definitions.proofs.BodyLaws.{found-at, Somewhere, somewhere, nowhere}
 use Rattle.tokens.specs.NodeKinds.{object-node}
 
 module _ {s w : List ℕ} {k v n : ℕ} where
@@ -71,15 +70,6 @@ module _ {s w : List ℕ} (kind : ℕ) {k v n : ℕ} {r : Bool} (q : r ≡ strin
         }
 
 -- the kind key
-pub record Somewhere (s w : List ℕ) (o : Option Json) (k : ℕ) : Type 0 where
-  pub value : Json
-  pub is : o ≡ some value
-  pub held : Held s w value k
-
-somewhere : {s w : List ℕ} {k : ℕ} (o : Option Json) → Found s w o k → (k ≡ 0 → ⊥) → Somewhere s w o k
-somewhere none f n = absurd (n (f .found))
-somewhere (some j) f n = record { value = j; is = refl; held = held-there f }
-
 absent-at : {s w name : List ℕ} {k r : ℕ} {fs : Fields} → FieldsAt s w fs k → FindsValue schema s w k name r → r ≡ 0 → valueAt name fs ≡ none
 absent-at {name = name} {fs = fs} h f e = nowhere (valueAt name fs) (found-at h f) e
 
@@ -108,24 +98,24 @@ module _ (fs : Fields) {j : Json} where
 
 module _ {s w : List ℕ} {k e : ℕ} (f : FindsValue schema s w k (text "enum") e) where
   pub kind-enum : (e ≡ 0 → ⊥) → FindsKind s w k (Key 1 e)
-  kind-enum z = record { told = λ fs h. let v = there-at h f z in (v .value, v .held, is-enum fs (v .is)) }
+  kind-enum z = record { told = λ fs h. let v = there-at h f z in (v .value, held-there (v .found), is-enum fs (v .is)) }
 
   module _ {t : ℕ} (a : e ≡ 0) (g : FindsValue schema s w k (text "struct") t) where
     pub kind-struct : (t ≡ 0 → ⊥) → FindsKind s w k (Key 3 t)
-    kind-struct z = record { told = λ fs h. let v = there-at h g z in (v .value, v .held, is-struct fs (absent-at h f a) (v .is)) }
+    kind-struct z = record { told = λ fs h. let v = there-at h g z in (v .value, held-there (v .found), is-struct fs (absent-at h f a) (v .is)) }
 
     module _ {u : ℕ} (b : t ≡ 0) (l : FindsValue schema s w k (text "union") u) where
       pub kind-union : (u ≡ 0 → ⊥) → FindsKind s w k (Key 5 u)
-      kind-union z = record { told = λ fs h. let v = there-at h l z in (v .value, v .held, is-union fs (absent-at h f a) (absent-at h g b) (v .is)) }
+      kind-union z = record { told = λ fs h. let v = there-at h l z in (v .value, held-there (v .found), is-union fs (absent-at h f a) (absent-at h g b) (v .is)) }
 
       module _ {x : ℕ} (c : u ≡ 0) (m : FindsValue schema s w k (text "alternate") x) where
         pub kind-alternate : (x ≡ 0 → ⊥) → FindsKind s w k (Key 7 x)
-        kind-alternate z = record { told = λ fs h. let v = there-at h m z in (v .value, v .held, is-alternate fs (absent-at h f a) (absent-at h g b) (absent-at h l c) (v .is)) }
+        kind-alternate z = record { told = λ fs h. let v = there-at h m z in (v .value, held-there (v .found), is-alternate fs (absent-at h f a) (absent-at h g b) (absent-at h l c) (v .is)) }
 
         module _ {y : ℕ} (d : x ≡ 0) (p : FindsValue schema s w k (text "command") y) where
           pub kind-command : (y ≡ 0 → ⊥) → FindsKind s w k (Key 9 y)
           kind-command z =
-              record { told = λ fs h. let v = there-at h p z in (v .value, v .held, is-command fs (absent-at h f a) (absent-at h g b) (absent-at h l c) (absent-at h m d) (v .is)) }
+              record { told = λ fs h. let v = there-at h p z in (v .value, held-there (v .found), is-command fs (absent-at h f a) (absent-at h g b) (absent-at h l c) (absent-at h m d) (v .is)) }
 
           pub kind-none : y ≡ 0 → FindsKind s w k NoKey
           kind-none z = record { told = λ fs h. rw (absent-at h f a, absent-at h g b, absent-at h l c, absent-at h m d, absent-at h p z) }

@@ -14,11 +14,11 @@ use Rattle.grammar.specs.Limits.{schema-bytes, row-words}
 use Rattle.grammar.specs.Tree.{Json, Items, Fields}
 use Rattle.grammar.specs.Tree.Items.{no-items, item}
 use Rattle.grammar.specs.Tree.Fields.{no-fields, field}
-use Rattle.grammar.specs.Machine.Schema.{schema}
+use Rattle.grammar.specs.Serving.Machine.Schema.{schema}
 use Rattle.text.specs.Nodes.{next, HoldsItems, HoldsFields, nodeKind}
 use Rattle.text.proofs.KeyLaws.{goes-on}
 use Rattle.rules.specs.Kinds.{value-kind, member-kind}
-use Rattle.rules.specs.Definitions.{Name, TypeText, quoted, starred, memberOf, asName, asType, names, members, pairs, asNames, asMembers, asPairs, must}
+use Rattle.rules.specs.Definitions.{asName, asMember, asPair, eachItem, eachField, asNames, asMembers, asPairs, must}
 use Rattle.rules.specs.Values.{_>>=_}
 use Rattle.rules.specs.SchemaTable.{concat}
 use Rattle.definitions.specs.declared.writing.Put.{Put}
@@ -50,11 +50,10 @@ ahead-more xs ys (some zs) = ap some (sym (append-assoc xs ys zs))
 abbrev pub rowsOfAll : {A : Type 0} → (A → List ℕ) → Option (List A) → Option (List ℕ)
 rowsOfAll f o = o >>= λ l. some (concat (map f l))
 
-first-rows : {A B : Type 0} (f : A → List ℕ) (g : B → A) (x : Option B) (y : Option (List A))
-    → rowsOfAll f (x >>= λ b. y >>= λ l. some (g b ∷ l)) ≡ joined (x >>= λ b. some (f (g b))) (rowsOfAll f y)
-first-rows f g none y = refl
-first-rows f g (some b) none = refl
-first-rows f g (some b) (some l) = refl
+first-rows : {A : Type 0} (f : A → List ℕ) (x : Option A) (y : Option (List A)) → rowsOfAll f (x >>= λ a. y >>= λ l. some (a ∷ l)) ≡ joined (x >>= λ a. some (f a)) (rowsOfAll f y)
+first-rows f none y = refl
+first-rows f (some a) none = refl
+first-rows f (some a) (some l) = refl
 
 mapped : {A : Type 0} (f : A → List ℕ) (x : Option (List A)) → (x >>= λ l. some (map f l)) >>= (λ rs. some (concat rs)) ≡ rowsOfAll f x
 mapped f none = refl
@@ -63,10 +62,10 @@ mapped f (some l) = refl
 module _ (s w : List ℕ) (kind : ℕ) where
   -- the nodes from a up to e list children whose rows are these
   pub data Listed (a e : ℕ) (o : Option (List ℕ)) : Type 0 where
-    values : kind ≡ value-kind → length s ≤ schema-bytes → (js : Items) (l : ℕ) → HoldsItems schema s w js l a e → o ≡ rowsOfAll valueRow (names js) → Listed a e o
-    fields : kind ≡ member-kind → length s ≤ schema-bytes → (fs : Fields) (l : ℕ) → HoldsFields schema s w fs l a e → o ≡ rowsOfAll memberRow (members fs) → Listed a e o
+    values : kind ≡ value-kind → length s ≤ schema-bytes → (js : Items) (l : ℕ) → HoldsItems schema s w js l a e → o ≡ rowsOfAll valueRow (eachItem asName js) → Listed a e o
+    fields : kind ≡ member-kind → length s ≤ schema-bytes → (fs : Fields) (l : ℕ) → HoldsFields schema s w fs l a e → o ≡ rowsOfAll memberRow (eachField asMember fs) → Listed a e o
     others : (kind ≡ value-kind → ⊥) → (kind ≡ member-kind → ⊥) → length s ≤ schema-bytes → (fs : Fields) (l : ℕ) → HoldsFields schema s w fs l a e
-        → o ≡ rowsOfAll (pairRow kind) (pairs fs) → Listed a e o
+        → o ≡ rowsOfAll (pairRow kind) (eachField asPair fs) → Listed a e o
 
   listed-end : {a e : ℕ} {o : Option (List ℕ)} → e ≤ a → Listed a e o → o ≡ some []
   listed-end h (values q z no-items l x y) = y
@@ -102,31 +101,31 @@ module _ (s w : List ℕ) (kind : ℕ) where
   listed-first {a} {e} h (values q z (item j js) l x y) =
       record {
         here = asName j >>= λ v. some (valueRow v);
-        rest = rowsOfAll valueRow (names js);
+        rest = rowsOfAll valueRow (eachItem asName js);
         child = value q record { value = j; held = record { small = z; level = l; holds = x .1 }; are = refl };
         on = goes-on schema s w j l a (x .1);
         listed = values q z js l (x .2) refl;
-        is = y ∙ first-rows valueRow (λ (v : Name). v) (asName j) (names js);
+        is = y ∙ first-rows valueRow (asName j) (eachItem asName js);
       }
   listed-first h (fields q z no-fields l x y) = absurd (omega (arith, x))
   listed-first {a} {e} h (fields q z (field b c cs j fs) l x y) =
       record {
         here = memberField b c cs j;
-        rest = rowsOfAll memberRow (members fs);
+        rest = rowsOfAll memberRow (eachField asMember fs);
         child = member q (first-field z b c cs j fs l x);
         on = omega (arith, goes-on schema s w j l (suc a) (x .3), x .4);
         listed = fields q z fs l (x .5) refl;
-        is = y ∙ first-rows memberRow (λ (t : TypeText). memberOf b c (starred cs) t) (asType j) (members fs);
+        is = y ∙ first-rows memberRow (asMember b c cs j) (eachField asMember fs);
       }
   listed-first h (others p q z no-fields l x y) = absurd (omega (arith, x))
   listed-first {a} {e} h (others p q z (field b c cs j fs) l x y) =
       record {
         here = pairField kind b c cs j;
-        rest = rowsOfAll (pairRow kind) (pairs fs);
+        rest = rowsOfAll (pairRow kind) (eachField asPair fs);
         child = pair p q (first-field z b c cs j fs l x);
         on = omega (arith, goes-on schema s w j l (suc a) (x .3), x .4);
         listed = others p q z fs l (x .5) refl;
-        is = y ∙ first-rows (pairRow kind) (λ (t : Name). record { name = quoted b c; type = t }) (asName j) (pairs fs);
+        is = y ∙ first-rows (pairRow kind) (asPair b c cs j) (eachField asPair fs);
       }
 
   -- the children passed are put from row n up to row m; those from node a up to node e are left
@@ -208,7 +207,7 @@ module _ {s w : List ℕ} {kind k x list : ℕ} (z : k ≡ 0 → ⊥) (e : x ≡
   pub children-other : (x ≡ list → ⊥) → (o : Option (List ℕ)) → ChildrenAt s w kind k o → o ≡ none
   children-other n = there (λ j h o q. q ∙ go j h (eqb kind value-kind) (eqb kind member-kind) f)
     where
-      go : (j : Json) → Held s w j k → (a b : Bool) → list ≡ cond a 8 9
+      go : (j : Json) → Held s w j k → (a b : Bool) → list ≡ cond a array-node object-node
           → (cond a (asNames j >>= λ vs. some (map valueRow vs)) (cond b (asMembers j >>= λ ms. some (map memberRow ms)) (asPairs j >>= λ ps. some (map (pairRow kind) ps)))
           >>= λ rs. some (concat rs))
           ≡ none
@@ -220,29 +219,29 @@ module _ {s w : List ℕ} {kind k x list : ℕ} (z : k ≡ 0 → ⊥) (e : x ≡
     pub children-list : (o : Option (List ℕ)) → ChildrenAt s w kind k o → (k < end) × Listed s w kind (k + 1) end o
     children-list = there (λ j h o q. go j h o (eqb kind value-kind) (eqb kind member-kind) refl refl f q)
       where
-        go : (j : Json) → Held s w j k → (o : Option (List ℕ)) (a b : Bool) → eqb kind value-kind ≡ a → eqb kind member-kind ≡ b → list ≡ cond a 8 9
+        go : (j : Json) → Held s w j k → (o : Option (List ℕ)) (a b : Bool) → eqb kind value-kind ≡ a → eqb kind member-kind ≡ b → list ≡ cond a array-node object-node
             → o ≡ (cond a (asNames j >>= λ vs. some (map valueRow vs)) (cond b (asMembers j >>= λ ms. some (map memberRow ms)) (asPairs j >>= λ ps. some (map (pairRow kind) ps)))
             >>= λ rs. some (concat rs))
             → (k < end) × Listed s w kind (k + 1) end o
         go j h o true b u v y q =
             let r = as-array j h (sym e ∙ t ∙ y) in (
               omega (arith, r .on),
-              values (eqb-true kind 2 u) (h .small) (r .items) (r .level) (subst₂ (λ (i n : ℕ). HoldsItems schema s w (r .items) (r .level) i n) (sym (add-one k)) (sym p) (r .holds))
-                  (q ∙ rw (r .is) (mapped valueRow (names (r .items)))),
+              values (eqb-true kind value-kind u) (h .small) (r .items) (r .level) (subst₂ (λ (i n : ℕ). HoldsItems schema s w (r .items) (r .level) i n) (sym (add-one k)) (sym p) (r .holds))
+                  (q ∙ rw (r .is) (mapped valueRow (eachItem asName (r .items)))),
             )
         go j h o false true u v y q =
             let r = as-object j h (sym e ∙ t ∙ y) in (
               omega (arith, r .on),
-              fields (eqb-true kind 4 v) (h .small) (r .fs) (r .fields .level)
+              fields (eqb-true kind member-kind v) (h .small) (r .fs) (r .fields .level)
                   (subst₂ (λ (i n : ℕ). HoldsFields schema s w (r .fs) (r .fields .level) i n) (sym (add-one k)) (sym p) (r .fields .holds))
-                  (q ∙ rw (r .is) (mapped memberRow (members (r .fs)))),
+                  (q ∙ rw (r .is) (mapped memberRow (eachField asMember (r .fs)))),
             )
         go j h o false false u v y q =
             let r = as-object j h (sym e ∙ t ∙ y) in (
               omega (arith, r .on),
-              others (eqb-false kind 2 u) (eqb-false kind 4 v) (h .small) (r .fs) (r .fields .level)
+              others (eqb-false kind value-kind u) (eqb-false kind member-kind v) (h .small) (r .fs) (r .fields .level)
                   (subst₂ (λ (i n : ℕ). HoldsFields schema s w (r .fs) (r .fields .level) i n) (sym (add-one k)) (sym p) (r .fields .holds))
-                  (q ∙ rw (r .is) (mapped (pairRow kind) (pairs (r .fs)))),
+                  (q ∙ rw (r .is) (mapped (pairRow kind) (eachField asPair (r .fs)))),
             )
 
     pub list-stuck : end ≤ k → (o : Option (List ℕ)) → ChildrenAt s w kind k o → o ≡ none

@@ -17,8 +17,8 @@ use Rattle.grammar.specs.Tree.{Json, startOf, endOf, kindOf}
 use Rattle.grammar.specs.Tree.Scalar.{null, bool, num, str}
 use Rattle.grammar.specs.Tree.Json.{leaf, arr, obj}
 use Rattle.grammar.specs.Tree.Kind.{string}
-use Rattle.grammar.specs.SchemaText.{schema-lexis, Char.plain, Char.backslash}
-use Rattle.grammar.specs.Machine.Schema.{schema}
+use Rattle.grammar.specs.SchemaText.{schema-lexis, SchemaChar.plain, SchemaChar.backslash}
+use Rattle.grammar.specs.Serving.Machine.Schema.{schema}
 use Rattle.grammar.proofs.Booleans.{clash}
 use Rattle.strings.specs.Strings.{Means}
 use Rattle.text.specs.Nodes.{next, Node, nodeEnd, nodeKind, nodeStart}
@@ -26,9 +26,9 @@ use Rattle.text.specs.Readers.{Stands, StandsTold}
 use Rattle.lookups.specs.Lookups.{stringKind}
 use Rattle.lookups.proofs.NodeLaws.{string-node}
 use Rattle.rules.specs.Types.{sameKind}
-use Rattle.rules.specs.Definitions.{Name, TypeText, quoted, asName, starred, memberOf}
+use Rattle.rules.specs.Definitions.{Name, TypeText, quoted, asName, starred, keyedMember}
 use Rattle.rules.specs.SchemaTable.{flag}
-use Rattle.rules.specs.RawTable.{packed}
+use Rattle.rules.specs.Serving.RawTable.{packed}
 use Rattle.definitions.specs.Written.{RowPut, NamedRowPut}
 use Rattle.definitions.specs.Places.{Held, Keyed, Named, NameWord, Star}
 
@@ -78,10 +78,10 @@ module _ {s w : List ℕ} {k : ℕ} where
   key-named h = named-so (h .small) (h .node-is) (h .means)
 
   -- the name of the member whose key this is
-  pub member-named : {x e : ℕ} {key : List ℕ} → Keyed s w k x e key → (t : TypeText) → Named w k (flag (starred key)) (memberOf x e (starred key) t .name)
+  pub member-named : {x e : ℕ} {key : List ℕ} → Keyed s w k x e key → (t : TypeText) → Named w k (flag (starred key)) (keyedMember x e (starred key) t .name)
   member-named {x} {e} {key} h t = go (starred key)
     where
-      go : (b : Bool) → Named w k (flag b) (memberOf x e b t .name)
+      go : (b : Bool) → Named w k (flag b) (keyedMember x e b t .name)
       go true = named-at (h .small) (omega arith) (h .node-is) (h .means)
       go false = key-named h
 

@@ -15,7 +15,7 @@ use Rattle.grammar.specs.Tree.{Scalar, Json, Items, Fields, startOf, endOf}
 use Rattle.grammar.specs.Tree.Scalar.{null, bool, num, str}
 use Rattle.grammar.specs.Tree.Json.{leaf, arr, obj}
 use Rattle.grammar.specs.Tree.Items.{no-items, item}
-use Rattle.grammar.specs.Machine.Schema.{schema}
+use Rattle.grammar.specs.Serving.Machine.Schema.{schema}
 use Rattle.grammar.proofs.Booleans.{none-not-some, some-is}
 use Rattle.strings.specs.Strings.{plainString}
 use Rattle.tokens.specs.NodeKinds.{false-node, true-node, plain-string-node, other-string-node, array-node, object-node}
@@ -23,19 +23,19 @@ use Rattle.tokens.specs.Tokens.{scalarNode}
 use Rattle.text.specs.Nodes.{next, Holds, HoldsItems, nodeKind}
 use Rattle.text.proofs.KeyLaws.{goes-on}
 use Rattle.lookups.specs.Lookups.{stringKind}
-use Rattle.rules.specs.Definitions.{Name, TypeText, Member, Data, quoted, listType, asType, asMembers, asData, asStructName, may}
-use Rattle.rules.specs.Definitions.TypeText.{nothing, one, listOf}
-use Rattle.rules.specs.Definitions.Data.{absent, inline, named}
-use Rattle.rules.specs.Values.{_>>=_, asItems, asFields, asFlag}
+use Rattle.rules.specs.Definitions.{Name, TypeText, Member, Data, quoted, listType, asName, asType, asMembers, asData, may}
+use Rattle.rules.specs.Definitions.Data.{inline, named}
+use Rattle.rules.specs.Values.{_>>=_, ifAbsent, asItems, asFields, asFlag}
+use Rattle.rules.specs.Rules.{is}
 use Rattle.rules.specs.SchemaTable.{dataLink}
-use Rattle.rules.specs.RawTable.{packed}
+use Rattle.rules.specs.Serving.RawTable.{packed}
 use Rattle.definitions.specs.declared.shapes.TypeText as Text
 use Rattle.definitions.specs.declared.shapes.TypeText.the-variants.{One, ListOf, Other}
 use Rattle.definitions.specs.declared.shapes.TypeRead.{TypeRead}
 use Rattle.definitions.specs.declared.shapes.FlagRead.{FlagRead}
 use Rattle.definitions.specs.declared.shapes.TypeRead.the-variants as Types
 use Rattle.definitions.specs.declared.shapes.FlagRead.the-variants as Flags
-use Rattle.definitions.specs.Places.{Held, Found, Named, NameWord, TextTold, ReadsList, ReadsType, TypeTold, TakesType, TakesReturn, FlagTold, TakesFlag, Links, BaseFits}
+use Rattle.definitions.specs.Places.{Held, Found, Named, NameWord, TextTold, ReadsList, ReadsType, TypeTold, ReturnTold, TakesType, TakesReturn, FlagTold, TakesFlag, Links, BaseFits}
 use Rattle.definitions.specs.Parts.{FieldsAt}
 use Rattle.definitions.proofs.shapes.TypeText.{enum}
 use Rattle.definitions.proofs.NameLaws.{is-name, no-string, no-name}
@@ -103,7 +103,7 @@ module _ (s w : List ℕ) (first end l : ℕ) {t : Bool} (small : length s ≤ s
   not-one f n (item j no-items) x = let h : Held s w j first = record { small = small; level = l; holds = x .1 } in let v = is-name h q f in absurd (n (omega (arith, v .leaf, x .2)))
   not-one f n (item j (item i js)) x = refl
 
-  just-one : t ≡ true → end - first ≡ 1 → (js : Items) → HoldsItems schema s w js l first end → (n : Name) × (listType js ≡ some (listOf n)) × Named w first 0 n
+  just-one : t ≡ true → end - first ≡ 1 → (js : Items) → HoldsItems schema s w js l first end → (n : Name) × (listType js ≡ some (record { name = n; list = true })) × Named w first 0 n
   just-one f n no-items x = absurd (omega (arith, x))
   just-one f n (item j no-items) x = let h : Held s w j first = record { small = small; level = l; holds = x .1 } in let v = is-name h q f in (v .name, rw (v .is), v .named)
   just-one f n (item j (item i js)) x = absurd (omega (arith, x .2 .0, goes-on schema s w j l first (x .1)))
@@ -127,11 +127,16 @@ flag-of s w k (arr a e js) l h = rw (h .0 .has-kind)
 flag-of s w k (obj a e fs) l h = rw (h .0 .has-kind)
 
 -- what a link is
-abbrev LinkSo : ℕ → ℕ → Option Data → Type 0
-LinkSo n r o = (d : Data) → o ≡ some d → r ≡ dataLink packed packed (λ _ m. packed m) n d
+abbrev LinkSo : ℕ → ℕ → Option (Option Data) → Type 0
+LinkSo n r o = (d : Option Data) → o ≡ some d → r ≡ ifAbsent 0 (dataLink packed n) d
 
-link-is : (n r : ℕ) (x : Data) → r ≡ dataLink packed packed (λ _ m. packed m) n x → LinkSo n r (some x)
-link-is n r x e d q = subst (λ (y : Data). r ≡ dataLink packed packed (λ _ m. packed m) n y) (some-is q) e
+link-is : (n r : ℕ) (x : Option Data) → r ≡ ifAbsent 0 (dataLink packed n) x → LinkSo n r (some x)
+link-is n r x e d q = subst (λ (y : Option Data). r ≡ ifAbsent 0 (dataLink packed n) y) (some-is q) e
+
+-- a return that is there
+type-returned : (o : Option TypeText) (r : TypeRead) → TypeTold o r → ReturnTold (o >>= λ t. some (some t)) r
+type-returned o (Types.Taken p q) t = record { type = some (t .type); is = rw (t .is); place = t .place; list = t .list }
+type-returned o Types.Refused t = rw t
 
 -- a list type, by the tests of its reader
 module _ {w : List ℕ} {k : ℕ} where
@@ -162,7 +167,7 @@ module _ {w : List ℕ} {k : ℕ} where
     pub type-name : t ≡ true → {r : ℕ} → NameWord w k 0 packed r → ReadsType w k (One r)
     type-name f m =
         record {
-          told = λ s j h. let v = is-name h q f in (v .name, rw (v .kind) (ap (λ (n : Name). some (one n)) (sym (v .here))), m .told (v .name) (v .named));
+          told = λ s j h. let v = is-name h q f in (v .name, rw (v .kind) (ap (λ (n : Name). some (record { name = n; list = false })) (sym (v .here))), m .told (v .name) (v .named));
         }
 
     pub type-list : t ≡ false → {r : Text.TypeText} → ReadsList w k r → ReadsType w k r
@@ -173,10 +178,10 @@ module _ {w : List ℕ} {k : ℕ} where
     told-of e s j h = subst (λ (y : Text.TypeText). TextTold (asType j) y) e (m .told s j h)
 
     pub take-one : {p : ℕ} → r ≡ One p → TakesType w k (Types.Taken p 0)
-    take-one e = record { told = λ s j h. let v = told-of e s j h in record { type = one (v .0); is = v .1; place = v .2; list = refl } }
+    take-one e = record { told = λ s j h. let v = told-of e s j h in record { type = record { name = v .0; list = false }; is = v .1; place = v .2; list = refl } }
 
     pub take-list : {p : ℕ} → r ≡ ListOf p → TakesType w k (Types.Taken p 1)
-    take-list e = record { told = λ s j h. let v = told-of e s j h in record { type = listOf (v .0); is = v .1; place = v .2; list = refl } }
+    take-list e = record { told = λ s j h. let v = told-of e s j h in record { type = record { name = v .0; list = true }; is = v .1; place = v .2; list = refl } }
 
     -- what the arm of a `let .. else` is told of the discriminator
     pub take-none : (tagOf (declared enum) r ≡ 0) ⊎ (tagOf (declared enum) r ≡ 2) → (tagOf (declared enum) r ≡ 1) ⊎ (tagOf (declared enum) r ≡ 2) → TakesType w k Types.Refused
@@ -193,37 +198,37 @@ module _ {w : List ℕ} {k : ℕ} where
   pub return-absent : k ≡ 0 → TakesReturn w k (Types.Taken 0 0)
   return-absent e = record { told = go }
     where
-      go : (s : List ℕ) (o : Option Json) → Found s w o k → TypeTold (may nothing asType o) (Types.Taken 0 0)
-      go s none f = record { type = nothing; is = refl; place = refl; list = refl }
+      go : (s : List ℕ) (o : Option Json) → Found s w o k → ReturnTold (may asType o) (Types.Taken 0 0)
+      go s none f = record { type = none; is = refl; place = refl; list = refl }
       go s (some j) f = absurd (omega (arith, f .found .0))
 
   pub return-there : (k ≡ 0 → ⊥) → {r : TypeRead} → TakesType w k r → TakesReturn w k r
   return-there n {r} m = record { told = go }
     where
-      go : (s : List ℕ) (o : Option Json) → Found s w o k → TypeTold (may nothing asType o) r
+      go : (s : List ℕ) (o : Option Json) → Found s w o k → ReturnTold (may asType o) r
       go s none f = absurd (n (f .found))
-      go s (some j) f = m .told s j (held-there f)
+      go s (some j) f = type-returned (asType j) r (m .told s j (held-there f))
 
   pub flag-absent : k ≡ 0 → TakesFlag w k (Flags.Flag 0)
   flag-absent e = record { told = go }
     where
-      go : (s : List ℕ) (o : Option Json) → Found s w o k → FlagTold (may false asFlag o) (Flags.Flag 0)
-      go s none f = record { value = false; is = refl; word = refl }
+      go : (s : List ℕ) (o : Option Json) → Found s w o k → FlagTold (may asFlag o) (Flags.Flag 0)
+      go s none f = record { value = none; is = refl; word = refl }
       go s (some j) f = absurd (omega (arith, f .found .0))
 
   module _ {kind : ℕ} (n : k ≡ 0 → ⊥) (e : kind ≡ nodeKind w k) where
-    flag-so : {r : FlagRead} → FlagTold (flagOf kind) r → TakesFlag w k r
+    flag-so : {r : FlagRead} → FlagTold (flagOf kind >>= λ b. some (some b)) r → TakesFlag w k r
     flag-so {r} t = record { told = go }
       where
-        go : (s : List ℕ) (o : Option Json) → Found s w o k → FlagTold (may false asFlag o) r
+        go : (s : List ℕ) (o : Option Json) → Found s w o k → FlagTold (may asFlag o) r
         go s none f = absurd (n (f .found))
-        go s (some j) f = subst (λ (o : Option Bool). FlagTold o r) (sym (flag-of s w k j (f .level) (f .found .1) ∙ ap flagOf (sym e))) t
+        go s (some j) f = subst (λ (o : Option Bool). FlagTold (o >>= λ b. some (some b)) r) (sym (flag-of s w k j (f .level) (f .found .1) ∙ ap flagOf (sym e))) t
 
     pub flag-false : kind ≡ false-node → TakesFlag w k (Flags.Flag 0)
-    flag-false q = flag-so (rw q record { value = false; is = refl; word = refl })
+    flag-false q = flag-so (rw q record { value = some false; is = refl; word = refl })
 
     pub flag-true : kind ≡ true-node → TakesFlag w k (Flags.Flag 1)
-    flag-true q = flag-so (rw q record { value = true; is = refl; word = refl })
+    flag-true q = flag-so (rw q record { value = some true; is = refl; word = refl })
 
     pub flag-other : (kind ≡ false-node → ⊥) → (kind ≡ true-node → ⊥) → TakesFlag w k Flags.Refused
     flag-other a b = flag-so (rw (ne-eqb kind false-node a, ne-eqb kind true-node b) refl)
@@ -233,50 +238,42 @@ module _ {w : List ℕ} {k : ℕ} where
     pub link-absent : k ≡ 0 → Links w k n 0
     link-absent e = record { told = go }
       where
-        go : (s : List ℕ) (o : Option Json) → Found s w o k → LinkSo n 0 (may absent asData o)
-        go s none f = link-is n 0 absent refl
+        go : (s : List ℕ) (o : Option Json) → Found s w o k → LinkSo n 0 (may asData o)
+        go s none f = link-is n 0 none refl
         go s (some j) f = absurd (omega (arith, f .found .0))
 
-    link-there : {r : ℕ} → (k ≡ 0 → ⊥) → ((s : List ℕ) (j : Json) → Held s w j k → LinkSo n r (asData j)) → Links w k n r
+    link-there : {r : ℕ} → (k ≡ 0 → ⊥) → ((s : List ℕ) (j : Json) → Held s w j k → LinkSo n r (asData j >>= λ d. some (some d))) → Links w k n r
     link-there {r} z g = record { told = go }
       where
-        go : (s : List ℕ) (o : Option Json) → Found s w o k → LinkSo n r (may absent asData o)
+        go : (s : List ℕ) (o : Option Json) → Found s w o k → LinkSo n r (may asData o)
         go s none f = absurd (z (f .found))
         go s (some j) f = g s j (held-there f)
 
     module _ {t : Bool} (z : k ≡ 0 → ⊥) (q : t ≡ stringKind (nodeKind w k)) where
       pub link-name : t ≡ true → {r : ℕ} → NameWord w k 0 packed r → Links w k n r
-      link-name f {r} m = link-there z (λ s j h. let v = is-name h q f in rw (v .kind) (link-is n r (named (quoted (startOf j) (endOf j))) (m .told (v .name) (v .named) ∙ ap packed (v .here))))
+      link-name f {r} m = link-there z (λ s j h. let v = is-name h q f in rw (v .kind) (link-is n r (some (named (quoted (startOf j) (endOf j)))) (m .told (v .name) (v .named) ∙ ap packed (v .here))))
 
       pub link-row : t ≡ false → Links w k n (n + 2)
       link-row f = link-there z (λ s j h. rw (no-string h q f) (go (asMembers j)))
         where
-          go : (o : Option (List Member)) → LinkSo n (n + 2) (o >>= λ ms. some (inline ms))
+          go : (o : Option (List Member)) → LinkSo n (n + 2) ((o >>= λ ms. some (inline ms)) >>= λ d. some (some d))
           go none = λ d e. none-not-some e
-          go (some ms) = link-is n (n + 2) (inline ms) (omega arith)
+          go (some ms) = link-is n (n + 2) (some (inline ms)) (omega arith)
 
   pub base-absent : k ≡ 0 → BaseFits w k true
-  base-absent e = record { told = go; fits = fit }
+  base-absent e = record { told = go }
     where
-      go : (s : List ℕ) (o : Option Json) → Found s w o k → may absent asStructName o ≡ may absent asData o
+      go : (s : List ℕ) (o : Option Json) → Found s w o k → is (may asName o) (λ _. true) ≡ true
       go s none f = refl
       go s (some j) f = absurd (omega (arith, f .found .0))
 
-      fit : (s : List ℕ) (o : Option Json) → Found s w o k → true ≡ true → (d : Data) × (may absent asData o ≡ some d)
-      fit s none f t = (absent, refl)
-      fit s (some j) f t = absurd (omega (arith, f .found .0))
-
   pub base-there : {r : Bool} → (k ≡ 0 → ⊥) → r ≡ stringKind (nodeKind w k) → BaseFits w k r
-  base-there {r} z q = record { told = go; fits = fit }
+  base-there {r} z q = record { told = go }
     where
-      by-name : (s : List ℕ) (j : Json) → Held s w j k → (b : Bool) → r ≡ b → asStructName j ≡ cond b (asData j) none
-      by-name s j h true e = let v = is-name h q e in rw (v .kind)
+      by-name : (s : List ℕ) (j : Json) → Held s w j k → (b : Bool) → r ≡ b → is (asName j >>= λ n. some (some n)) (λ _. true) ≡ b
+      by-name s j h true e = rw (is-name h q e .is)
       by-name s j h false e = rw (no-name h q e)
 
-      go : (s : List ℕ) (o : Option Json) → Found s w o k → may absent asStructName o ≡ cond r (may absent asData o) none
+      go : (s : List ℕ) (o : Option Json) → Found s w o k → is (may asName o) (λ _. true) ≡ r
       go s none f = absurd (z (f .found))
       go s (some j) f = by-name s j (held-there f) r refl
-
-      fit : (s : List ℕ) (o : Option Json) → Found s w o k → r ≡ true → (d : Data) × (may absent asData o ≡ some d)
-      fit s none f t = absurd (z (f .found))
-      fit s (some j) f t = let v = is-name (held-there f) q t in (named (v .name), rw (v .kind) (ap (λ (n : Name). some (named n)) (sym (v .here))))

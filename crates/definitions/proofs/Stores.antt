@@ -1,14 +1,16 @@
 -- Rows stored one after the other, and a row stored under those after it: what stands there in the end.
 -- Stores by induction on the words stored; what functions answer by cases on the answer.
-use Prim.Native.Nat.{ℕ, suc, _+_, _*_, _≤_, _<_}
+use Prim.Native.Nat.{ℕ, suc, _+_, _*_, _/_, _≤_, _<_}
 use native.Mathlib.Nat.{add-zero}
 use native.Mathlib.Omega.{arith}
 use mathlib.Core.Path.{_≡_, refl, sym, ap, _∙_, subst}
 use mathlib.Core.List.{List, [], _∷_, _++_}
 use mathlib.Core.Option.{Option, none}
 use lib.ListN.{length, set, length-append}
-use lib.Seq.{sets, set-comm}
+use lib.Seq.{sets, set-comm, length-sets}
 use Rattle.grammar.specs.Limits.{row-words}
+use Rattle.grammar.specs.Notation.{putItem}
+use Rattle.words.proofs.WordLaws.{four-fits}
 use Rattle.definitions.specs.declared.writing.Put.{Put}
 use Rattle.definitions.specs.declared.writing.Put.the-variants.{Rows, Refused}
 use Rattle.definitions.specs.Written.{RowPut, RowsAre, RowsTold, Few, PutsRows}
@@ -56,6 +58,22 @@ module _ {old mid new xs ys : List ℕ} {n m : ℕ} (e : row-words * m ≡ row-w
             q .words b ∙ ap (λ (k : List ℕ). sets k (row-words * n) xs) (p .words a) ∙ sets-under xs ys old (row-words * n) (row-words * m) (omega arith)
             ∙ ap (λ (i : ℕ). sets (sets old (row-words * n) xs) i ys) e ∙ sym (sets-append xs ys old (row-words * n));
       }
+
+-- a row is two items of four words
+pub put-halves : (old : List ℕ) {mid new : List ℕ} {n a b c d e f g h : ℕ} → n < length old / row-words
+    → mid ≡ putItem 4 old (2 * n) (a ∷ b ∷ c ∷ d ∷ []) → new ≡ putItem 4 mid (2 * n + 1) (e ∷ f ∷ g ∷ h ∷ []) → RowPut old new n (a ∷ b ∷ c ∷ d ∷ e ∷ f ∷ g ∷ h ∷ [])
+put-halves old {mid} {new} {n} {a} {b} {c} {d} {e} {f} {g} {h} fits p q =
+    let xs : List ℕ = a ∷ b ∷ c ∷ d ∷ [] in
+    let ys : List ℕ = e ∷ f ∷ g ∷ h ∷ [] in
+    let first : 4 * (2 * n) ≡ row-words * n = omega arith in
+    let second : 4 * (2 * n + 1) ≡ row-words * n + 4 = omega arith in
+    let one : mid ≡ sets old (row-words * n) xs = p ∙ four-fits old xs (omega arith) ∙ ap (λ (i : ℕ). sets old i xs) first in
+    let same : length mid ≡ length old = ap length one ∙ length-sets old (row-words * n) xs in
+    let two : new ≡ sets mid (row-words * n + 4) ys = q ∙ four-fits mid ys (omega arith) ∙ ap (λ (i : ℕ). sets mid i ys) second in
+    record {
+      same-length = ap length two ∙ length-sets mid (row-words * n + 4) ys ∙ same;
+      words = λ _. two ∙ ap (λ (k : List ℕ). sets k (row-words * n + 4) ys) one ∙ sym (sets-append xs ys old (row-words * n));
+    }
 
 -- what an answer says
 module _ {P : Option (List ℕ) → Type 0} {old new : List ℕ} {n most : ℕ} {r : Put} (h : PutsRows P old new n most r) where

@@ -9,21 +9,20 @@ use mathlib.Core.Option.{Option, none, some}
 use lib.ListN.{length, take, drop, length-append, length-map}
 use lib.Seq.{sets-eq, take-append-seam}
 use Rattle.grammar.specs.Limits.{row-words}
-use Rattle.grammar.specs.Tree.{Json, Items, Fields}
+use Rattle.grammar.specs.Tree.{Json, Items}
 use Rattle.grammar.specs.Tree.Json.{leaf, arr, obj}
 use Rattle.grammar.specs.Tree.Items.{no-items, item}
 use Rattle.grammar.specs.Keys.{keysOnce, keysOnceI}
-use Rattle.grammar.specs.Machine.Schema.{schema}
+use Rattle.grammar.specs.Serving.Machine.Schema.{schema}
 use Rattle.grammar.proofs.Booleans.{both, none-not-some}
 use Rattle.text.specs.Nodes.{next, Holds, HoldsItems}
 use Rattle.text.proofs.KeyLaws.{goes-on}
 use Rattle.rules.specs.Kinds.{union-kind, branch-kind, alternative-kind}
-use Rattle.rules.specs.Definitions.{Name, Data, Body, Definition, asDefinition, definitions}
-use Rattle.rules.specs.Definitions.Data.{absent, inline, named}
+use Rattle.rules.specs.Definitions.{Name, Member, Body, Definition, asDefinition, definitions}
 use Rattle.rules.specs.Definitions.Body.{enum, struct, union, alternate, command}
 use Rattle.rules.specs.Values.{_>>=_, asFields}
-use Rattle.rules.specs.SchemaTable.{row, concat, dataLink, dataRows, rowsTaken}
-use Rattle.rules.specs.RawTable.{packed, rawFrom}
+use Rattle.rules.specs.SchemaTable.{inlineMembers, row, concat, dataLink, inlineRows, inlineStruct, rowsTaken}
+use Rattle.rules.specs.Serving.RawTable.{packed, rawFrom}
 use Rattle.definitions.specs.declared.writing.Put.{Put}
 use Rattle.definitions.specs.declared.writing.Put.the-variants.{Rows, Refused}
 use Rattle.definitions.specs.Places.{Held}
@@ -33,26 +32,26 @@ use Rattle.definitions.specs.Puts.{RowsPut, Fit}
 use Rattle.definitions.proofs.Options.{came-of, none-of}
 use Rattle.definitions.proofs.Stores.{put-none, put-after, came, failed}
 use Rattle.definitions.proofs.ListLaws.{ahead, ahead-none, ahead-more}
-use Rattle.definitions.proofs.CountLaws.{all-wide, inlineRows}
+use Rattle.definitions.proofs.CountLaws.{all-wide}
 use Rattle.definitions.proofs.TreeSizes.{size, value-ends, rows-few}
 
 -- a definition's rows are as many as its body says
 list-wide : {A : Type 0} (f : A → List ℕ) → ((x : A) → length (f x) ≡ row-words) → (l : List A) → length (concat (map f l)) ≡ row-words * length l
 list-wide f h l = all-wide f h l ∙ ap (λ (i : ℕ). row-words * i) (length-map l f)
 
-inline-wide : (d : Data) → length (inlineRows d) ≡ row-words * dataRows d
-inline-wide absent = refl
-inline-wide (inline ms) = omega (arith, list-wide memberRow (λ x. refl) ms)
-inline-wide (named n) = refl
+inline-wide : (i : Option (List Member)) → length (inlineStruct packed i) ≡ row-words * inlineRows i
+inline-wide none = refl
+inline-wide (some ms) = omega (arith, list-wide memberRow (λ x. refl) ms)
 
 body-wide : (n : ℕ) (name : Name) (b : Body) → length (bodyRows n name b) ≡ row-words * rowsTaken b
 body-wide n name (enum vs) = omega (arith, list-wide valueRow (λ x. refl) vs)
 body-wide n name (struct d ms) = omega (arith, list-wide memberRow (λ x. refl) ms)
 body-wide n name (union d discriminator ps) =
-    let r = row union-kind name (dataLink packed packed (λ _ m. packed m) n d) (length ps) (packed discriminator) 0 in
-    omega (arith, length-append (r ++ inlineRows d) (concat (map (pairRow branch-kind) ps)), length-append r (inlineRows d), inline-wide d, list-wide (pairRow branch-kind) (λ x. refl) ps)
+    let r = row union-kind name (dataLink packed n d) (length ps) (packed discriminator) 0 in
+    let i = inlineStruct packed (inlineMembers d) in
+    omega (arith, length-append (r ++ i) (concat (map (pairRow branch-kind) ps)), length-append r i, inline-wide (inlineMembers d), list-wide (pairRow branch-kind) (λ x. refl) ps)
 body-wide n name (alternate ps) = omega (arith, list-wide (pairRow alternative-kind) (λ x. refl) ps)
-body-wide n name (command d t oob) = omega (arith, inline-wide d)
+body-wide n name (command d t oob) = omega (arith, inline-wide (d >>= inlineMembers))
 
 -- the rows of the definitions of top-level values, from row n on
 abbrev definitionRows : ℕ → Items → Option (List ℕ)
@@ -66,22 +65,17 @@ rows-none n = refl
 rows-first : (n : ℕ) (j : Json) (js : Items)
     → definitionRows n (item j js) ≡ (asFields j >>= asDefinition >>= λ d. ahead (bodyRows n (d .name) (d .body)) (definitionRows (n + rowsTaken (d .body)) js))
 unfolding definitions rawFrom
-rows-first n j js = go (asFields j)
+rows-first n j js = go (asFields j >>= asDefinition)
   where
     next-of : (d : Definition) (x : Option (List Definition)) → ((x >>= λ ds. some (d ∷ ds)) >>= λ ds. some (rawFrom n ds))
         ≡ ahead (bodyRows n (d .name) (d .body)) (x >>= λ ds. some (rawFrom (n + rowsTaken (d .body)) ds))
     next-of d none = refl
     next-of d (some ds) = refl
 
-    found : (x : Option Definition) → ((x >>= λ d. definitions js >>= λ ds. some (d ∷ ds)) >>= λ ds. some (rawFrom n ds))
+    go : (x : Option Definition) → ((x >>= λ d. definitions js >>= λ ds. some (d ∷ ds)) >>= λ ds. some (rawFrom n ds))
         ≡ (x >>= λ d. ahead (bodyRows n (d .name) (d .body)) (definitionRows (n + rowsTaken (d .body)) js))
-    found none = refl
-    found (some d) = next-of d (definitions js)
-
-    go : (x : Option Fields) → ((x >>= λ fs. asDefinition fs >>= λ d. definitions js >>= λ ds. some (d ∷ ds)) >>= λ ds. some (rawFrom n ds))
-        ≡ (x >>= asDefinition >>= λ d. ahead (bodyRows n (d .name) (d .body)) (definitionRows (n + rowsTaken (d .body)) js))
     go none = refl
-    go (some fs) = found (asDefinition fs)
+    go (some d) = next-of d (definitions js)
 
 few-rows : (j : Json) {d : Definition} → (asFields j >>= asDefinition) ≡ some d → rowsTaken (d .body) ≤ size j
 few-rows (leaf a e v) h = none-not-some h

@@ -2,32 +2,30 @@
 -- A tree's size is the number of its nodes; each shape of a value bounds what it says by that; two keys have values apart.
 use Prim.Native.Nat.{ℕ, suc, _+_, _≤_, _<_}
 use native.Mathlib.Omega.{arith}
-use mathlib.Core.Path.{_≡_, refl, sym, ap, _∙_}
+use mathlib.Core.Path.{_≡_, refl, ap, _∙_}
 use mathlib.Core.Bool.{Bool, true, false, cond}
-use mathlib.Core.Logic.{⊎-elim, _⊎_, inl, inr}
 use mathlib.Core.List.{List, _∷_}
 use mathlib.Core.Option.{Option, none, some}
 use lib.ListN.{length}
-use Rattle.grammar.specs.Notation.{text, same, all}
+use Rattle.grammar.specs.Notation.{text, same}
 use Rattle.grammar.specs.Tree.{Json, Items, Fields, startOf, endOf, kindOf}
 use Rattle.grammar.specs.Tree.Json.{leaf, arr, obj}
 use Rattle.grammar.specs.Tree.Items.{no-items, item}
 use Rattle.grammar.specs.Tree.Fields.{no-fields, field}
 use Rattle.grammar.specs.Tree.Kind.{string}
-use Rattle.grammar.specs.Keys.{keysOf}
-use Rattle.grammar.specs.Machine.Schema.{schema}
+use Rattle.grammar.specs.Serving.Machine.Schema.{schema}
 use Rattle.grammar.proofs.Booleans.{clash, none-not-some, some-is}
 use Rattle.grammar.proofs.Lists.{same-true}
 use Rattle.text.specs.Nodes.{next, Holds, HoldsItems, HoldsFields}
 use Rattle.rules.specs.Types.{sameKind}
-use Rattle.rules.specs.Definitions.{Name, TypeText, Member, Data, Pair, Body, Definition, asName, asType, names, members, pairs, asNames, asMembers, asPairs, asData, asStructName, must, may, only, kindKey}
-use Rattle.rules.specs.Definitions.{quoted, starred, memberOf, enumBody, structBody, unionBody, alternateBody, commandBody, asDefinition}
-use Rattle.rules.specs.Definitions.TypeText.{nothing}
-use Rattle.rules.specs.Definitions.Data.{absent, inline, named}
-use Rattle.rules.specs.Definitions.Body.{enum, struct, union, alternate, command}
-use Rattle.rules.specs.Values.{_>>=_, asFlag, anyOf, valueAt}
-use Rattle.rules.specs.SchemaTable.{dataRows, rowsTaken}
-use Rattle.definitions.proofs.Options.{came-of}
+use Rattle.rules.specs.Definitions.{Member, Data, Body, Definition, quoted, asName, asType, asMember, asPair, eachItem, eachField, asNames, asMembers, asPairs, asData, may}
+use Rattle.rules.specs.Definitions.{enumBody, structBody, unionBody, alternateBody, commandBody, asDefinition}
+use Rattle.rules.specs.Definitions.Data.{inline, named}
+use Rattle.rules.specs.Values.{_>>=_, asItems, asFields, asFlag, valueAt}
+use Rattle.rules.specs.SchemaTable.{inlineMembers, inlineRows, rowsTaken}
+use Rattle.rules.specs.Serving.RawTable.{IfThere}
+use Rattle.rules.proofs.Cells.{if-imply}
+use Rattle.rules.proofs.DefinitionForms.{if-then, trivial, itself, of-some, Both, if-definition}
 
 abbrev mutual
   pub size : Json → ℕ
@@ -64,47 +62,47 @@ size-some (leaf a e v) = omega arith
 size-some (arr a e js) = omega arith
 size-some (obj a e fs) = omega arith
 
--- one more in a list
-cons-of : {A B : Type 0} (g : A → B) (x : Option A) (y : Option (List B)) {l : List B} → (x >>= λ a. y >>= λ k. some (g a ∷ k)) ≡ some l
-    → (k : List B) × (y ≡ some k) × (length l ≡ suc (length k))
-cons-of g none y e = none-not-some e
-cons-of g (some a) none e = none-not-some e
-cons-of g (some a) (some k) e = (k, refl, ap length (sym (some-is e)))
+-- what there is has at most n rows, of so many each
+abbrev AtMost : {A : Type 0} → (A → ℕ) → ℕ → Option A → Type 0
+AtMost rows n o = IfThere (λ x. rows x ≤ n) o
 
-few-names : (js : Items) {vs : List Name} → names js ≡ some vs → length vs ≤ sizeI js
-few-names no-items e = let z = ap length (some-is e) in omega arith
-few-names (item j js) e = let u = cons-of (λ (n : Name). n) (asName j) (names js) e in omega (arith, u .2, few-names js (u .1), size-some j)
+-- a list and the row before it
+abbrev listRows : {A : Type 0} → List A → ℕ
+listRows xs = suc (length xs)
 
-few-members : (fs : Fields) {ms : List Member} → members fs ≡ some ms → length ms ≤ sizeF fs
-few-members no-fields e = let z = ap length (some-is e) in omega arith
-few-members (field a b key j fs) e = let u = cons-of (λ (t : TypeText). memberOf a b (starred key) t) (asType j) (members fs) e in omega (arith, u .2, few-members fs (u .1))
+one-more : {A : Type 0} (m n : ℕ) (x : Option A) (y : Option (List A)) → m < n → AtMost listRows m y → AtMost listRows n (x >>= λ a. y >>= λ l. some (a ∷ l))
+one-more m n none y l h = tt
+one-more m n (some a) none l h = tt
+one-more m n (some a) (some xs) l h = omega arith
 
-few-pairs : (fs : Fields) {ps : List Pair} → pairs fs ≡ some ps → length ps ≤ sizeF fs
-few-pairs no-fields e = let z = ap length (some-is e) in omega arith
-few-pairs (field a b key j fs) e =
-    let g : Name → Pair = λ t. record { name = quoted a b; type = t } in let u = cons-of g (asName j) (pairs fs) e in omega (arith, u .2, few-pairs fs (u .1))
+few-items : {A : Type 0} (shape : Json → Option A) (js : Items) → AtMost listRows (suc (sizeI js)) (eachItem shape js)
+few-items shape no-items = omega arith
+few-items shape (item j js) = one-more (suc (sizeI js)) (suc (size j + sizeI js)) (shape j) (eachItem shape js) (omega (arith, size-some j)) (few-items shape js)
 
-names-in : (j : Json) {vs : List Name} → asNames j ≡ some vs → length vs < size j
-names-in (leaf a e v) h = none-not-some h
-names-in (arr a e js) h = let z = few-names js h in omega arith
-names-in (obj a e fs) h = none-not-some h
+few-fields : {A : Type 0} (shape : ℕ → ℕ → List ℕ → Json → Option A) (fs : Fields) → AtMost listRows (suc (sizeF fs)) (eachField shape fs)
+few-fields shape no-fields = omega arith
+few-fields shape (field a e key j fs) =
+    one-more (suc (sizeF fs)) (suc (suc (size j + sizeF fs))) (shape a e key j) (eachField shape fs) (omega arith) (few-fields shape fs)
 
-members-in : (j : Json) {ms : List Member} → asMembers j ≡ some ms → length ms < size j
-members-in (leaf a e v) h = none-not-some h
-members-in (arr a e js) h = none-not-some h
-members-in (obj a e fs) h = let z = few-members fs h in omega arith
+in-array : {A : Type 0} (shape : Json → Option A) (j : Json) → AtMost listRows (size j) (asItems j >>= eachItem shape)
+in-array shape (leaf a e v) = tt
+in-array shape (arr a e js) = few-items shape js
+in-array shape (obj a e fs) = tt
 
-pairs-in : (j : Json) {ps : List Pair} → asPairs j ≡ some ps → length ps < size j
-pairs-in (leaf a e v) h = none-not-some h
-pairs-in (arr a e js) h = none-not-some h
-pairs-in (obj a e fs) h = let z = few-pairs fs h in omega arith
+in-object : {A : Type 0} (shape : ℕ → ℕ → List ℕ → Json → Option A) (j : Json) → AtMost listRows (size j) (asFields j >>= eachField shape)
+in-object shape (leaf a e v) = tt
+in-object shape (arr a e js) = tt
+in-object shape (obj a e fs) = few-fields shape fs
 
-data-in : (j : Json) {d : Data} → asData j ≡ some d → dataRows d ≤ size j
-data-in j {d} = go (sameKind (kindOf j) string)
+abbrev dataRows : Data → ℕ
+dataRows d = inlineRows (inlineMembers d)
+
+data-in : (j : Json) → AtMost dataRows (size j) (asData j)
+data-in j = go (sameKind (kindOf j) string)
   where
-    go : (b : Bool) → cond b (cond b (some (quoted (startOf j) (endOf j))) none >>= λ n. some (named n)) (asMembers j >>= λ ms. some (inline ms)) ≡ some d → dataRows d ≤ size j
-    go true e = let z = ap dataRows (some-is e) in omega arith
-    go false e = let u = came-of inline (asMembers j) e in let z = ap dataRows (u .2) in omega (arith, members-in j (u .1))
+    go : (b : Bool) → AtMost dataRows (size j) (cond b (some (named (quoted (startOf j) (endOf j)))) (asMembers j >>= λ ms. some (inline ms)))
+    go true = omega arith
+    go false = if-then (λ (ms : List Member). listRows ms ≤ size j) (λ (d : Data). dataRows d ≤ size j) (asMembers j) _ (in-object asMember j) (λ ms h. h)
 
 -- the value under a key, and those under two keys that differ
 value-in : (a : List ℕ) (fs : Fields) {j : Json} → valueAt a fs ≡ some j → size j < sizeF fs
@@ -126,93 +124,60 @@ two-in a b d (field x y key v fs) {i} {j} e h = go (λ e h. two-in a b d fs e h)
     go f false true m n e h = let z = ap size (some-is h) in omega (arith, value-in a fs e)
     go f false false m n e h = let z = f e h in omega arith
 
-must-there : {A : Type 0} (shape : Json → Option A) (o : Option Json) {x : A} → must shape o ≡ some x → (j : Json) × (o ≡ some j) × (shape j ≡ some x)
-must-there shape none e = none-not-some e
-must-there shape (some j) e = (j, refl, e)
+-- so many rows come of the value under a key
+record Under (fs : Fields) (k : List ℕ) (n : ℕ) : Type 0 where
+  pub value : Json
+  pub is : valueAt k fs ≡ some value
+  pub few : n ≤ size value
 
 -- the rows of each body, out of the fields
-module _ (fs : Fields) {b : Body} where
-  enum-few : enumBody fs ≡ some b → rowsTaken b ≤ suc (sizeF fs)
-  enum-few e =
-      let u = came-of enum (must asNames (valueAt (text "data") fs)) e in
-      let v = must-there asNames (valueAt (text "data") fs) (u .1) in
-      let z = ap rowsTaken (u .2) in
-      omega (arith, names-in (v .0) (v .2), value-in (text "data") fs (v .1))
+module _ (fs : Fields) where
+  abbrev Few : Body → Type 0
+  Few b = rowsTaken b ≤ suc (sizeF fs)
 
-  alternate-few : alternateBody fs ≡ some b → rowsTaken b ≤ suc (sizeF fs)
-  alternate-few e =
-      let u = came-of alternate (must asPairs (valueAt (text "data") fs)) e in
-      let v = must-there asPairs (valueAt (text "data") fs) (u .1) in
-      let z = ap rowsTaken (u .2) in
-      omega (arith, pairs-in (v .0) (v .2), value-in (text "data") fs (v .1))
+  must-few : {A : Type 0} (rows : A → ℕ) (shape : Json → Option A) → ((j : Json) → AtMost rows (size j) (shape j)) → (k : List ℕ) (body : A → Option Body)
+      → ((x : A) → Under fs k (rows x) → IfThere Few (body x)) → IfThere Few (valueAt k fs >>= shape >>= body)
+  must-few {A} rows shape g k body =
+      if-then (λ (x : A). Under fs k (rows x)) Few (valueAt k fs >>= shape) body
+      (if-then (λ (j : Json). valueAt k fs ≡ some j) (λ (x : A). Under fs k (rows x)) (valueAt k fs) shape (itself (valueAt k fs)) (λ j e.
+      if-imply (λ (x : A). rows x ≤ size j) (λ (x : A). Under fs k (rows x)) (λ x h. record { value = j; is = e; few = h }) (shape j) (g j)))
 
--- what each step gave
-bind-of : {A B : Type 0} (x : Option A) (f : A → Option B) {y : B} → (x >>= f) ≡ some y → (a : A) × (x ≡ some a) × (f a ≡ some y)
-bind-of none f e = none-not-some e
-bind-of (some a) f e = (a, refl, e)
+  any-few : {A : Type 0} (o : Option A) (body : A → Option Body) → ((x : A) → IfThere Few (body x)) → IfThere Few (o >>= body)
+  any-few o body g = if-then (λ _. Unit {0}) Few o body (trivial o) (λ x _. g x)
 
-may-few : (fs : Fields) (k : List ℕ) {d : Data} → may absent asData (valueAt k fs) ≡ some d → dataRows d ≤ sizeF fs
-may-few fs k {d} = go (valueAt k fs) refl
-  where
-    go : (o : Option Json) → valueAt k fs ≡ o → may absent asData o ≡ some d → dataRows d ≤ sizeF fs
-    go none q e = let z = ap dataRows (some-is e) in omega arith
-    go (some j) q e = omega (arith, data-in j e, value-in k fs q)
+  enum-few : IfThere Few (enumBody fs)
+  enum-few = must-few listRows asNames (in-array asName) (text "data") _ (λ vs u. omega (arith, u .few, value-in (text "data") fs (u .is)))
 
-module _ (fs : Fields) {b : Body} where
-  struct-few : structBody fs ≡ some b → rowsTaken b ≤ suc (sizeF fs)
-  struct-few e =
-      let u = bind-of (must asMembers (valueAt (text "data") fs)) (λ ms. may absent asStructName (valueAt (text "base") fs) >>= λ x. some (struct x ms)) e in
-      let w = came-of (λ (x : Data). struct x (u .0)) (may absent asStructName (valueAt (text "base") fs)) (u .2) in
-      let v = must-there asMembers (valueAt (text "data") fs) (u .1) in
-      let z = ap rowsTaken (w .2) in
-      omega (arith, members-in (v .0) (v .2), value-in (text "data") fs (v .1))
+  struct-few : IfThere Few (structBody fs)
+  struct-few =
+      must-few listRows asMembers (in-object asMember) (text "data") _ (λ ms u.
+      any-few (may asName (valueAt (text "base") fs)) _ (λ b. omega (arith, u .few, value-in (text "data") fs (u .is))))
 
-  union-few : unionBody fs ≡ some b → rowsTaken b ≤ suc (sizeF fs)
-  union-few e =
-      let discriminatorOf = must asName (valueAt (text "discriminator") fs) in
-      let branches = must asPairs (valueAt (text "data") fs) in
-      let u = bind-of (must asData (valueAt (text "base") fs)) (λ x. discriminatorOf >>= λ t. branches >>= λ ps. some (union x t ps)) e in
-      let t = bind-of discriminatorOf (λ t. branches >>= λ ps. some (union (u .0) t ps)) (u .2) in
-      let w = came-of (λ (ps : List Pair). union (u .0) (t .0) ps) branches (t .2) in
-      let p = must-there asData (valueAt (text "base") fs) (u .1) in
-      let q = must-there asPairs (valueAt (text "data") fs) (w .1) in
-      let z = ap rowsTaken (w .2) in
-      omega (arith, data-in (p .0) (p .2), pairs-in (q .0) (q .2), two-in (text "base") (text "data") refl fs (p .1) (q .1))
+  union-few : IfThere Few (unionBody fs)
+  union-few =
+      must-few dataRows asData data-in (text "base") _ (λ b u.
+      any-few (valueAt (text "discriminator") fs >>= asName) _ (λ d.
+      must-few listRows asPairs (in-object asPair) (text "data") _ (λ bs v. omega (arith, u .few, v .few, two-in (text "base") (text "data") refl fs (u .is) (v .is)))))
 
-  command-few : commandBody fs ≡ some b → rowsTaken b ≤ suc (sizeF fs)
-  command-few e =
-      let type = may nothing asType (valueAt (text "returns") fs) in
-      let oob = may false asFlag (valueAt (text "allow-oob") fs) in
-      let u = bind-of (may absent asData (valueAt (text "data") fs)) (λ a. type >>= λ t. oob >>= λ f. some (command a t f)) e in
-      let t = bind-of type (λ t. oob >>= λ f. some (command (u .0) t f)) (u .2) in
-      let w = came-of (λ (f : Bool). command (u .0) (t .0) f) oob (t .2) in
-      let z = ap rowsTaken (w .2) in
-      omega (arith, may-few fs (text "data") (u .1))
+  alternate-few : IfThere Few (alternateBody fs)
+  alternate-few = must-few listRows asPairs (in-object asPair) (text "data") _ (λ alts u. omega (arith, u .few, value-in (text "data") fs (u .is)))
 
--- the body of a definition is that of its kind key
-only-of : (ks : List (List ℕ)) (fs : Fields) (n : Name) (o : Option Body) {d : Definition} → only ks fs n o ≡ some d → o ≡ some (d .body)
-only-of ks fs n none e = none-not-some e
-only-of ks fs n (some b) {d} e = go (all (anyOf ks) (keysOf fs)) e
-  where
-    go : (t : Bool) → cond t (some (record { name = n; body = b })) none ≡ some d → some b ≡ some (d .body)
-    go true q = ap (λ (x : Definition). some (x .body)) (some-is q)
-    go false q = none-not-some q
+  data-few : (k : List ℕ) → AtMost (λ (a : Option Data). inlineRows (a >>= inlineMembers)) (sizeF fs) (may asData (valueAt k fs))
+  data-few k = go (valueAt k fs) refl
+    where
+      go : (o : Option Json) → valueAt k fs ≡ o → AtMost (λ (a : Option Data). inlineRows (a >>= inlineMembers)) (sizeF fs) (may asData o)
+      go none e = omega arith
+      go (some j) e =
+          if-then (λ (d : Data). dataRows d ≤ size j) (λ (a : Option Data). inlineRows (a >>= inlineMembers) ≤ sizeF fs) (asData j) _ (data-in j)
+          (λ d (h : dataRows d ≤ size j). omega (arith, value-in k fs e))
 
-kind-of : (k : List ℕ) (fs : Fields) (ks : List (List ℕ)) (body : Option Body) (other : Option Definition) {d : Definition} → kindKey k fs ks body other ≡ some d
-    → (body ≡ some (d .body)) ⊎ (other ≡ some d)
-kind-of k fs ks body other {d} e = go (valueAt k fs) refl
-  where
-    go : (o : Option Json) → valueAt k fs ≡ o → (body ≡ some (d .body)) ⊎ (other ≡ some d)
-    go none q = inr (rw q at e)
-    go (some j) q =
-        let h : (asName j >>= λ n. only (k ∷ ks) fs n body) ≡ some d = rw q at e in let u = bind-of (asName j) (λ n. only (k ∷ ks) fs n body) h in inl (only-of (k ∷ ks) fs (u .0) body (u .2))
+  command-few : IfThere Few (commandBody fs)
+  command-few =
+      if-then (λ (a : Option Data). inlineRows (a >>= inlineMembers) ≤ sizeF fs) Few (may asData (valueAt (text "data") fs)) _ (data-few (text "data")) (λ a (h : inlineRows (a >>= inlineMembers) ≤ sizeF fs).
+      any-few (may asType (valueAt (text "returns") fs)) _ (λ t. any-few (may asFlag (valueAt (text "allow-oob") fs)) _ (λ oob. omega arith)))
 
-pub rows-few : (fs : Fields) {d : Definition} → asDefinition fs ≡ some d → rowsTaken (d .body) ≤ suc (sizeF fs)
-rows-few fs {d} e =
-    ⊎-elim (λ h. enum-few fs h)
-    (λ h.
-    ⊎-elim (λ h. struct-few fs h)
-    (λ h.
-    ⊎-elim (λ h. union-few fs h)
-    (λ h. ⊎-elim (λ h. alternate-few fs h) (λ h. ⊎-elim (λ h. command-few fs h) (λ h. none-not-some h) (kind-of _ fs _ _ _ h)) (kind-of _ fs _ _ _ h))
-    (kind-of _ fs _ _ _ h)) (kind-of _ fs _ _ _ h)) (kind-of _ fs _ _ _ e)
+  pub rows-few : {d : Definition} → asDefinition fs ≡ some d → rowsTaken (d .body) ≤ suc (sizeF fs)
+  rows-few e =
+      of-some (Both (λ _. Unit {0}) Few) (asDefinition fs)
+      (if-definition fs (λ _. Unit {0}) Few (λ k. if-imply (λ _. Unit {0}) (λ (j : Json). IfThere (λ _. Unit {0}) (asName j)) (λ j _. trivial (asName j)) (valueAt k fs) (trivial (valueAt k fs)))
+      enum-few struct-few union-few alternate-few command-few) e .1

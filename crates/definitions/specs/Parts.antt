@@ -10,16 +10,15 @@ use Rattle.grammar.specs.Limits.{schema-bytes}
 use Rattle.grammar.specs.Notation.{text, same, apart}
 use Rattle.grammar.specs.Tree.{Json, Fields}
 use Rattle.grammar.specs.Keys.{keysOf, keysOnce}
-use Rattle.grammar.specs.Machine.Schema.{schema}
+use Rattle.grammar.specs.Serving.Machine.Schema.{schema}
 use Rattle.text.specs.Nodes.{next, HoldsFields}
 use Rattle.rules.specs.Kinds.{enum-kind, value-kind, struct-kind, member-kind, union-kind, alternate-kind, command-kind}
-use Rattle.rules.specs.Definitions.{Name, Member, Pair, Body, Definition, quoted, starred, memberOf, asName, asType, asNames, asMembers, asPairs, asData, must, may, only}
+use Rattle.rules.specs.Definitions.{Name, Member, Data, Pair, Body, Definition, asName, asMember, asPair, asNames, asMembers, asPairs, asData, must, may, only}
 use Rattle.rules.specs.Definitions.{enumBody, structBody, unionBody, alternateBody, commandBody, asDefinition}
-use Rattle.rules.specs.Definitions.Data.{absent}
 use Rattle.rules.specs.Definitions.Body.{union}
-use Rattle.rules.specs.Values.{_>>=_, asFields, valueAt}
-use Rattle.rules.specs.SchemaTable.{row, concat, flag, isList, typeOf, dataLink, inlineStruct, rowsOf}
-use Rattle.rules.specs.RawTable.{packed}
+use Rattle.rules.specs.Values.{_>>=_, ifAbsent, asFields, valueAt}
+use Rattle.rules.specs.SchemaTable.{inlineMembers, row, concat, flag, listFlag, typeOf, dataLink, inlineStruct, rowsOf}
+use Rattle.rules.specs.Serving.RawTable.{packed}
 use Rattle.definitions.specs.declared.definitions.KindKey.{KindKey}
 use Rattle.definitions.specs.declared.definitions.KindKey.the-variants.{Key, NoKey}
 use Rattle.definitions.specs.Places.{Held, Found, Keyed, Named}
@@ -29,7 +28,7 @@ abbrev pub valueRow : Name → List ℕ
 valueRow v = row value-kind v 0 0 0 0
 
 abbrev pub memberRow : Member → List ℕ
-memberRow m = row member-kind (m .name) (typeOf packed packed (λ _ n. packed n) (m .type)) (flag (isList (m .type))) (flag (m .optional)) 0
+memberRow m = row member-kind (m .name) (typeOf packed (m .type)) (listFlag (m .type)) (flag (m .optional)) 0
 
 abbrev pub pairRow : ℕ → Pair → List ℕ
 pairRow kind p = row kind (p .name) (packed (p .type)) 0 0 0
@@ -55,10 +54,10 @@ pub record FieldAt (s w : List ℕ) (f : ℕ → ℕ → List ℕ → Json → O
   pub are : o ≡ f start end key value
 
 abbrev pub memberField : ℕ → ℕ → List ℕ → Json → Option (List ℕ)
-memberField x e key j = asType j >>= λ t. some (memberRow (memberOf x e (starred key) t))
+memberField x e key j = asMember x e key j >>= λ m. some (memberRow m)
 
 abbrev pub pairField : ℕ → ℕ → ℕ → List ℕ → Json → Option (List ℕ)
-pairField kind x e key j = asName j >>= λ t. some (pairRow kind (record { name = quoted x e; type = t }))
+pairField kind x e key j = asPair x e key j >>= λ p. some (pairRow kind p)
 
 pub data ChildAt (s w : List ℕ) (kind a : ℕ) (o : Option (List ℕ)) : Type 0 where
   value : kind ≡ value-kind → ValueAt s w a o → ChildAt s w kind a o
@@ -80,11 +79,14 @@ pub record CountedAt (s w : List ℕ) (kind start size link k : ℕ) (o : Option
   pub found : Found s w value k
   pub are : o ≡ (must (childRows (kind + 1)) value >>= λ rs. some (countedRows kind start size link rs))
 
--- the inline struct of a base or of data
+-- the inline struct of a base or of data, if it has one
+abbrev pub inlineWords : Option Data → List ℕ
+inlineWords d = inlineStruct packed (d >>= inlineMembers)
+
 pub record InlineAt (s w : List ℕ) (k : ℕ) (o : Option (List ℕ)) : Type 0 where
   pub value : Option Json
   pub found : Found s w value k
-  pub are : o ≡ (may absent asData value >>= λ d. some (inlineStruct packed packed (λ _ n. packed n) d))
+  pub are : o ≡ (may asData value >>= λ d. some (inlineWords d))
 
 -- the rows of a definition at row n
 abbrev pub bodyRows : ℕ → Name → Body → List ℕ
@@ -117,22 +119,22 @@ pub record BodyAt (s w : List ℕ) (body : Fields → Option Body) (k v n : ℕ)
 
 -- the rows of a union and of a command, out of what their keys have
 pub record UnionAt (s w : List ℕ) (v b t d n : ℕ) (o : Option (List ℕ)) : Type 0 where
-  pub base : Option Json
-  pub base-found : Found s w base b
+  pub base : Json
+  pub base-found : Found s w (some base) b
   pub branches : Option Json
   pub branches-found : Found s w branches d
   pub discriminator : Name
   pub discriminator-at : Named w t 0 discriminator
   pub name : Name
   pub named : Named w v 0 name
-  pub are : o ≡ (may absent asData base >>= λ x. must asPairs branches >>= λ ps. some (bodyRows n name (union x discriminator ps)))
+  pub are : o ≡ (asData base >>= λ x. must asPairs branches >>= λ ps. some (bodyRows n name (union x discriminator ps)))
 
 pub record CommandAt (s w : List ℕ) (v d n oob place list : ℕ) (o : Option (List ℕ)) : Type 0 where
   pub value : Option Json
   pub found : Found s w value d
   pub name : Name
   pub named : Named w v 0 name
-  pub are : o ≡ (may absent asData value >>= λ x. some (row command-kind name (dataLink packed packed (λ _ m. packed m) n x) oob place list ++ inlineStruct packed packed (λ _ m. packed m) x))
+  pub are : o ≡ (may asData value >>= λ x. some (row command-kind name (ifAbsent 0 (dataLink packed n) x) oob place list ++ inlineWords x))
 
 -- a kind's keys, the kind key first, and what they say
 abbrev pub byKind : {A : Type 0} → ℕ → A → A → A → A → A → A

@@ -8,9 +8,9 @@ use lib.ListN.{length, take}
 use Rattle.grammar.specs.Limits.{schema-bytes, row-words}
 use Rattle.grammar.specs.Tree.{Items}
 use Rattle.grammar.specs.Keys.{keysOnceI}
-use Rattle.grammar.specs.Machine.Schema.{schema}
+use Rattle.grammar.specs.Serving.Machine.Schema.{schema}
 use Rattle.rules.specs.Definitions.{Definition, definitions}
-use Rattle.rules.specs.RawTable.{rawFrom}
+use Rattle.rules.specs.Serving.RawTable.{rawFrom}
 use Rattle.text.specs.Nodes.{HoldsItems}
 use Rattle.definitions.specs.declared.writing.Put.{Put}
 use Rattle.definitions.specs.declared.writing.Put.the-variants.{Rows, Refused}

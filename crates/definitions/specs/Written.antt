@@ -1,5 +1,5 @@
 -- Serves contracts: rows written into lent words one after the other, where they fit, or refusal.
-use Prim.Native.Nat.{ℕ, _+_, _*_, _≤_}
+use Prim.Native.Nat.{ℕ, _+_, _*_, _^_, _≤_}
 use mathlib.Core.Path.{_≡_}
 use mathlib.Core.List.{List}
 use mathlib.Core.Option.{Option, none, some}
@@ -11,6 +11,26 @@ use Rattle.rules.specs.SchemaTable.{row}
 use Rattle.definitions.specs.declared.writing.Put.{Put}
 use Rattle.definitions.specs.declared.writing.Put.the-variants.{Rows, Refused}
 use Rattle.definitions.specs.Places.{Named}
+
+-- Bounds below which rows are counted, so that no count goes past a number of the machine. A row comes from a node of its own, and a schema has
+-- fewer nodes than this: so many rows at most stand before a definition, and the link to the row after the next fits in a word.
+abbrev pub node-bound : ℕ
+node-bound = 2 ^ 31
+
+-- the most rows of a definition: its own and two lists, each with one row for a node that a word numbers
+abbrev pub definition-rows : ℕ
+definition-rows = 2 ^ 34
+
+-- where a list with the row that counts it may begin: within the rows of a definition, with room to spare
+abbrev pub list-bound : ℕ
+list-bound = 2 ^ 39
+
+-- where the children of a list may begin, and each of them
+abbrev pub children-bound : ℕ
+children-bound = 2 ^ 40
+
+abbrev pub child-bound : ℕ
+child-bound = 2 ^ 48
 
 -- the words xs stand from row n on, if all of them fit
 pub record RowPut (old new : List ℕ) (n : ℕ) (xs : List ℕ) : Type 0 where

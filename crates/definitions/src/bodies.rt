@@ -18,9 +18,10 @@ use lookups::values::is_string;
 use lookups::values::value_at;
 use rules::kind;
 use strings::dialects::Dialect;
-ghost use Prim.Native.Nat.{_^_, _<_};
+ghost use Prim.Native.Nat.{_<_};
+ghost use Rattle.rules.specs.Kinds.{alternative-kind};
 ghost use Rattle.rules.specs.Definitions.{structBody, unionBody, commandBody};
-ghost use Rattle.definitions.specs.Written.{PutsRows};
+ghost use Rattle.definitions.specs.Written.{node-bound, definition-rows, PutsRows};
 ghost use Rattle.definitions.specs.Parts.{ListAt, BodyAt, UnionAt, CommandAt};
 
 // A row of that kind with the name and a link, and the children under its key `data`.
@@ -34,8 +35,8 @@ pub fn put_list(
     kind: u32,
     link: u32,
 ) -> Put
-    requires { ⌜ (n < 2 ^ 31) × (kind < 8) ⌝ }
-    ensures { λ r. ⌜ PutsRows (ListAt (now (s .entry)) (now (nodes .entry)) kind link k v) (now (rows .entry)) (now (rows .exit)) n (2 ^ 34) r ⌝ }
+    requires { ⌜ (n < node-bound) × (kind < alternative-kind) ⌝ }
+    ensures { λ r. ⌜ PutsRows (ListAt (now (s .entry)) (now (nodes .entry)) kind link k v) (now (rows .entry)) (now (rows .exit)) n definition-rows r ⌝ }
 {
     let d = value_at(s, Dialect::Schema, nodes, k, b"data");
     let start = name_start(nodes, v, 0);
@@ -53,8 +54,8 @@ pub fn put_list(
 }
 
 pub fn put_struct(s: &[u8], nodes: &[u32], k: usize, v: usize, rows: &mut [u32], n: usize) -> Put
-    requires { ⌜ n < 2 ^ 31 ⌝ }
-    ensures { λ r. ⌜ PutsRows (BodyAt (now (s .entry)) (now (nodes .entry)) structBody k v n) (now (rows .entry)) (now (rows .exit)) n (2 ^ 34) r ⌝ }
+    requires { ⌜ n < node-bound ⌝ }
+    ensures { λ r. ⌜ PutsRows (BodyAt (now (s .entry)) (now (nodes .entry)) structBody k v n) (now (rows .entry)) (now (rows .exit)) n definition-rows r ⌝ }
 {
     let b = value_at(s, Dialect::Schema, nodes, k, b"base");
     if !base_fits(nodes, b) {
@@ -75,8 +76,8 @@ fn put_union_rows(
     rows: &mut [u32],
     n: usize,
 ) -> Put
-    requires { ⌜ n < 2 ^ 31 ⌝ }
-    ensures { λ r. ⌜ PutsRows (UnionAt (now (s .entry)) (now (nodes .entry)) v b t d n) (now (rows .entry)) (now (rows .exit)) n (2 ^ 34) r ⌝ }
+    requires { ⌜ n < node-bound ⌝ }
+    ensures { λ r. ⌜ PutsRows (UnionAt (now (s .entry)) (now (nodes .entry)) v b t d n) (now (rows .entry)) (now (rows .exit)) n definition-rows r ⌝ }
 {
     let p = put_inline(s, nodes, b, rows, n + 1);
     let Put::Rows(first) = p else {
@@ -103,8 +104,8 @@ fn put_union_rows(
 }
 
 pub fn put_union(s: &[u8], nodes: &[u32], k: usize, v: usize, rows: &mut [u32], n: usize) -> Put
-    requires { ⌜ n < 2 ^ 31 ⌝ }
-    ensures { λ r. ⌜ PutsRows (BodyAt (now (s .entry)) (now (nodes .entry)) unionBody k v n) (now (rows .entry)) (now (rows .exit)) n (2 ^ 34) r ⌝ }
+    requires { ⌜ n < node-bound ⌝ }
+    ensures { λ r. ⌜ PutsRows (BodyAt (now (s .entry)) (now (nodes .entry)) unionBody k v n) (now (rows .entry)) (now (rows .exit)) n definition-rows r ⌝ }
 {
     let b = value_at(s, Dialect::Schema, nodes, k, b"base");
     if b == 0 {
@@ -131,8 +132,8 @@ fn put_command_rows(
     n: usize,
     row: Row,
 ) -> Put
-    requires { ⌜ n < 2 ^ 31 ⌝ }
-    ensures { λ r. ⌜ PutsRows (CommandAt (now (s .entry)) (now (nodes .entry)) v d n (row .b) (row .c) (row .d)) (now (rows .entry)) (now (rows .exit)) n (2 ^ 34) r ⌝ }
+    requires { ⌜ n < node-bound ⌝ }
+    ensures { λ r. ⌜ PutsRows (CommandAt (now (s .entry)) (now (nodes .entry)) v d n (row .b) (row .c) (row .d)) (now (rows .entry)) (now (rows .exit)) n definition-rows r ⌝ }
 {
     let p = put_inline(s, nodes, d, rows, n + 1);
     let Put::Rows(m) = p else {
@@ -153,8 +154,8 @@ fn put_command_rows(
 }
 
 pub fn put_command(s: &[u8], nodes: &[u32], k: usize, v: usize, rows: &mut [u32], n: usize) -> Put
-    requires { ⌜ n < 2 ^ 31 ⌝ }
-    ensures { λ r. ⌜ PutsRows (BodyAt (now (s .entry)) (now (nodes .entry)) commandBody k v n) (now (rows .entry)) (now (rows .exit)) n (2 ^ 34) r ⌝ }
+    requires { ⌜ n < node-bound ⌝ }
+    ensures { λ r. ⌜ PutsRows (BodyAt (now (s .entry)) (now (nodes .entry)) commandBody k v n) (now (rows .entry)) (now (rows .exit)) n definition-rows r ⌝ }
 {
     let d = value_at(s, Dialect::Schema, nodes, k, b"data");
     let returns = value_at(s, Dialect::Schema, nodes, k, b"returns");

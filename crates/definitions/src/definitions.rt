@@ -14,9 +14,9 @@ use text::nodes::NODE_NEXT;
 use text::nodes::node_number;
 use text::nodes::node_word;
 use tokens::node;
-ghost use Prim.Native.Nat.{_^_, _<_};
+ghost use Prim.Native.Nat.{_<_};
 ghost use Rattle.definitions.specs.Puts.{PutsDefinitions};
-ghost use Rattle.definitions.specs.Written.{PutsRows};
+ghost use Rattle.definitions.specs.Written.{node-bound, definition-rows, PutsRows};
 ghost use Rattle.definitions.specs.Parts.{BodyAt, FindsKind, KindAt, DefinitionAt, bodyFor};
 
 // The row kind that a kind key says, and the node of its value.
@@ -62,8 +62,8 @@ fn put_body(
     rows: &mut [u32],
     n: usize,
 ) -> Put
-    requires { ⌜ n < 2 ^ 31 ⌝ }
-    ensures { λ r. ⌜ PutsRows (BodyAt (now (s .entry)) (now (nodes .entry)) (bodyFor kind) k v n) (now (rows .entry)) (now (rows .exit)) n (2 ^ 34) r ⌝ }
+    requires { ⌜ n < node-bound ⌝ }
+    ensures { λ r. ⌜ PutsRows (BodyAt (now (s .entry)) (now (nodes .entry)) (bodyFor kind) k v n) (now (rows .entry)) (now (rows .exit)) n definition-rows r ⌝ }
 {
     match kind {
         kind::ENUM => put_list(s, nodes, k, v, rows, n, kind::ENUM, 0),
@@ -84,8 +84,8 @@ fn put_kind(
     rows: &mut [u32],
     n: usize,
 ) -> Put
-    requires { ⌜ n < 2 ^ 31 ⌝ }
-    ensures { λ r. ⌜ PutsRows (KindAt (now (s .entry)) (now (nodes .entry)) kind k v n) (now (rows .entry)) (now (rows .exit)) n (2 ^ 34) r ⌝ }
+    requires { ⌜ n < node-bound ⌝ }
+    ensures { λ r. ⌜ PutsRows (KindAt (now (s .entry)) (now (nodes .entry)) kind k v n) (now (rows .entry)) (now (rows .exit)) n definition-rows r ⌝ }
 {
     if !is_string(nodes, v) {
         return Put::Refused;
@@ -98,8 +98,8 @@ fn put_kind(
 
 // The definition that is the value at node k, from row n on.
 fn put_definition(s: &[u8], nodes: &[u32], k: usize, rows: &mut [u32], n: usize) -> Put
-    requires { ⌜ n < 2 ^ 31 ⌝ }
-    ensures { λ r. ⌜ PutsRows (DefinitionAt (now (s .entry)) (now (nodes .entry)) k n) (now (rows .entry)) (now (rows .exit)) n (2 ^ 34) r ⌝ }
+    requires { ⌜ n < node-bound ⌝ }
+    ensures { λ r. ⌜ PutsRows (DefinitionAt (now (s .entry)) (now (nodes .entry)) k n) (now (rows .entry)) (now (rows .exit)) n definition-rows r ⌝ }
 {
     if node_word(nodes, k, NODE_KIND) != node::OBJECT {
         return Put::Refused;
@@ -113,7 +113,7 @@ fn put_definition(s: &[u8], nodes: &[u32], k: usize, rows: &mut [u32], n: usize)
 
 // The definitions of the objects from node 0 up to `count`, from row 0 on. Each row comes from a node of its own.
 pub fn put_definitions(s: &[u8], nodes: &[u32], count: usize, rows: &mut [u32]) -> Put
-    requires { ⌜ count < 2 ^ 31 ⌝ }
+    requires { ⌜ count < node-bound ⌝ }
     ensures { λ r. ⌜ PutsDefinitions (now (s .entry)) (now (nodes .entry)) (now (rows .entry)) (now (rows .exit)) count r ⌝ }
 {
     let mut k = 0;

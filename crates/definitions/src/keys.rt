@@ -5,7 +5,7 @@ use lookups::counts::one_key;
 use lookups::counts::two_keys;
 use rules::kind;
 use strings::dialects::Dialect;
-ghost use Rattle.grammar.specs.Machine.Schema.{schema};
+ghost use Rattle.grammar.specs.Serving.Machine.Schema.{schema};
 ghost use Rattle.lookups.specs.Lookups.{FindsKeys, NoOtherKeys};
 ghost use Rattle.definitions.specs.Parts.{keysFor};
 

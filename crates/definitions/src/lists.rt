@@ -1,4 +1,4 @@
-// The children that a value lists, as rows: values of an enum (kind 2), members (4), branches (6), alternatives (8).
+// The children that a value lists, as rows: values of an enum, members, branches, alternatives.
 use crate::shapes::TypeRead;
 use crate::shapes::take_type;
 use crate::values::name_word;
@@ -19,12 +19,14 @@ ghost use mathlib.Core.List.{List};
 ghost use mathlib.Core.Path.{_≡_};
 ghost use mathlib.Core.Bool.{cond};
 ghost use lib.Dec.{eqb};
-ghost use Rattle.definitions.specs.Written.{PutsRows};
+ghost use Rattle.rules.specs.Kinds.{value-kind, alternative-kind};
+ghost use Rattle.tokens.specs.NodeKinds.{array-node, object-node};
+ghost use Rattle.definitions.specs.Written.{list-bound, children-bound, child-bound, PutsRows};
 ghost use Rattle.definitions.specs.Parts.{ValueAt, FieldAt, memberField, pairField, ChildAt, ChildrenAt, CountedAt, InlineAt};
 
 // The string at node a, as a value of an enum.
 fn put_value(nodes: &[u32], a: usize, rows: &mut [u32], n: usize) -> Put
-    requires { ⌜ n < 2 ^ 48 ⌝ }
+    requires { ⌜ n < child-bound ⌝ }
     ensures { λ r. ⌜ ((s : List ℕ) → PutsRows (ValueAt s (now (nodes .entry)) a) (now (rows .entry)) (now (rows .exit)) n 1 r) ⌝ }
 {
     if !is_string(nodes, a) {
@@ -45,7 +47,7 @@ fn put_value(nodes: &[u32], a: usize, rows: &mut [u32], n: usize) -> Put
 
 // The member whose key stands at node a; a `*` in front of the key is no part of its name.
 fn put_member(s: &[u8], nodes: &[u32], a: usize, rows: &mut [u32], n: usize) -> Put
-    requires { ⌜ (a < 2 ^ 48) × (n < 2 ^ 48) ⌝ }
+    requires { ⌜ (a < child-bound) × (n < child-bound) ⌝ }
     ensures { λ r. ⌜ PutsRows (FieldAt (now (s .entry)) (now (nodes .entry)) memberField a) (now (rows .entry)) (now (rows .exit)) n 1 r ⌝ }
 {
     let t = take_type(nodes, a + 1);
@@ -68,7 +70,7 @@ fn put_member(s: &[u8], nodes: &[u32], a: usize, rows: &mut [u32], n: usize) -> 
 
 // The branch or alternative whose key stands at node a.
 fn put_pair(nodes: &[u32], a: usize, kind: u32, rows: &mut [u32], n: usize) -> Put
-    requires { ⌜ (a < 2 ^ 48) × (n < 2 ^ 48) ⌝ }
+    requires { ⌜ (a < child-bound) × (n < child-bound) ⌝ }
     ensures { λ r. ⌜ ((s : List ℕ) → PutsRows (FieldAt s (now (nodes .entry)) (pairField kind) a) (now (rows .entry)) (now (rows .exit)) n 1 r) ⌝ }
 {
     let b = a + 1;
@@ -90,7 +92,7 @@ fn put_pair(nodes: &[u32], a: usize, kind: u32, rows: &mut [u32], n: usize) -> P
 }
 
 fn put_child(s: &[u8], nodes: &[u32], a: usize, kind: u32, rows: &mut [u32], n: usize) -> Put
-    requires { ⌜ (a < 2 ^ 48) × (n < 2 ^ 48) ⌝ }
+    requires { ⌜ (a < child-bound) × (n < child-bound) ⌝ }
     ensures { λ r. ⌜ PutsRows (ChildAt (now (s .entry)) (now (nodes .entry)) kind a) (now (rows .entry)) (now (rows .exit)) n 1 r ⌝ }
 {
     match kind {
@@ -102,7 +104,7 @@ fn put_child(s: &[u8], nodes: &[u32], a: usize, kind: u32, rows: &mut [u32], n: 
 
 // The kind of the node that lists them: an array or an object.
 fn list_kind(kind: u32) -> u32
-    ensures { λ r. ⌜ r ≡ cond (eqb kind 2) 8 9 ⌝ }
+    ensures { λ r. ⌜ r ≡ cond (eqb kind value-kind) array-node object-node ⌝ }
 {
     if kind == kind::VALUE {
         return node::ARRAY;
@@ -112,7 +114,7 @@ fn list_kind(kind: u32) -> u32
 
 // The children that the value at node k lists, from row n on; there must be one.
 pub fn put_children(s: &[u8], nodes: &[u32], k: usize, kind: u32, rows: &mut [u32], n: usize) -> Put
-    requires { ⌜ n < 2 ^ 40 ⌝ }
+    requires { ⌜ n < children-bound ⌝ }
     ensures { λ r. ⌜ PutsRows (ChildrenAt (now (s .entry)) (now (nodes .entry)) kind k) (now (rows .entry)) (now (rows .exit)) n 0xFFFF_FFFF r ⌝ }
 {
     if k == 0 {
@@ -144,7 +146,7 @@ pub fn put_children(s: &[u8], nodes: &[u32], k: usize, kind: u32, rows: &mut [u3
 
 // A row with a link that counts its children in word 4, and these, which the value at node k lists. Their kind is the next.
 pub fn put_counted(s: &[u8], nodes: &[u32], k: usize, rows: &mut [u32], n: usize, row: Row) -> Put
-    requires { ⌜ (n < 2 ^ 39) × (row .kind < 8) ⌝ }
+    requires { ⌜ (n < list-bound) × (row .kind < alternative-kind) ⌝ }
     ensures { λ r. ⌜ PutsRows (CountedAt (now (s .entry)) (now (nodes .entry)) (row .kind) (row .start) (row .size) (row .b) k) (now (rows .entry)) (now (rows .exit)) n (2 ^ 32) r ⌝ }
 {
     let first = n + 1;
@@ -168,7 +170,7 @@ pub fn put_counted(s: &[u8], nodes: &[u32], k: usize, rows: &mut [u32], n: usize
 
 // The inline struct of the base or data at node k, from row n on; none where that is a name or absent.
 pub fn put_inline(s: &[u8], nodes: &[u32], k: usize, rows: &mut [u32], n: usize) -> Put
-    requires { ⌜ n < 2 ^ 39 ⌝ }
+    requires { ⌜ n < list-bound ⌝ }
     ensures { λ r. ⌜ PutsRows (InlineAt (now (s .entry)) (now (nodes .entry)) k) (now (rows .entry)) (now (rows .exit)) n (2 ^ 32) r ⌝ }
 {
     if k == 0 {

@@ -6,7 +6,8 @@ use text::nodes::NODE_NEXT;
 use text::nodes::node_number;
 use text::nodes::node_word;
 use tokens::node;
-ghost use Prim.Native.Nat.{_^_, _<_};
+ghost use Prim.Native.Nat.{_<_};
+ghost use Rattle.definitions.specs.Written.{node-bound};
 ghost use Rattle.definitions.specs.Places.{ReadsList, ReadsType, TakesType, TakesReturn, TakesFlag, Links, BaseFits};
 
 // A type: a name, or a list of one name, by the word of the name; or any other value.
@@ -98,7 +99,7 @@ pub fn take_flag(nodes: &[u32], k: usize) -> FlagRead
 
 // The link of the base or data at node k, 0 where it is absent, of the owner at row n: the row after its owner, or a name.
 pub fn data_link(nodes: &[u32], k: usize, n: usize) -> u32
-    requires { ⌜ n < 2 ^ 31 ⌝ }
+    requires { ⌜ n < node-bound ⌝ }
     ensures { λ r. ⌜ Links (now (nodes .entry)) k n r ⌝ }
 {
     if k == 0 {

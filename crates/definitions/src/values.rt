@@ -6,7 +6,7 @@ use text::nodes::node_word;
 use text::reader::stands;
 ghost use mathlib.Core.Path.{_≡_};
 ghost use Prim.Native.Nat.{_^_, _<_};
-ghost use Rattle.rules.specs.RawTable.{packed};
+ghost use Rattle.rules.specs.Serving.RawTable.{packed};
 ghost use Rattle.definitions.specs.Places.{NameWord, Star};
 
 pub fn wide(x: u32) -> usize

@@ -2,6 +2,7 @@
 use crate::values::name_size;
 use crate::values::name_start;
 use rules::ROW_WORDS;
+use words::put_four;
 ghost use mathlib.Core.List.{_∷_, []};
 ghost use Rattle.definitions.specs.Written.{RowPut, NamedRowPut};
 
@@ -22,21 +23,15 @@ pub struct Row {
     pub d: u32,
 }
 
+// Row n, as two items of four words, where all of it fits.
 pub fn put_row(rows: &mut [u32], n: usize, row: Row)
     ensures { λ _. ⌜ RowPut (now (rows .entry)) (now (rows .exit)) n (row .kind ∷ row .start ∷ row .size ∷ row .a ∷ row .b ∷ row .c ∷ row .d ∷ 0 ∷ []) ⌝ }
 {
     if rows.len() / ROW_WORDS <= n {
         return;
     }
-    let at = ROW_WORDS * n;
-    rows[at] = row.kind;
-    rows[at + 1] = row.start;
-    rows[at + 2] = row.size;
-    rows[at + 3] = row.a;
-    rows[at + 4] = row.b;
-    rows[at + 5] = row.c;
-    rows[at + 6] = row.d;
-    rows[at + 7] = 0;
+    put_four(rows, 2 * n, row.kind, row.start, row.size, row.a);
+    put_four(rows, 2 * n + 1, row.b, row.c, row.d, 0);
 }
 
 // Row n with the name at node k, but for its first `skip` bytes, in place of its own.

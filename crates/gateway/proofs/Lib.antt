@@ -1,2 +1,3 @@
--- The outcomes in numbers.
+-- The outcomes in numbers, and what the calls owe.
 pub mod Outcomes
+pub mod Promises

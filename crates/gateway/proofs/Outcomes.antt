@@ -6,10 +6,10 @@ use Rattle.rules.specs.declared.SchemaAnswer.{SchemaAnswer}
 use Rattle.rules.specs.declared.MessageAnswer.{MessageAnswer}
 use Rattle.rules.specs.SchemaAnswers as Schemas
 use Rattle.rules.specs.MessageAnswers as Messages
-use Rattle.rules.specs.Answers.{SchemaResult, MessageResult}
+use Rattle.rules.specs.Serving.Answers.{SchemaResult, MessageResult}
 use Rattle.schema.specs.Stages.{Compiles}
 use Rattle.message.specs.Stages.{Answered}
-use Rattle.gateway.specs.Calls.{Compiled, Checked}
+use Rattle.gateway.specs.Serving.Outcomes.{Compiled, Checked}
 
 abbrev schema-answer : SchemaResult → SchemaAnswer
 schema-answer x = x .answer

@@ -1,2 +1,3 @@
--- What the exported calls promise.
+-- What a reader must believe of the exported calls; Serving has what their contracts cite.
 pub mod Calls
+pub mod Serving

@@ -1,4 +1,4 @@
-// The calls for programs in C and Rust, with the paper's numbers.
+// The calls for programs in C and Rust, with the numbers of the reference (Schema answers, Message answers).
 use message::check::check_message;
 use numbers::message_number;
 use numbers::message_records;
@@ -9,7 +9,7 @@ use schema::compile::compile_schema;
 use table::sound::is_sound;
 ghost use mathlib.Core.Path.{_≡_};
 ghost use Rattle.rules.specs.Sound.{sound};
-ghost use Rattle.gateway.specs.Calls.{Compiled, Checked};
+ghost use Rattle.gateway.specs.Serving.Outcomes.{Compiled, Checked};
 
 // Compiles a schema: the number, the count of rows, and the lent rows.
 #[no_mangle]

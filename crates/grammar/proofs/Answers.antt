@@ -11,8 +11,9 @@ use lib.Seq.{length-take-le, take-suc, split-at, append-snoc}
 use lib.Dec.{ltb}
 use borrow.Author.Tests.{ltb-true, ltb-false}
 use Rattle.grammar.specs.Tree.{Items, Items.no-items}
-use Rattle.grammar.specs.Starts.{Valid, Viable, TooDeep, Broken}
-use Rattle.grammar.specs.Machine.{Dialect, Out, Out.whole, Out.fault, Out.deep, scan, start, read, Stack.bottom, Control.AtObject, Control.AtValue}
+use Rattle.grammar.specs.Starts.{Opening, Valid, Viable, TooDeep}
+use Rattle.grammar.specs.Serving.Faults.{Broken}
+use Rattle.grammar.specs.Serving.Machine.{Dialect, Out, Out.whole, Out.fault, Out.deep, scan, start, read, Stack.bottom, Control.AtObject, Control.AtValue}
 use Rattle.grammar.proofs.TokenRuns.{TokensSound, TokensComplete, TokensCompletable}
 use Rattle.grammar.proofs.Rest.{level}
 use Rattle.grammar.proofs.Steps.{Stops, NotDeep}
@@ -20,7 +21,7 @@ use Rattle.grammar.proofs.Sound.{sound}
 use Rattle.grammar.proofs.Complete.{complete}
 use Rattle.grammar.proofs.Viable.{longest}
 use Rattle.grammar.proofs.Starts.{longest-unique, valid-not-deep, broken-not-deep}
-use Rattle.grammar.proofs.Levels.{Bracket, Deeper, stays, inside, deeper}
+use Rattle.grammar.proofs.Levels.{Deeper, stays, inside, deeper}
 
 fault-not-whole : {js : Items} {e : ℕ} → whole js ≡ fault e → ⊥
 fault-not-whole h = let z : _≡_ {A = ℕ} 0 1 = cc in omega arith
@@ -77,7 +78,7 @@ module _ (D : Dialect) (S : TokensSound D) (L : TokensComplete D) (H : TokensCom
         let m : e ≤ length l = omega arith in
         let s = subst (λ (w : List ℕ). scan D lim (start D) (bottom no-items) 0 w ≡ deep e) (split-at l e 0 i) h in
         let z = deeper D lim L H (take e l) (getD l e 0) (drop (suc e) l) (start D) (bottom no-items) 0 e (start-level lim) (omega (arith, length-take-le e l m)) s in
-        record { bytes = z .bytes; items = z .items; path = rw (take-suc l e 0 i, append-snoc (take e l) (getD l e 0) (z .bytes)) (z .path); bracket = z .bracket }
+        record { bytes = z .bytes; items = z .items; path = rw (take-suc l e 0 i, append-snoc (take e l) (getD l e 0) (z .bytes)) (z .path); opening = z .opening }
 
     pub deep-too-deep : (e : ℕ) → read D lim l ≡ deep e → TooDeep (D .lexis) lim l e
     deep-too-deep e h =
@@ -106,8 +107,8 @@ module _ (D : Dialect) (S : TokensSound D) (L : TokensComplete D) (H : TokensCom
         go (deep f) h = h ∙ ap (λ (n : ℕ). deep n) (longest-unique (D .lexis) (deep-too-deep f h .longest) (t .longest))
 
     -- the byte that opens one level too many is a bracket
-    pub too-deep-bracket : (e : ℕ) → TooDeep (D .lexis) lim l e → Bracket (getD l e 0)
-    too-deep-bracket e t = deep-deeper e (too-deep-deep e t) .bracket
+    pub too-deep-opening : (e : ℕ) → TooDeep (D .lexis) lim l e → Opening (getD l e 0)
+    too-deep-opening e t = deep-deeper e (too-deep-deep e t) .opening
 
     -- nothing is left over
     pub one-of-three : Valid (D .lexis) lim l ⊎ (((e : ℕ) × Broken (D .lexis) lim l e) ⊎ ((e : ℕ) × TooDeep (D .lexis) lim l e))

@@ -66,3 +66,7 @@ within-false a e b = go (leb a b) refl
     go : (t : Bool) → leb a b ≡ t → (t && leb b e) ≡ false → Outside a e b
     go true t u = above (leb-false b e u)
     go false t u = below (leb-false a b t)
+
+pub within-out : (a e b : ℕ) → Outside a e b → within a e b ≡ false
+within-out a e b (below h) = within-below a e b h
+within-out a e b (above h) = within-above a e b h

@@ -14,10 +14,10 @@ use Rattle.grammar.specs.Grammar.{Chars.char, Value, Value.unquoted, Val
 use Rattle.grammar.specs.Grammar.{Elements, Elements.element, MoreElements, MoreElements.end-array, MoreElements.next-element, ObjectBody, ObjectBody.no-members}
 use Rattle.grammar.specs.Grammar.{ObjectBody.some-members, Members, Members.member, MoreMembers, MoreMembers.end-object, MoreMembers.next-member, Objects, Objects.no-more}
 use Rattle.grammar.specs.Grammar.{Objects.one-more, Text, Text.objects, Text.one-value}
-use Rattle.grammar.specs.Machine.{CharStep, CharStep.stay, CharStep.bad, TokenStep, TokenStep.on, TokenStep.last, TokenStep.past, TokenStep.off, Dialect, Stack}
-use Rattle.grammar.specs.Machine.{Stack.bottom, Stack.in-array, Stack.in-object, StringRole, StringRole.as-value, StringRole.as-key, Next, Next.to, Control, reverseItems}
-use Rattle.grammar.specs.Machine.{reverseFields, depth, skip, endString, inChar, inToken, step, scan, read, Out.whole}
-use Rattle.grammar.specs.Machine.Control.{AtObject, AtValue, AtElement, After, AtFirstKey, AtKey, AtColon, InString, InChar, InToken, InComment}
+use Rattle.grammar.specs.Serving.Machine.{CharStep, CharStep.stay, CharStep.bad, TokenStep, TokenStep.on, TokenStep.last, TokenStep.past, TokenStep.off, Dialect, Stack}
+use Rattle.grammar.specs.Serving.Machine.{Stack.bottom, Stack.in-array, Stack.in-object, StringRole, StringRole.as-value, StringRole.as-key, Next, Next.to, Control, reverseItems}
+use Rattle.grammar.specs.Serving.Machine.{reverseFields, depth, skip, endString, inChar, inToken, step, scan, read, Out.whole}
+use Rattle.grammar.specs.Serving.Machine.Control.{AtObject, AtValue, AtElement, After, AtFirstKey, AtKey, AtColon, InString, InChar, InToken, InComment}
 use Rattle.grammar.proofs.TokenRuns.{Structural, Structural.begin-array, Structural.begin-object, Structural.name-separator, Structural.value-separator, CharRun}
 use Rattle.grammar.proofs.TokenRuns.{CharRun.char-whole, CharRun.char-on, TokenRun, TokenRun.token-last, TokenRun.token-end, TokenRun.token-past, TokenRun.token-on}
 use Rattle.grammar.proofs.TokenRuns.{CharStarts, CharStarts.char-starts, TokenStarts, TokenStarts.token-starts, Solid, Stopped, TokensComplete}
@@ -188,7 +188,7 @@ module _ (D : Dialect) (L : TokensComplete D) (lim : ℕ) where
   opens-object p k h = skip-solid (L .solid begin-object) _ _ _ ∙ simp (L .no-quote begin-object, lt-ltb _ _ h)
 
   mutual
-    value-run : {n p q : ℕ} {l r : List ℕ} {j : Json} → Value (D .lexis) n p l q r j → (k : Stack) → depth k + n ≡ lim → Stopped D r → Runs AtValue k p l (After j) k q r
+    pub value-run : {n p q : ℕ} {l r : List ℕ} {j : Json} → Value (D .lexis) n p l q r j → (k : Stack) → depth k + n ≡ lim → Stopped D r → Runs AtValue k p l (After j) k q r
     value-run (unquoted b) k h f = token-run (L .tokens b f) k
     value-run (string t w) k h f = then (byte (skip-solid (L .quote-first _ t .solid) _ _ _ ∙ simp t)) (chars-run w (as-value _) [] k)
     value-run (array w) k h f = then (byte (opens-array _ k (omega arith))) (array-run w _ k (omega arith))
@@ -227,6 +227,11 @@ module _ (D : Dialect) (L : TokensComplete D) (lim : ℕ) where
     more-members-run (end-object w) a acc s e cs j k h = then (blanks-run w after _) (byte (skip-solid (L .solid Structural.end-object) _ _ _))
     more-members-run (next-member w u m) a acc s e cs j k h =
         then (blanks-run w after _) (then (byte (skip-solid (L .solid value-separator) _ _ _)) (then (blanks-run u at-key k) (members-run m a (field s e cs j acc) k h)))
+
+  -- a value as the first element
+  pub element-run : {n p q : ℕ} {l r : List ℕ} {j : Json} → Value (D .lexis) n p l q r j → (a : ℕ) (k : Stack) → suc (depth k) + n ≡ lim → Stopped D r
+      → Runs (AtElement a) k p l (After j) (in-array a no-items k) q r
+  element-run v a k h f = then (first-element (value-begins v f) a _ k) (value-run v (in-array a no-items k) h f)
 
   -- at the top: after an object stands another, or the end
   next-object : (v : Json) (acc : Items) (o : ℕ) (m : List ℕ) → D .lexis .several ≡ true

@@ -1,4 +1,4 @@
--- `keysOnce` says what the paper says: no object anywhere inside has two fields, at different positions, with equal keys.
+-- `keysOnce` says what the reference says (Repeated keys): no object anywhere inside has two fields, at different positions, with equal keys.
 -- One direction of the cycle value, items, fields goes down to the object, the other gathers the objects up.
 use Prim.Native.Nat.{ℕ, _<_}
 use mathlib.Core.Logic.{_↔_}
@@ -65,7 +65,7 @@ mutual
   fields-once no-fields h = refl
   fields-once (field a e key j gs) h = rw (value-once j (λ fs m. h fs (in-field m))) (fields-once gs (λ fs m. h fs (in-fields m)))
 
--- 01, Message answers 25, of a value; Schema answers 3, of the top-level objects
+-- Reference, Repeated keys: of a value (Message answers 25), of the top-level objects (Schema answers 3)
 pub keys-once : (j : Json) → (keysOnce j ≡ true) ↔ ((fs : Fields) → ObjectIn fs j → KeysApart fs)
 keys-once j = (λ e fs m. once-value m e, λ h. value-once j h)
 

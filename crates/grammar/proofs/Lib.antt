@@ -1,6 +1,7 @@
 -- In the order of the argument: general laws; the machine against the grammar, for any dialect; each dialect; the statements to cite.
 pub mod Booleans
 pub mod Lists
+pub mod TextTables
 pub mod Keys
 pub mod TokenRuns
 pub mod Steps
@@ -19,7 +20,8 @@ pub mod StringsComplete
 pub mod Numbers
 pub mod MessageTokens
 pub mod MessageDialect
-pub mod Texts
 pub mod Spans
+pub mod Texts
+pub mod Openings
 pub mod Order
 pub mod Vectors

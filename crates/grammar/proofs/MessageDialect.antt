@@ -11,10 +11,10 @@ use borrow.Author.Tests.{eqb-true, leb-true, lt-leb}
 use Rattle.grammar.specs.Notation.{text, within}
 use Rattle.grammar.specs.Lexis.{blank}
 use Rattle.grammar.specs.MessageText.{hexDigit}
-use Rattle.grammar.specs.Machine.{CharStep.stay, CharStep.char}
-use Rattle.grammar.specs.Machine.Message.{message, Want, CharState, charStep, escapeOf, stops}
-use Rattle.grammar.specs.Machine.Message.Want.{one, two, two-E0, two-ED, three, three-F0, three-F4}
-use Rattle.grammar.specs.Machine.Message.CharState.{escape, hex0, hex1, hex2, hex3, low-backslash, low-u, low0, low1, low2, low3, utf8}
+use Rattle.grammar.specs.Serving.Machine.{CharStep.stay, CharStep.char}
+use Rattle.grammar.specs.Serving.Machine.Message.{message, Want, CharState, charStep, escapeOf, stops}
+use Rattle.grammar.specs.Serving.Machine.Message.Want.{one, two, two-E0, two-ED, three, three-F0, three-F4}
+use Rattle.grammar.specs.Serving.Machine.Message.CharState.{escape, hex0, hex1, hex2, hex3, low-backslash, low-u, low0, low1, low2, low3, utf8}
 use Rattle.grammar.proofs.Booleans.{clash, either}
 use Rattle.grammar.proofs.TokenRuns.{Structural, CharRun, CharRun.char-whole, CharRun.char-on, Solid, CharEnds, TokensSound, TokensComplete, TokensCompletable}
 use Rattle.grammar.proofs.TokenRuns.Structural.{begin-array, begin-object, end-array, end-object, name-separator, value-separator}

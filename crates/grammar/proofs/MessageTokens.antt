@@ -9,14 +9,14 @@ use mathlib.Core.List.{List, [], _∷_, _++_, reverse, reverseAux}
 use mathlib.Core.Option.{Option, some, none}
 use lib.Dec.{eqb}
 use borrow.Author.Tests.{eqb-true, ne-eqb, not-true}
-use Rattle.grammar.specs.Notation.{text, within}
+use Rattle.grammar.specs.Notation.{text, within, digit}
 use Rattle.grammar.specs.Tree.{Scalar, Scalar.null, Scalar.bool, Scalar.num}
-use Rattle.grammar.specs.Lexis.{blank, Spells, Spells.spelled, Spells.letter}
-use Rattle.grammar.specs.MessageText.{digit, letter-e, Unquoted, Unquoted.word-null, Unquoted.word-true, Unquoted.word-false, Unquoted.number}
-use Rattle.grammar.specs.Machine.{TokenStep, TokenStep.on, TokenStep.past, TokenStep.off}
-use Rattle.grammar.specs.Machine.Message.{message, NumberState, numberStep, numberEnd, TokenState, TokenState.word, numberStart, tokenStart, numberOn, tokenStep, numeral}
-use Rattle.grammar.specs.Machine.Message.{stops}
-use Rattle.grammar.specs.Machine.Message.NumberState.{begin, after-minus, after-zero, in-int, after-point, in-frac, after-e, after-sign, in-exp}
+use Rattle.grammar.specs.Lexis.{blank, Spells, Spells.spelled, Spells.then-byte}
+use Rattle.grammar.specs.MessageText.{letter-e, MessageUnquoted, MessageUnquoted.word-null, MessageUnquoted.word-true, MessageUnquoted.word-false, MessageUnquoted.number}
+use Rattle.grammar.specs.Serving.Machine.{TokenStep, TokenStep.on, TokenStep.past, TokenStep.off}
+use Rattle.grammar.specs.Serving.Machine.Message.{message, NumberState, numberStep, numberEnd, TokenState, TokenState.word, numberStart, tokenStart, numberOn, tokenStep, numeral}
+use Rattle.grammar.specs.Serving.Machine.Message.{stops}
+use Rattle.grammar.specs.Serving.Machine.Message.NumberState.{begin, after-minus, after-zero, in-int, after-point, in-frac, after-e, after-sign, in-exp}
 use Rattle.grammar.proofs.Booleans.{by, none-not-some, within-true}
 use Rattle.grammar.proofs.TokenRuns.{TokenRun, TokenRun.token-end, TokenRun.token-past, TokenRun.token-on, TokenStarts, TokenStarts.token-starts, First, Stopped}
 use Rattle.grammar.proofs.TokenRuns.{TokenEnds}
@@ -41,7 +41,7 @@ nothing-more i h e = record { bytes = []; integer = i; spells = spelled; accepts
 
 one-more : {s t : NumberState} {acc : List ℕ} {p q b : ℕ} {l r : List ℕ} {v : Scalar} → numberStep s b ≡ some t → Numeral t (b ∷ acc) (suc p) l q r v
     → Numeral s acc p (b ∷ l) q r v
-one-more {b = b} h z = record { bytes = b ∷ z .bytes; integer = z .integer; spells = letter (z .spells); accepts = steps h (z .accepts); same = z .same }
+one-more {b = b} h z = record { bytes = b ∷ z .bytes; integer = z .integer; spells = then-byte (z .spells); accepts = steps h (z .accepts); same = z .same }
 
 number-end : (s : NumberState) (acc : List ℕ) (p : ℕ) (v : Scalar) → numeral (numberEnd s) acc ≡ some v → Numeral s acc p [] p [] v
 number-end s acc p v = go (numberEnd s) refl
@@ -96,24 +96,24 @@ number-sound : (l : List ℕ) (s : NumberState) (acc : List ℕ) (p q : ℕ) (r 
 number-sound [] s acc p q r v w = number-last w
 number-sound (b ∷ l) s acc p q r v w = number-next (number-sound l) w
 
-pub token-sound : {p q b : ℕ} {l r : List ℕ} {s : TokenState} {v : Scalar} → tokenStart b ≡ some s → TokenRun message (on s) (suc p) l q r v → Unquoted p (b ∷ l) q r v
+pub token-sound : {p q b : ℕ} {l r : List ℕ} {s : TokenState} {v : Scalar} → tokenStart b ≡ some s → TokenRun message (on s) (suc p) l q r v → MessageUnquoted p (b ∷ l) q r v
 unfolding tokenStart
 token-sound {p} {q} {b} {l} {r} {s} {v} = go (numberStep begin b) refl
   where
-    number-of : {t : NumberState} → numberStep begin b ≡ some t → Numeral t (b ∷ []) (suc p) l q r v → Unquoted p (b ∷ l) q r v
-    number-of h z = rw (z .same) (number (accepted-number (steps h (z .accepts))) (letter (z .spells)))
+    number-of : {t : NumberState} → numberStep begin b ≡ some t → Numeral t (b ∷ []) (suc p) l q r v → MessageUnquoted p (b ∷ l) q r v
+    number-of h z = rw (z .same) (number (accepted-number (steps h (z .accepts))) (then-byte (z .spells)))
 
-    is-null : Spelled message word (text "ull") null (suc p) l q r v → Unquoted p (code "n" ∷ l) q r v
-    is-null z = rw (z .same) (word-null (letter (z .bytes)))
+    is-null : Spelled message word (text "ull") null (suc p) l q r v → MessageUnquoted p (code "n" ∷ l) q r v
+    is-null z = rw (z .same) (word-null (then-byte (z .bytes)))
 
-    is-true : Spelled message word (text "rue") (bool true) (suc p) l q r v → Unquoted p (code "t" ∷ l) q r v
-    is-true z = rw (z .same) (word-true (letter (z .bytes)))
+    is-true : Spelled message word (text "rue") (bool true) (suc p) l q r v → MessageUnquoted p (code "t" ∷ l) q r v
+    is-true z = rw (z .same) (word-true (then-byte (z .bytes)))
 
-    is-false : Spelled message word (text "alse") (bool false) (suc p) l q r v → Unquoted p (code "f" ∷ l) q r v
-    is-false z = rw (z .same) (word-false (letter (z .bytes)))
+    is-false : Spelled message word (text "alse") (bool false) (suc p) l q r v → MessageUnquoted p (code "f" ∷ l) q r v
+    is-false z = rw (z .same) (word-false (then-byte (z .bytes)))
 
     P : Option TokenState → Type 0
-    P y = y ≡ some s → TokenRun message (on s) (suc p) l q r v → Unquoted p (b ∷ l) q r v
+    P y = y ≡ some s → TokenRun message (on s) (suc p) l q r v → MessageUnquoted p (b ∷ l) q r v
 
     go : (y : Option NumberState) → numberStep begin b ≡ y → P (numberStart y b)
     go (some t) h = λ e w. number-of h (number-sound l t (b ∷ []) (suc p) q r v (in-state e w))
@@ -166,7 +166,7 @@ step-on {s} {t} {acc} {p} {q} {b} {l} {r} {v} h w = let z : TokenRun message (nu
 number-complete : {s : NumberState} {i : Bool} {bs : List ℕ} → Accepts s i bs → (acc : List ℕ) {p q : ℕ} {l r : List ℕ} → Spells bs p l q r → Stopped message r
     → TokenRun message (on (TokenState.number s acc)) p l q r (num i (reverseAux acc bs))
 number-complete {s} {i} (ends e) acc {p} {r = r} spelled g = number-stops s i acc p r e g
-number-complete (steps {b = b} h a) acc (letter w) g = step-on h (number-complete a (b ∷ acc) w g)
+number-complete (steps {b = b} h a) acc (then-byte w) g = step-on h (number-complete a (b ∷ acc) w g)
 
 -- the first byte of a word or number
 pub first : (b : ℕ) → blank b ≡ false → eqb b (code "]") ≡ false → eqb b (code "}") ≡ false → First message b
@@ -189,17 +189,17 @@ number-first b h g =
 number-starts : {i : Bool} {bs : List ℕ} → Accepts begin i bs → {p q : ℕ} {l r : List ℕ} → Spells bs p l q r → Stopped message r → TokenStarts message p l q r (num i bs)
 unfolding tokenStart
 number-starts (ends e) w g = none-not-some e
-number-starts (steps {t = t} {b = b} h a) (letter w) g =
+number-starts (steps {t = t} {b = b} h a) (then-byte w) g =
     let z = begin-range b t h in
     let e : numberStart (numberStep begin b) b ≡ some (TokenState.number t (b ∷ [])) = rw h refl in
     token-starts (number-first b (z .0) (z .1)) (ne-eqb b (code "\"") (omega arith)) (ne-eqb b (code "[") (omega arith)) (ne-eqb b (code "{") (omega arith)) e
     (number-complete a (b ∷ []) w g)
 
-pub token-complete : {p q : ℕ} {l r : List ℕ} {v : Scalar} → Unquoted p l q r v → Stopped message r → TokenStarts message p l q r v
+pub token-complete : {p q : ℕ} {l r : List ℕ} {v : Scalar} → MessageUnquoted p l q r v → Stopped message r → TokenStarts message p l q r v
 unfolding tokenStart blank
-token-complete (word-null (letter s)) g = token-starts (first (code "n") refl refl refl) refl refl refl refl (word-complete message word words (code "u") (text "ll") s)
-token-complete (word-true (letter s)) g = token-starts (first (code "t") refl refl refl) refl refl refl refl (word-complete message word words (code "r") (text "ue") s)
-token-complete (word-false (letter s)) g = token-starts (first (code "f") refl refl refl) refl refl refl refl (word-complete message word words (code "a") (text "lse") s)
+token-complete (word-null (then-byte s)) g = token-starts (first (code "n") refl refl refl) refl refl refl refl (word-complete message word words (code "u") (text "ll") s)
+token-complete (word-true (then-byte s)) g = token-starts (first (code "t") refl refl refl) refl refl refl refl (word-complete message word words (code "r") (text "ue") s)
+token-complete (word-false (then-byte s)) g = token-starts (first (code "f") refl refl refl) refl refl refl refl (word-complete message word words (code "a") (text "lse") s)
 token-complete (number n s) g = number-starts (number-accepted n) s g
 
 -- a number is completed by a digit, or by nothing

@@ -9,11 +9,11 @@ use mathlib.Core.List.{List, [], _∷_, _++_}
 use mathlib.Core.Option.{Option, some}
 use lib.Dec.{eqb}
 use borrow.Author.Tests.{eqb-true, ne-eqb}
-use Rattle.grammar.specs.Notation.{within, all}
-use Rattle.grammar.specs.MessageText.{digit, letter-e, sign, Digits, Digits.digits, Int, Int.zero, Int.nonzero, Frac, Frac.frac, Exp, Exp.unsigned, Exp.signed, Optional}
+use Rattle.grammar.specs.Notation.{within, all, digit}
+use Rattle.grammar.specs.MessageText.{letter-e, sign, Digits, Digits.digits, Int, Int.zero, Int.nonzero, Frac, Frac.frac, Exp, Exp.unsigned, Exp.signed, Optional}
 use Rattle.grammar.specs.MessageText.{Optional.absent, Optional.present, Number, Number.parts}
-use Rattle.grammar.specs.Machine.Message.{NumberState, numberStep, numberEnd}
-use Rattle.grammar.specs.Machine.Message.NumberState.{begin, after-minus, after-zero, in-int, after-point, in-frac, after-e, after-sign, in-exp}
+use Rattle.grammar.specs.Serving.Machine.Message.{NumberState, numberStep, numberEnd}
+use Rattle.grammar.specs.Serving.Machine.Message.NumberState.{begin, after-minus, after-zero, in-int, after-point, in-frac, after-e, after-sign, in-exp}
 use Rattle.grammar.proofs.Booleans.{by, either, both, none-not-some, within-true}
 
 -- from a state, over all the bytes, to one where a number may end
@@ -48,7 +48,7 @@ frac-e : (b : ℕ) → letter-e b ≡ true → numberStep in-frac b ≡ some aft
 unfolding numberStep
 frac-e b t = simp (e-no-digit b t, t)
 
-e-sign : (b : ℕ) → sign b ≡ true → numberStep after-e b ≡ some after-sign
+pub e-sign : (b : ℕ) → sign b ≡ true → numberStep after-e b ≡ some after-sign
 unfolding numberStep
 e-sign b t = simp t
 

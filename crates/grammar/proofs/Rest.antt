@@ -10,9 +10,9 @@ use Rattle.grammar.specs.Lexis.{Lexis}
 use Rattle.grammar.specs.Grammar.{Comment, Blanks, Blanks.none, Blanks.blank, Blanks.comment, Chars, Value, ArrayBody, ArrayBody.no-elements, ArrayBody.some-elements}
 use Rattle.grammar.specs.Grammar.{MoreElements, MoreElements.end-array, MoreElements.next-element, ObjectBody, ObjectBody.no-members, ObjectBody.some-members, Members}
 use Rattle.grammar.specs.Grammar.{MoreMembers, MoreMembers.end-object, MoreMembers.next-member, Objects, Objects.no-more, Objects.one-more, Elements.element}
-use Rattle.grammar.specs.Machine.{CharStep, CharStep.stay, Dialect, Stack, Stack.bottom, Stack.in-array, Stack.in-object, StringRole, StringRole.as-value}
-use Rattle.grammar.specs.Machine.{StringRole.as-key, reverseItems, reverseFields, depth, Control, TokenStep.on}
-use Rattle.grammar.specs.Machine.Control.{AtObject, AtValue, AtElement, After, AtFirstKey, AtKey, AtColon, InString, InChar, InToken, InComment}
+use Rattle.grammar.specs.Serving.Machine.{CharStep, CharStep.stay, Dialect, Stack, Stack.bottom, Stack.in-array, Stack.in-object, StringRole, StringRole.as-value}
+use Rattle.grammar.specs.Serving.Machine.{StringRole.as-key, reverseItems, reverseFields, depth, Control, TokenStep.on}
+use Rattle.grammar.specs.Serving.Machine.Control.{AtObject, AtValue, AtElement, After, AtFirstKey, AtKey, AtColon, InString, InChar, InToken, InComment}
 use Rattle.grammar.proofs.TokenRuns.{CharRun, TokenRun}
 
 -- an F stands at p, and K holds of what comes after it

@@ -11,10 +11,10 @@ use lib.Dec.{eqb}
 use borrow.Author.Tests.{eqb-true, eqb-false, ne-eqb}
 use Rattle.grammar.specs.Notation.{text, within}
 use Rattle.grammar.specs.Tree.{Scalar, Scalar.bool}
-use Rattle.grammar.specs.Lexis.{blank, Spells.letter}
-use Rattle.grammar.specs.SchemaText.{Char, Char.plain, Char.backslash, Unquoted, Unquoted.word-true, Unquoted.word-false}
-use Rattle.grammar.specs.Machine.{CharStep, CharStep.stay, CharStep.char, CharStep.bad, TokenStep.on}
-use Rattle.grammar.specs.Machine.Schema.{schema, CharState, CharState.escape, charStart, charStep, TokenState, TokenState.word, tokenStart, tokenStep}
+use Rattle.grammar.specs.Lexis.{blank, Spells.then-byte}
+use Rattle.grammar.specs.SchemaText.{SchemaChar, SchemaChar.plain, SchemaChar.backslash, SchemaUnquoted, SchemaUnquoted.word-true, SchemaUnquoted.word-false}
+use Rattle.grammar.specs.Serving.Machine.{CharStep, CharStep.stay, CharStep.char, CharStep.bad, TokenStep.on}
+use Rattle.grammar.specs.Serving.Machine.Schema.{schema, CharState, CharState.escape, charStart, charStep, TokenState, TokenState.word, tokenStart, tokenStep}
 use Rattle.grammar.proofs.Booleans.{by, none-not-some}
 use Rattle.grammar.proofs.TokenRuns.{Structural, CharRun, CharRun.char-whole, CharRun.char-on, TokenRun, CharStarts, CharStarts.char-starts, TokenStarts}
 use Rattle.grammar.proofs.TokenRuns.{TokenStarts.token-starts, Solid, First, CharEnds, TokenEnds, TokensSound, TokensComplete, TokensCompletable}
@@ -24,25 +24,25 @@ use Rattle.grammar.proofs.Words.{in-state, Words, Spelled, word-sound, 
 bad-run : {A : Type 0} {p q c : ℕ} {l r : List ℕ} → CharRun schema bad p l q r c → A
 bad-run = elim [ ]
 
-escape-sound : {p q c : ℕ} {l r : List ℕ} → CharRun schema (stay escape) (suc p) l q r c → Char p (code "\\" ∷ l) q r c
+escape-sound : {p q c : ℕ} {l r : List ℕ} → CharRun schema (stay escape) (suc p) l q r c → SchemaChar p (code "\\" ∷ l) q r c
 unfolding charStep
 escape-sound {p} {q} {c} (char-on {b = b} {l = l} {r = r} w) =
-    by (λ k. CharRun schema k (suc (suc p)) l q r c → Char p (code "\\" ∷ b ∷ l) q r c) (eqb b (code "\\")) (λ t k. rw (eqb-true b (code "\\") t) (fin k)) (λ _ k. bad-run k) w
+    by (λ k. CharRun schema k (suc (suc p)) l q r c → SchemaChar p (code "\\" ∷ b ∷ l) q r c) (eqb b (code "\\")) (λ t k. rw (eqb-true b (code "\\") t) (fin k)) (λ _ k. bad-run k) w
   where
-    fin : {p q c : ℕ} {l r : List ℕ} → CharRun schema (char (code "\\")) (suc (suc p)) l q r c → Char p (code "\\" ∷ code "\\" ∷ l) q r c
+    fin : {p q c : ℕ} {l r : List ℕ} → CharRun schema (char (code "\\")) (suc (suc p)) l q r c → SchemaChar p (code "\\" ∷ code "\\" ∷ l) q r c
     fin char-whole = backslash
 
-char-sound : {p q b c : ℕ} {l r : List ℕ} → eqb b (code "'") ≡ false → CharRun schema (charStart b) (suc p) l q r c → Char p (b ∷ l) q r c
+char-sound : {p q b c : ℕ} {l r : List ℕ} → eqb b (code "'") ≡ false → CharRun schema (charStart b) (suc p) l q r c → SchemaChar p (b ∷ l) q r c
 unfolding charStart
 char-sound {p} {q} {b} {c} {l} {r} nq =
-    let P : CharStep CharState → Type 0 = λ k. CharRun schema k (suc p) l q r c → Char p (b ∷ l) q r c in
+    let P : CharStep CharState → Type 0 = λ k. CharRun schema k (suc p) l q r c → SchemaChar p (b ∷ l) q r c in
     by P (eqb b (code "\\")) (λ t w. rw (eqb-true b (code "\\") t) (escape-sound w))
     (λ nb. by P (within 0x20 0x7E b) (λ t w. fin t (eqb-false b (code "'") nq) (eqb-false b (code "\\") nb) w) (λ _ w. bad-run w))
   where
-    fin : {p q c : ℕ} {l r : List ℕ} → within 0x20 0x7E b ≡ true → b ≢ code "'" → b ≢ code "\\" → CharRun schema (char b) (suc p) l q r c → Char p (b ∷ l) q r c
+    fin : {p q c : ℕ} {l r : List ℕ} → within 0x20 0x7E b ≡ true → b ≢ code "'" → b ≢ code "\\" → CharRun schema (char b) (suc p) l q r c → SchemaChar p (b ∷ l) q r c
     fin h f g char-whole = plain h f g
 
-char-complete : {p q c : ℕ} {l r : List ℕ} → Char p l q r c → CharStarts schema p l q r c
+char-complete : {p q c : ℕ} {l r : List ℕ} → SchemaChar p l q r c → CharStarts schema p l q r c
 unfolding charStart charStep
 char-complete (plain {p = p} {b = b} {r = r} h n m) =
     let e : charStart b ≡ char b = simp (ne-eqb b (code "\\") m, h) in
@@ -54,18 +54,18 @@ pub words : Words schema word
 unfolding tokenStep
 words = record { steps = λ w ws v b. refl; ends = λ w ws v. refl }
 
-token-sound : {p q b : ℕ} {l r : List ℕ} {s : TokenState} {v : Scalar} → tokenStart b ≡ some s → TokenRun schema (on s) (suc p) l q r v → Unquoted p (b ∷ l) q r v
+token-sound : {p q b : ℕ} {l r : List ℕ} {s : TokenState} {v : Scalar} → tokenStart b ≡ some s → TokenRun schema (on s) (suc p) l q r v → SchemaUnquoted p (b ∷ l) q r v
 unfolding tokenStart
 token-sound {p} {q} {b} {l} {r} {s} {v} =
-    let P : Option TokenState → Type 0 = λ y. y ≡ some s → TokenRun schema (on s) (suc p) l q r v → Unquoted p (b ∷ l) q r v in
+    let P : Option TokenState → Type 0 = λ y. y ≡ some s → TokenRun schema (on s) (suc p) l q r v → SchemaUnquoted p (b ∷ l) q r v in
     by P (eqb b (code "t")) (λ t e w. rw (eqb-true b (code "t") t) (is-true (word-sound schema word words (code "r") (text "ue") (in-state e w))))
     (λ _. by P (eqb b (code "f")) (λ t e w. rw (eqb-true b (code "f") t) (is-false (word-sound schema word words (code "a") (text "lse") (in-state e w)))) (λ _ e. none-not-some e))
   where
-    is-true : Spelled schema word (text "rue") (bool true) (suc p) l q r v → Unquoted p (code "t" ∷ l) q r v
-    is-true z = rw (z .same) (word-true (letter (z .bytes)))
+    is-true : Spelled schema word (text "rue") (bool true) (suc p) l q r v → SchemaUnquoted p (code "t" ∷ l) q r v
+    is-true z = rw (z .same) (word-true (then-byte (z .bytes)))
 
-    is-false : Spelled schema word (text "alse") (bool false) (suc p) l q r v → Unquoted p (code "f" ∷ l) q r v
-    is-false z = rw (z .same) (word-false (letter (z .bytes)))
+    is-false : Spelled schema word (text "alse") (bool false) (suc p) l q r v → SchemaUnquoted p (code "f" ∷ l) q r v
+    is-false z = rw (z .same) (word-false (then-byte (z .bytes)))
 
 pub schema-tokens-sound : TokensSound schema
 schema-tokens-sound = record { chars = λ t w. char-sound t w; tokens = λ e w. token-sound e w }
@@ -94,10 +94,10 @@ structural-no-quote end-object = refl
 structural-no-quote name-separator = refl
 structural-no-quote value-separator = refl
 
-token-complete : {p q : ℕ} {l r : List ℕ} {v : Scalar} → Unquoted p l q r v → TokenStarts schema p l q r v
+token-complete : {p q : ℕ} {l r : List ℕ} {v : Scalar} → SchemaUnquoted p l q r v → TokenStarts schema p l q r v
 unfolding tokenStart blank
-token-complete (word-true (letter s)) = token-starts (first (solid refl refl) refl refl) refl refl refl refl (word-complete schema word words (code "r") (text "ue") s)
-token-complete (word-false (letter s)) = token-starts (first (solid refl refl) refl refl) refl refl refl refl (word-complete schema word words (code "a") (text "lse") s)
+token-complete (word-true (then-byte s)) = token-starts (first (solid refl refl) refl refl) refl refl refl refl (word-complete schema word words (code "r") (text "ue") s)
+token-complete (word-false (then-byte s)) = token-starts (first (solid refl refl) refl refl) refl refl refl refl (word-complete schema word words (code "a") (text "lse") s)
 
 pub schema-tokens-complete : TokensComplete schema
 unfolding blank

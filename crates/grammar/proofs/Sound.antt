@@ -14,11 +14,11 @@ use Rattle.grammar.specs.Grammar.{Blanks, Blanks.none, Blanks.blank, Bla
 use Rattle.grammar.specs.Grammar.{Value.object, Members, Members.member, Objects, Objects.no-more, Objects.one-more, Text, Text.objects, Text.one-value, Comment.text-end}
 use Rattle.grammar.specs.Grammar.{Comment.line-end, Comment.free, ArrayBody.no-elements, ArrayBody.some-elements, Elements.element, MoreElements.end-array}
 use Rattle.grammar.specs.Grammar.{ObjectBody.no-members, ObjectBody.some-members, MoreMembers.end-object}
-use Rattle.grammar.specs.Machine.{CharStep, CharStep.stay, CharStep.bad, TokenStep, TokenStep.on, TokenStep.last, TokenStep.past, TokenStep.off, Dialect, Stack}
-use Rattle.grammar.specs.Machine.{Stack.bottom, Stack.in-array, Stack.in-object, StringRole, StringRole.as-value, StringRole.as-key, Next, Next.to, Next.stuck, Next.over}
-use Rattle.grammar.specs.Machine.{Control, reverseItems, reverseFields, depth, opens, beginToken, beginValue, beginKey, skip, follow, afterValue, endString, inChar}
-use Rattle.grammar.specs.Machine.{inToken, step, endValue, endObjects, endToken, finish, scan, read, Out.whole, Out.fault}
-use Rattle.grammar.specs.Machine.Control.{AtObject, AtValue, AtElement, After, AtFirstKey, AtKey, AtColon, InString, InChar, InToken, InComment}
+use Rattle.grammar.specs.Serving.Machine.{CharStep, CharStep.stay, CharStep.bad, TokenStep, TokenStep.on, TokenStep.last, TokenStep.past, TokenStep.off, Dialect, Stack}
+use Rattle.grammar.specs.Serving.Machine.{Stack.bottom, Stack.in-array, Stack.in-object, StringRole, StringRole.as-value, StringRole.as-key, Next, Next.to, Next.stuck, Next.over}
+use Rattle.grammar.specs.Serving.Machine.{Control, reverseItems, reverseFields, depth, opens, beginToken, beginValue, beginKey, skip, follow, afterValue, endString, inChar}
+use Rattle.grammar.specs.Serving.Machine.{inToken, step, endValue, endObjects, endToken, finish, scan, read, Out.whole, Out.fault}
+use Rattle.grammar.specs.Serving.Machine.Control.{AtObject, AtValue, AtElement, After, AtFirstKey, AtKey, AtColon, InString, InChar, InToken, InComment}
 use Rattle.grammar.proofs.Booleans.{clash, by}
 use Rattle.grammar.proofs.TokenRuns.{TokenRun, TokenRun.token-last, TokenRun.token-end, TokenRun.token-past, TokenRun.token-on, TokensSound, CharRun.char-whole}
 use Rattle.grammar.proofs.TokenRuns.{CharRun.char-on}

@@ -10,7 +10,8 @@ use lib.Seq.{take-length}
 use lib.Dec.{ltb}
 use borrow.Author.Tests.{ltb-true, ltb-false}
 use Rattle.grammar.specs.Lexis.{Lexis}
-use Rattle.grammar.specs.Starts.{Valid, Viable, Longest, TooDeep, Broken}
+use Rattle.grammar.specs.Starts.{Valid, Viable, Longest, TooDeep}
+use Rattle.grammar.specs.Serving.Faults.{Broken}
 
 append-nil : (l : List ℕ) → l ++ [] ≡ l
 append-nil [] = refl
@@ -21,11 +22,11 @@ module _ (G : Lexis) {lim : ℕ} {l : List ℕ} where
   longest-unique {e} {f} a b = go (ltb e f) refl (ltb f e) refl
     where
       go : (x : Bool) → ltb e f ≡ x → (y : Bool) → ltb f e ≡ y → e ≡ f
-      go true u y v = absurd (a .longest f (ltb-true e f u) (b .within) (b .viable))
-      go false u true v = absurd (b .longest e (ltb-true f e v) (a .within) (a .viable))
+      go true u y v = absurd (a .longest f (ltb-true e f u) (b .inside) (b .viable))
+      go false u true v = absurd (b .longest e (ltb-true f e v) (a .inside) (a .viable))
       go false u false v = omega (arith, ltb-false e f u, ltb-false f e v)
 
-  whole-viable : Valid G lim l → Viable G lim (take (length l) l)
+  pub whole-viable : Valid G lim l → Viable G lim (take (length l) l)
   whole-viable v = ([], rw (take-length l, append-nil l) v)
 
   pub valid-not-deep : {e : ℕ} → TooDeep G lim l e → Valid G lim l → ⊥

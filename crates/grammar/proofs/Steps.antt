@@ -7,9 +7,9 @@ use mathlib.Core.List.{List, [], _∷_, _++_}
 use mathlib.Core.Option.{Option, some}
 use lib.ListN.{length}
 use Rattle.grammar.specs.Tree.{Scalar, Json, Json.leaf, Items}
-use Rattle.grammar.specs.Machine.{Dialect, Stack, Stack.bottom, Stack.in-array, Stack.in-object, Out, Out.whole, Out.fault, Out.deep, Next, Next.to, Next.stuck, Next.over}
-use Rattle.grammar.specs.Machine.{step, endValue, endObjects, endToken, finish, scan, Control}
-use Rattle.grammar.specs.Machine.Control.{AtObject, AtValue, AtElement, After, AtFirstKey, AtKey, AtColon, InString, InChar, InToken, InComment}
+use Rattle.grammar.specs.Serving.Machine.{Dialect, Stack, Stack.bottom, Stack.in-array, Stack.in-object, Out, Out.whole, Out.fault, Out.deep, Next, Next.to, Next.stuck, Next.over}
+use Rattle.grammar.specs.Serving.Machine.{step, endValue, endObjects, endToken, finish, scan, Control}
+use Rattle.grammar.specs.Serving.Machine.Control.{AtObject, AtValue, AtElement, After, AtFirstKey, AtKey, AtColon, InString, InChar, InToken, InComment}
 
 -- the answer stops at a place
 abbrev pub Stops : Out → ℕ → Type 0

@@ -12,7 +12,7 @@ use borrow.Author.Tests.{eqb-true}
 use Rattle.grammar.specs.Notation.{within}
 use Rattle.grammar.specs.MessageText.{unescaped, hexDigit, Escape}
 use Rattle.grammar.specs.MessageText.Escape.{quotation-mark, reverse-solidus, solidus, backspace, form-feed, line-feed, carriage-return, tab}
-use Rattle.grammar.specs.Machine.Message.{escapeOf}
+use Rattle.grammar.specs.Serving.Machine.Message.{escapeOf}
 use Rattle.grammar.proofs.Booleans.{by, either, some-is, none-not-some, within-true, within-is, within-false, Outside, Outside.below, Outside.above}
 
 pub record Unescaped (c : ℕ) : Type 0 where

@@ -11,11 +11,11 @@ use mathlib.Core.Option.{some}
 use lib.Dec.{eqb}
 use borrow.Author.Tests.{le-leb, eqb-true, eqb-false, ne-eqb}
 use Rattle.grammar.specs.Notation.{within}
-use Rattle.grammar.specs.MessageText.{join, Utf8, Utf8.one, Utf8.two, Utf8.three, Utf8.four, Escape, hexDigit, Hex4, Hex4.hex4, Char, Char.plain, Char.escape, Char.hex}
-use Rattle.grammar.specs.MessageText.{Char.hex-pair}
-use Rattle.grammar.specs.Machine.{CharStep, CharStep.stay, CharStep.char}
-use Rattle.grammar.specs.Machine.Message.{message, Want, Want.two-E0, Want.two-ED, Want.three-F0, Want.three-F4, lowest, highest, wanted, CharState, charStart, charStep}
-use Rattle.grammar.specs.Machine.Message.CharState.{hex0, hex1, hex2, hex3, low-backslash, low-u, low0, low1, low2, low3, utf8}
+use Rattle.grammar.specs.MessageText.{join, Utf8, Utf8.one, Utf8.two, Utf8.three, Utf8.four, Escape, hexDigit, Hex4, Hex4.hex4, MessageChar, MessageChar.plain, MessageChar.escape, MessageChar.hex}
+use Rattle.grammar.specs.MessageText.{MessageChar.hex-pair}
+use Rattle.grammar.specs.Serving.Machine.{CharStep, CharStep.stay, CharStep.char}
+use Rattle.grammar.specs.Serving.Machine.Message.{message, Want, Want.two-E0, Want.two-ED, Want.three-F0, Want.three-F4, lowest, highest, wanted, CharState, charStart, charStep}
+use Rattle.grammar.specs.Serving.Machine.Message.CharState.{hex0, hex1, hex2, hex3, low-backslash, low-u, low0, low1, low2, low3, utf8}
 use Rattle.grammar.proofs.Booleans.{within-true, within-is, within-below, within-above, within-false, Outside, Outside.below, Outside.above}
 use Rattle.grammar.proofs.TokenRuns.{CharRun, CharRun.char-whole, CharRun.char-on, CharStarts, CharStarts.char-starts}
 use Rattle.grammar.proofs.Strings.{Unescaped, unescaped-true, escape-is, escape-no-u, hex-low}
@@ -256,7 +256,7 @@ plain-run (two {a = a} {b = b} t u e v) n = rw e (two-run a b (in-range t) (in-r
 plain-run (three {a = a} {b = b} {c = c} t u w e v s) n = rw e (three-run a b c (in-range t) (in-range u) (in-range w) (in-range (rw e at v)) (within-false _ _ _ (rw e at s)))
 plain-run (four {a = a} {b = b} {c = c} {d = d} t u w x e v) n = rw e (four-run a b c d (in-range t) (in-range u) (in-range w) (in-range x) (in-range (rw e at v)))
 
-pub char-complete : {p q c : ℕ} {l r : List ℕ} → Char p l q r c → CharStarts message p l q r c
+pub char-complete : {p q c : ℕ} {l r : List ℕ} → MessageChar p l q r c → CharStarts message p l q r c
 char-complete (plain {c = c} w u) = plain-run w (unescaped-true c u)
 char-complete (escape e) = first refl step-backslash (turn (step-escape e) char-whole)
 char-complete (hex w t) = first refl step-backslash (hex-run w t)

@@ -11,16 +11,16 @@ use Rattle.grammar.specs.Tree.{Json, Items, Items.no-items, Items.item}
 use Rattle.grammar.specs.Grammar.{Text, Text.objects, Text.one-value}
 use Rattle.grammar.specs.SchemaText.{SchemaText, schema-lexis}
 use Rattle.grammar.specs.MessageText.{MessageText, message-lexis}
-use Rattle.grammar.specs.Starts.{TooDeep, Broken}
-use Rattle.grammar.specs.Machine.{Out, Out.whole, Out.fault, Out.deep, read}
-use Rattle.grammar.specs.Machine.Schema.{schema, readSchema}
-use Rattle.grammar.specs.Machine.Message.{message, readMessage}
+use Rattle.grammar.specs.Starts.{Opening, TooDeep}
+use Rattle.grammar.specs.Serving.Faults.{Broken}
+use Rattle.grammar.specs.Serving.Machine.{Out, Out.whole, Out.fault, Out.deep, read}
+use Rattle.grammar.specs.Serving.Machine.Schema.{schema, readSchema}
+use Rattle.grammar.specs.Serving.Machine.Message.{message, readMessage}
 use Rattle.grammar.proofs.Booleans.{clash}
 use Rattle.grammar.proofs.Sound.{sound}
 use Rattle.grammar.proofs.Complete.{complete, unique}
 use Rattle.grammar.proofs.Starts.{valid-not-deep, broken-not-deep}
-use Rattle.grammar.proofs.Levels.{Bracket}
-use Rattle.grammar.proofs.Answers.{fault-broken, deep-too-deep, broken-fault, too-deep-deep, too-deep-bracket, one-of-three}
+use Rattle.grammar.proofs.Answers.{fault-broken, deep-too-deep, broken-fault, too-deep-deep, too-deep-opening, one-of-three}
 use Rattle.grammar.proofs.SchemaDialect.{schema-tokens-sound, schema-tokens-complete, schema-tokens-completable}
 use Rattle.grammar.proofs.MessageDialect.{message-tokens-sound, message-tokens-complete, message-tokens-completable}
 
@@ -51,8 +51,8 @@ module _ {l : List ℕ} where
   pub schema-too-deep : {e : ℕ} → TooDeep schema-lexis schema-levels l e → readSchema l ≡ deep e
   schema-too-deep {e} t = schema-read l ∙ too-deep-deep schema schema-tokens-sound schema-tokens-complete schema-tokens-completable schema-levels l e t
 
-  pub schema-bracket : {e : ℕ} → TooDeep schema-lexis schema-levels l e → Bracket (getD l e 0)
-  schema-bracket {e} t = too-deep-bracket schema schema-tokens-sound schema-tokens-complete schema-tokens-completable schema-levels l e t
+  pub schema-bracket : {e : ℕ} → TooDeep schema-lexis schema-levels l e → Opening (getD l e 0)
+  schema-bracket {e} t = too-deep-opening schema schema-tokens-sound schema-tokens-complete schema-tokens-completable schema-levels l e t
 
   -- the three shut one another out (that a Broken text is not valid is a field of Broken)
   pub schema-valid-or-deep : {js : Items} {e : ℕ} → SchemaText l js → TooDeep schema-lexis schema-levels l e → ⊥
@@ -61,7 +61,7 @@ module _ {l : List ℕ} where
   pub schema-broken-or-deep : {e f : ℕ} → Broken schema-lexis schema-levels l e → TooDeep schema-lexis schema-levels l f → ⊥
   schema-broken-or-deep b d = broken-not-deep schema-lexis b d
 
--- the same as equivalences
+-- what the reader of schemas answers, and what it says of the text: each exactly when the other
 pub schema-text : (l : List ℕ) (js : Items) → (readSchema l ≡ whole js) ↔ SchemaText l js
 schema-text l js = (λ h. schema-sound h, λ t. schema-complete t)
 
@@ -75,7 +75,7 @@ schema-deeper l e = (λ h. schema-deep h, λ t. schema-too-deep t)
 pub schema-answer : (l : List ℕ) → ((js : Items) × SchemaText l js) ⊎ (((e : ℕ) × Broken schema-lexis schema-levels l e) ⊎ ((e : ℕ) × TooDeep schema-lexis schema-levels l e))
 schema-answer l = one-of-three schema schema-tokens-sound schema-tokens-complete schema-tokens-completable schema-levels l
 
--- 01, Schema answers 2: not schema text
+-- Reference, Schema answers 2: not schema text
 pub schema-refused : (l : List ℕ) → ((js : Items) → SchemaText l js → ⊥) ↔ (((e : ℕ) × (readSchema l ≡ fault e)) ⊎ ((e : ℕ) × (readSchema l ≡ deep e)))
 schema-refused l = (λ n. go n (readSchema l) refl, λ r js t. shut (schema-complete t) r)
   where
@@ -89,7 +89,7 @@ schema-refused l = (λ n. go n (readSchema l) refl, λ r js t. shut (schema-comp
     shut h (inr z) = let k = z .1 in let n : _≡_ {A = ℕ} 0 1 = cc in omega arith
 
 -- Messages
-message-read : (l : List ℕ) → readMessage l ≡ read message message-levels l
+pub message-read : (l : List ℕ) → readMessage l ≡ read message message-levels l
 unfolding readMessage
 message-read l = refl
 
@@ -123,8 +123,8 @@ module _ {l : List ℕ} where
   pub message-too-deep : {e : ℕ} → TooDeep message-lexis message-levels l e → readMessage l ≡ deep e
   message-too-deep {e} t = message-read l ∙ too-deep-deep message message-tokens-sound message-tokens-complete message-tokens-completable message-levels l e t
 
-  pub message-bracket : {e : ℕ} → TooDeep message-lexis message-levels l e → Bracket (getD l e 0)
-  message-bracket {e} t = too-deep-bracket message message-tokens-sound message-tokens-complete message-tokens-completable message-levels l e t
+  pub message-bracket : {e : ℕ} → TooDeep message-lexis message-levels l e → Opening (getD l e 0)
+  message-bracket {e} t = too-deep-opening message message-tokens-sound message-tokens-complete message-tokens-completable message-levels l e t
 
   -- the three shut one another out (that a Broken text is not valid is a field of Broken)
   pub message-valid-or-deep : {j : Json} {e : ℕ} → MessageText l j → TooDeep message-lexis message-levels l e → ⊥
@@ -133,7 +133,7 @@ module _ {l : List ℕ} where
   pub message-broken-or-deep : {e f : ℕ} → Broken message-lexis message-levels l e → TooDeep message-lexis message-levels l f → ⊥
   message-broken-or-deep b d = broken-not-deep message-lexis b d
 
--- the same as equivalences
+-- what the reader of messages answers, and what it says of the text: each exactly when the other
 pub message-text : (l : List ℕ) (j : Json) → (readMessage l ≡ whole (item j no-items)) ↔ MessageText l j
 message-text l j = (λ h. message-sound h, λ t. message-complete t)
 
@@ -153,7 +153,7 @@ message-answer l = go (readMessage l) refl
     go (fault e) h = inr (inl (e, message-fault h))
     go (deep e) h = inr (inr (e, message-deep h))
 
--- 01, Message answers 23: not message text, unless 24
+-- Reference, Message answers 23: not message text, unless 24
 pub message-refused : (l : List ℕ) → (((j : Json) → MessageText l j → ⊥) × ((e : ℕ) → TooDeep message-lexis message-levels l e → ⊥)) ↔ ((e : ℕ) × (readMessage l ≡ fault e))
 message-refused l = (λ n. go n (readMessage l) refl, λ z. (λ j t. message-fault (z .1) .invalid (item j no-items, t), λ e d. message-broken-or-deep (message-fault (z .1)) d))
   where

@@ -8,7 +8,7 @@ use mathlib.Core.List.{List, [], _∷_, _++_}
 use mathlib.Core.Option.{some}
 use lib.Dec.{eqb}
 use Rattle.grammar.specs.Tree.{Scalar}
-use Rattle.grammar.specs.Machine.{CharStep, CharStep.stay, CharStep.char, TokenStep, TokenStep.on, TokenStep.last, TokenStep.past, Dialect}
+use Rattle.grammar.specs.Serving.Machine.{CharStep, CharStep.stay, CharStep.char, TokenStep, TokenStep.on, TokenStep.last, TokenStep.past, Dialect}
 
 -- RFC 8259, 2: the structural characters
 pub data Structural : ℕ → Type 0 where

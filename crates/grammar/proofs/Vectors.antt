@@ -9,9 +9,9 @@ use lib.ListN.{replicate}
 use Rattle.grammar.specs.Notation.{text}
 use Rattle.grammar.specs.Tree.{Scalar.null, Scalar.bool, Scalar.num, Scalar.str}
 use Rattle.grammar.specs.Tree.{Json, Json.leaf, Json.arr, Json.obj, Items.no-items, Items.item, Fields.no-fields, Fields.field}
-use Rattle.grammar.specs.Machine.{Out, Out.whole, Out.fault, Out.deep}
-use Rattle.grammar.specs.Machine.Schema.{readSchema}
-use Rattle.grammar.specs.Machine.Message.{readMessage}
+use Rattle.grammar.specs.Serving.Machine.{Out, Out.whole, Out.fault, Out.deep}
+use Rattle.grammar.specs.Serving.Machine.Schema.{readSchema}
+use Rattle.grammar.specs.Serving.Machine.Message.{readMessage}
 
 infix 70 _gives_
 -- a row of a table: bytes, and the answer to them
@@ -158,7 +158,7 @@ schema-levels : Answers readSchema (
 unfolding readSchema
 schema-levels = refl
 
--- 01, Lots: the schema and the message of P1
+-- Reference, Cases: the schema and the message of P1
 p1-schema : Answers readSchema (
     text "{'command':'stop-lot','data':{'lot':'str'}}"
     gives whole (item (obj 0 43 (field 1 10 (text "command") (leaf 11 21 (str (text "stop-lot")))

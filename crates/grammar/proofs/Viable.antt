@@ -9,9 +9,9 @@ use lib.ListN.{length, take, drop, take-append-drop}
 use lib.Seq.{length-take-le}
 use Rattle.grammar.specs.Tree.{Json, Json.leaf, Json.arr, Json.obj, Items, Items.no-items, Items.item, Fields, Fields.no-fields, Fields.field, Scalar.str}
 use Rattle.grammar.specs.Starts.{Viable, Longest}
-use Rattle.grammar.specs.Machine.{Dialect, Stack, Stack.bottom, Stack.in-array, Stack.in-object, StringRole, StringRole.as-value, StringRole.as-key, Out, Out.whole, Next}
-use Rattle.grammar.specs.Machine.{Next.to, Next.stuck, Next.over, Control, reverseItems, reverseFields, step, scan, start, read}
-use Rattle.grammar.specs.Machine.Control.{AtObject, AtValue, AtElement, After, AtFirstKey, AtKey, AtColon, InString, InChar, InToken, InComment}
+use Rattle.grammar.specs.Serving.Machine.{Dialect, Stack, Stack.bottom, Stack.in-array, Stack.in-object, StringRole, StringRole.as-value, StringRole.as-key, Out, Out.whole, Next}
+use Rattle.grammar.specs.Serving.Machine.{Next.to, Next.stuck, Next.over, Control, reverseItems, reverseFields, step, scan, start, read}
+use Rattle.grammar.specs.Serving.Machine.Control.{AtObject, AtValue, AtElement, After, AtFirstKey, AtKey, AtColon, InString, InChar, InToken, InComment}
 use Rattle.grammar.proofs.TokenRuns.{First, Stopped, TokensSound, TokensComplete, TokensCompletable, Structural.end-array, Structural.end-object}
 use Rattle.grammar.proofs.TokenRuns.{Structural.name-separator}
 use Rattle.grammar.proofs.Steps.{Stops, goes-on, scan-cons, range, stop-stays}
@@ -123,7 +123,7 @@ module _ (D : Dialect) (L : TokensComplete D) (H : TokensCompletable D) where
     longest S l e s =
         let i : e ≤ length l = omega (arith, range D lim l (start D) (bottom no-items) 0 e s) in
         let z = live (take e l) (drop e l) (start D) (bottom no-items) 0 e (omega (arith, length-take-le e l i)) (rw (take-append-drop e l) s) in
-        record { within = i; viable = (z .0, (z .1 .items, sound D S lim (z .1 .items) (take e l ++ z .0) (z .1 .path))); longest = λ n h g v. never n h g v }
+        record { inside = i; viable = (z .0, (z .1 .items, sound D S lim (z .1 .items) (take e l ++ z .0) (z .1 .path))); longest = λ n h g v. never n h g v }
       where
         never : (n : ℕ) → e < n → n ≤ length l → Viable (D .lexis) lim (take n l) → ⊥
         never n h g v =

@@ -9,8 +9,8 @@ use mathlib.Core.Option.{some, none}
 use lib.Dec.{eqb}
 use borrow.Author.Tests.{eqb-true, eq-eqb}
 use Rattle.grammar.specs.Tree.{Scalar}
-use Rattle.grammar.specs.Lexis.{Spells, Spells.spelled, Spells.letter}
-use Rattle.grammar.specs.Machine.{TokenStep, TokenStep.on, TokenStep.last, TokenStep.past, TokenStep.off, spell, Dialect}
+use Rattle.grammar.specs.Lexis.{Spells, Spells.spelled, Spells.then-byte}
+use Rattle.grammar.specs.Serving.Machine.{TokenStep, TokenStep.on, TokenStep.last, TokenStep.past, TokenStep.off, spell, Dialect}
 use Rattle.grammar.proofs.Booleans.{by, none-not-some}
 use Rattle.grammar.proofs.TokenRuns.{TokenRun, TokenRun.token-last, TokenRun.token-end, TokenRun.token-past, TokenRun.token-on, TokenEnds}
 
@@ -21,7 +21,7 @@ in-state {s = s} {t = t} e w = let f : t ≡ s = cc in rw f w
 -- bytes spell themselves
 pub spells : (ws r : List ℕ) (p : ℕ) → (q : ℕ) × Spells ws p (ws ++ r) q r
 spells [] r p = (p, spelled)
-spells (w ∷ ws) r p = let z = spells ws r (suc p) in (z .0, letter (z .1))
+spells (w ∷ ws) r p = let z = spells ws r (suc p) in (z .0, then-byte (z .1))
 
 module _ (D : Dialect) (word : ℕ → List ℕ → Scalar → D .TokenState) where
   -- what the machine does inside a word
@@ -53,7 +53,7 @@ module _ (D : Dialect) (word : ℕ → List ℕ → Scalar → D .TokenState) wh
     one-letter {v} w ws f (token-past {b = b} {v = u} e) = never-past w b ws v u (sym (W .steps w ws v b) ∙ e)
     one-letter {v} w ws f (token-on {p = p} {q = q} {b = b} {l = l} {r = r} {v = u} k) =
         by (λ y. TokenRun D y (suc p) l q r u → Spelled (w ∷ ws) v p (b ∷ l) q r u) (eqb b w)
-        (λ t k. rw (eqb-true b w t) (let z = f (suc p) q l r u k in record { bytes = letter (z .bytes); same = z .same })) (λ _ k. off-run k) (rw (W .steps w ws v b) at k)
+        (λ t k. rw (eqb-true b w t) (let z = f (suc p) q l r u k in record { bytes = then-byte (z .bytes); same = z .same })) (λ _ k. off-run k) (rw (W .steps w ws v b) at k)
 
     pub word-sound : {v : Scalar} (w : ℕ) (ws : List ℕ) {p q : ℕ} {l r : List ℕ} {u : Scalar} → TokenRun D (on (word w ws v)) p l q r u → Spelled (w ∷ ws) v p l q r u
     word-sound {v} w [] k = one-letter w [] (λ p q l r u m. fin m) k
@@ -66,8 +66,8 @@ module _ (D : Dialect) (word : ℕ → List ℕ → Scalar → D .TokenState) wh
     next-letter {v} {u} {p} {q} {l} {r} w ws k = let z : TokenRun D (D .tokenStep (word w ws v) w) (suc p) l q r u = rw (W .steps w ws v w, eq-eqb w w refl) k in token-on z
 
     pub word-complete : {v : Scalar} (w : ℕ) (ws : List ℕ) {p q : ℕ} {l r : List ℕ} → Spells (w ∷ ws) p l q r → TokenRun D (on (word w ws v)) p l q r v
-    word-complete w [] (letter spelled) = next-letter w [] token-last
-    word-complete w (x ∷ xs) (letter s) = next-letter w (x ∷ xs) (word-complete x xs s)
+    word-complete w [] (then-byte spelled) = next-letter w [] token-last
+    word-complete w (x ∷ xs) (then-byte s) = next-letter w (x ∷ xs) (word-complete x xs s)
 
     pub word-ends : (w : ℕ) (ws : List ℕ) (v : Scalar) (p : ℕ) (r : List ℕ) → TokenEnds D (word w ws v) p (w ∷ (ws ++ r)) r
     word-ends w ws v p r = let z = spells (w ∷ ws) r p in record { place = z .0; scalar = v; run = word-complete w ws (z .1) }

@@ -1,4 +1,4 @@
--- The structure that schema text and message text share, production by production (01, Schema text; RFC 8259, 2 to 5).
+-- The structure that schema text and message text share, production by production (Reference, Structure; RFC 8259, 2 to 5).
 -- The first number of `Value n ..` and of the like is the most levels of brackets inside it.
 use Prim.Native.{Nat.ℕ, Nat.suc, Char.code}
 use mathlib.Core.{Path._≡_, Bool.true, Bool.false, List.List, List.[], List._∷_}
@@ -6,14 +6,14 @@ use lib.Dec.{eqb}
 use Rattle.grammar.specs.Tree.{Scalar, Scalar.str, Json, Json.leaf, Json.arr, Json.obj, Items, Items.no-items, Items.item, Fields, Fields.no-fields, Fields.field}
 use Rattle.grammar.specs.Lexis.{Lexis}
 
--- 01, Schema text: a comment after its first byte, to past its LF or to the end; its other bytes are free
+-- Reference, Text of schemas: a comment after its first byte, to past its LF or to the end; its other bytes are free
 pub data Comment : ℕ → List ℕ → ℕ → List ℕ → Type 0 where
   text-end : {p : ℕ} → Comment p [] p []
   line-end : {p : ℕ} {r : List ℕ} → Comment p (code "\n" ∷ r) (suc p) r
   free : {p q b : ℕ} {l r : List ℕ} → eqb b (code "\n") ≡ false → Comment (suc p) l q r → Comment p (b ∷ l) q r
 
 module _ (G : Lexis) where
-  -- 01, Schema text, and RFC 8259, 2: what may stand between tokens is blanks and comments, or nothing
+  -- Reference, Structure and Text of schemas, and RFC 8259, 2: what may stand between tokens is blanks and comments, or nothing
   pub data Blanks : ℕ → List ℕ → ℕ → List ℕ → Type 0 where
     none : {p : ℕ} {l : List ℕ} → Blanks p l p l
     blank : {p q b : ℕ} {l r : List ℕ} → G .blank b ≡ true → Blanks (suc p) l q r → Blanks p (b ∷ l) q r
@@ -51,23 +51,26 @@ module _ (G : Lexis) where
       no-members : {n p o : ℕ} {l r : List ℕ} → Blanks p l o (code "}" ∷ r) → ObjectBody n p l (suc o) r no-fields
       some-members : {n p o q : ℕ} {l m r : List ℕ} {fs : Fields} → Blanks p l o m → Members n o m q r fs → ObjectBody n p l q r fs
 
-    -- a member, which is a key, a colon and a value, and those after it; the tree has the key's start and end
+    -- A member, which is a key, a colon and a value, and those after it; the tree has the key's start and end. Its places, and what is left of the text at each:
+    --     start       key-end    colon         value        value-end    end
+    --     "in-key     after-key  :after-colon  at-value     more         rest
     pub data Members : ℕ → ℕ → List ℕ → ℕ → List ℕ → Fields → Type 0 where
-      member : {n p e a c d q b : ℕ} {l m o t u r cs : List ℕ} {j : Json} {fs : Fields}
-          → G .quote b ≡ true → Chars (suc p) l e m cs → Blanks e m a (code ":" ∷ o) → Blanks (suc a) o c t → Value n c t d u j → MoreMembers n d u q r fs
-          → Members n p (b ∷ l) q r (field p e cs j fs)
+      member : {n start key-end colon value value-end end quote : ℕ} {in-key after-key after-colon at-value more rest cs : List ℕ} {j : Json} {fs : Fields}
+          → G .quote quote ≡ true → Chars (suc start) in-key key-end after-key cs → Blanks key-end after-key colon (code ":" ∷ after-colon)
+          → Blanks (suc colon) after-colon value at-value → Value n value at-value value-end more j → MoreMembers n value-end more end rest fs
+          → Members n start (quote ∷ in-key) end rest (field start key-end cs j fs)
 
     -- after a member: the closing brace, or a comma and another member
     pub data MoreMembers : ℕ → ℕ → List ℕ → ℕ → List ℕ → Fields → Type 0 where
       end-object : {n p o : ℕ} {l r : List ℕ} → Blanks p l o (code "}" ∷ r) → MoreMembers n p l (suc o) r no-fields
       next-member : {n p o a q : ℕ} {l m t r : List ℕ} {fs : Fields} → Blanks p l o (code "," ∷ m) → Blanks (suc o) m a t → Members n a t q r fs → MoreMembers n p l q r fs
 
-  -- 01, Schema text: objects that follow each other without commas, to the end of the text
+  -- Reference, Text of schemas: objects that follow each other without commas, to the end of the text
   pub data Objects : ℕ → ℕ → List ℕ → Items → Type 0 where
     no-more : {n p q : ℕ} {l : List ℕ} → Blanks p l q [] → Objects n p l no-items
     one-more : {n p o q : ℕ} {l m r : List ℕ} {j : Json} {js : Items} → Blanks p l o (code "{" ∷ m) → Value n o (code "{" ∷ m) q r j → Objects n q r js → Objects n p l (item j js)
 
-  -- a whole text and the trees of its outermost values: any number of objects (01, Schema text), or one value (RFC 8259, 2)
+  -- a whole text and the trees of its outermost values: any number of objects (Reference, Text of schemas), or one value (RFC 8259, 2)
   pub data Text : ℕ → List ℕ → Items → Type 0 where
     objects : {n : ℕ} {l : List ℕ} {js : Items} → G .several ≡ true → Objects n 0 l js → Text n l js
     one-value : {n o q e : ℕ} {l m r : List ℕ} {j : Json} → G .several ≡ false → Blanks 0 l o m → Value n o m q r j → Blanks q r e [] → Text n l (item j no-items)

@@ -1,4 +1,4 @@
--- 01, Message text: the exact value of an integer token, as a sign and the number that its digits mean.
+-- Reference, Integers: the exact value of an integer token, as a sign and the number that its digits mean.
 use Prim.Native.Nat.{ℕ, _+_, _-_, _*_}
 use Prim.Native.Char.{code}
 use mathlib.Core.Bool.{Bool, false, cond}

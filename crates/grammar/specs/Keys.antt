@@ -1,4 +1,4 @@
--- 01, Schema answers 3 and Message answers 25: no key twice in one object, anywhere in the text. Keys are compared by meaning.
+-- Reference, Repeated keys: no key twice in one object, anywhere in the text. Keys are compared by meaning.
 use Prim.Native.Nat.{ℕ}
 use mathlib.Core.Bool.{Bool, true, _&&_}
 use mathlib.Core.List.{List, [], _∷_}

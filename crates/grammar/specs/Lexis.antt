@@ -5,14 +5,14 @@ use mathlib.Core.{Bool.Bool, Bool._||_, List.List, List.[], List._∷_}
 use lib.Dec.{eqb}
 use Rattle.grammar.specs.Tree.{Scalar}
 
--- 01, Schema text, and RFC 8259, 2 (ws): space, tab, LF, CR
+-- Reference, Structure, and RFC 8259, 2 (ws): space, tab, LF, CR
 unfoldable pub blank : ℕ → Bool
 blank b = eqb b (code " ") || eqb b (code "\t") || eqb b (code "\n") || eqb b (code "\r")
 
 -- the bytes w, one after the other
 pub data Spells : List ℕ → ℕ → List ℕ → ℕ → List ℕ → Type 0 where
   spelled : {p : ℕ} {r : List ℕ} → Spells [] p r p r
-  letter : {p q b : ℕ} {w l r : List ℕ} → Spells w (suc p) l q r → Spells (b ∷ w) p (b ∷ l) q r
+  then-byte : {p q b : ℕ} {w l r : List ℕ} → Spells w (suc p) l q r → Spells (b ∷ w) p (b ∷ l) q r
 
 -- what a dialect says of its own
 pub record Lexis : Type 1 where

@@ -1,4 +1,4 @@
--- What a reader must believe, in the paper's order. Machine serves proofs only.
+-- What a reader must believe of texts, in the order of the reference. Serving has what only contracts and proofs cite.
 pub mod Limits
 pub mod Notation
 pub mod Tree
@@ -6,7 +6,7 @@ pub mod Lexis
 pub mod Grammar
 pub mod SchemaText
 pub mod MessageText
-pub mod Starts
 pub mod Integers
 pub mod Keys
-pub mod Machine
+pub mod Starts
+pub mod Serving

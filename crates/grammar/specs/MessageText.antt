@@ -1,8 +1,8 @@
--- Message text (01, Message text): RFC 8259 in UTF-8 (RFC 3629), with escaped surrogates only in pairs.
+-- Reference, Text of messages: RFC 8259 in UTF-8 (RFC 3629), with escaped surrogates only in pairs.
 use Prim.Native.{Nat.ℕ, Nat.suc, Nat._+_, Nat._*_, Nat._-_, Char.code}
 use mathlib.Core.{Path._≡_, Bool.Bool, Bool.true, Bool.false, Bool.not, Bool.cond, Bool._||_, List.List, List.[], List._∷_, List._++_, Option.Option, Option.some, Option.none}
 use lib.Dec.{eqb}
-use Rattle.grammar.specs.{Limits.message-levels, Notation.text, Notation.within, Notation.all, Tree.Scalar, Tree.Scalar.null, Tree.Scalar.bool, Tree.Scalar.num, Tree.Json}
+use Rattle.grammar.specs.{Limits.message-levels, Notation.text, Notation.within, Notation.digit, Notation.all, Tree.Scalar, Tree.Scalar.null, Tree.Scalar.bool, Tree.Scalar.num, Tree.Json}
 use Rattle.grammar.specs.{Tree.Items.no-items, Tree.Items.item, Lexis.Lexis, Lexis.Spells, Lexis.blank, Grammar.Text}
 
 -- RFC 3629, 3: a byte 10xxxxxx, and a number with the six bits of such a byte put behind it
@@ -48,19 +48,16 @@ pub data Hex4 : ℕ → List ℕ → ℕ → List ℕ → ℕ → Type 0 where
   hex4 : {p a b c d x y z w : ℕ} {r : List ℕ} → hexDigit a ≡ some x → hexDigit b ≡ some y → hexDigit c ≡ some z → hexDigit d ≡ some w
       → Hex4 p (a ∷ b ∷ c ∷ d ∷ r) (suc (suc (suc (suc p)))) r (((x * 16 + y) * 16 + z) * 16 + w)
 
--- RFC 8259, 7 (char), and 01, Message text: an escaped surrogate stands in a pair, a high one (0xD800 to 0xDBFF) and then a low one (0xDC00 to 0xDFFF)
-pub data Char : ℕ → List ℕ → ℕ → List ℕ → ℕ → Type 0 where
-  plain : {p q c : ℕ} {l r : List ℕ} → Utf8 p l q r c → unescaped c ≡ true → Char p l q r c
-  escape : {p b c : ℕ} {r : List ℕ} → Escape b c → Char p (code "\\" ∷ b ∷ r) (suc (suc p)) r c
-  hex : {p q v : ℕ} {l r : List ℕ} → Hex4 (suc (suc p)) l q r v → within 0xD800 0xDFFF v ≡ false → Char p (code "\\" ∷ code "u" ∷ l) q r v
+-- RFC 8259, 7 (char), and Reference, Text of messages: an escaped surrogate stands in a pair, a high one (0xD800 to 0xDBFF) and then a low one (0xDC00 to 0xDFFF)
+pub data MessageChar : ℕ → List ℕ → ℕ → List ℕ → ℕ → Type 0 where
+  plain : {p q c : ℕ} {l r : List ℕ} → Utf8 p l q r c → unescaped c ≡ true → MessageChar p l q r c
+  escape : {p b c : ℕ} {r : List ℕ} → Escape b c → MessageChar p (code "\\" ∷ b ∷ r) (suc (suc p)) r c
+  hex : {p q v : ℕ} {l r : List ℕ} → Hex4 (suc (suc p)) l q r v → within 0xD800 0xDFFF v ≡ false → MessageChar p (code "\\" ∷ code "u" ∷ l) q r v
   hex-pair : {p o q h w : ℕ} {l m r : List ℕ}
       → Hex4 (suc (suc p)) l o (code "\\" ∷ code "u" ∷ m) h → within 0xD800 0xDBFF h ≡ true → Hex4 (suc (suc o)) m q r w → within 0xDC00 0xDFFF w ≡ true
-      → Char p (code "\\" ∷ code "u" ∷ l) q r (0x10000 + (h - 0xD800) * 0x400 + (w - 0xDC00))
+      → MessageChar p (code "\\" ∷ code "u" ∷ l) q r (0x10000 + (h - 0xD800) * 0x400 + (w - 0xDC00))
 
--- RFC 8259, 6: the bytes of DIGIT, e, and minus or plus
-abbrev pub digit : ℕ → Bool
-digit b = within (code "0") (code "9") b
-
+-- RFC 8259, 6: the bytes of e, and of minus or plus
 abbrev pub letter-e : ℕ → Bool
 letter-e b = eqb b (code "e") || eqb b (code "E")
 
@@ -90,21 +87,21 @@ pub data Optional (F : List ℕ → Type 0) : Bool → List ℕ → Type 0 where
   absent : Optional F false []
   present : {bs : List ℕ} → F bs → Optional F true bs
 
--- RFC 8259, 6: number = [ minus ] int [ frac ] [ exp ]. 01, Message text: it is an integer if it has neither fraction nor exponent
+-- RFC 8259, 6: number = [ minus ] int [ frac ] [ exp ]. Reference, Text of messages: it is an integer if it has neither fraction nor exponent
 pub data Number : Bool → List ℕ → Type 0 where
   parts : {a b c : Bool} {m n f e : List ℕ} → Optional (λ m. m ≡ text "-") a m → Int n → Optional Frac b f → Optional Exp c e → Number (not (b || c)) (m ++ (n ++ (f ++ e)))
 
 -- RFC 8259, 3: null, true, false, or a number, which is kept as its bytes
-pub data Unquoted : ℕ → List ℕ → ℕ → List ℕ → Scalar → Type 0 where
-  word-null : {p q : ℕ} {l r : List ℕ} → Spells (text "null") p l q r → Unquoted p l q r null
-  word-true : {p q : ℕ} {l r : List ℕ} → Spells (text "true") p l q r → Unquoted p l q r (bool true)
-  word-false : {p q : ℕ} {l r : List ℕ} → Spells (text "false") p l q r → Unquoted p l q r (bool false)
-  number : {p q : ℕ} {l r bs : List ℕ} {i : Bool} → Number i bs → Spells bs p l q r → Unquoted p l q r (num i bs)
+pub data MessageUnquoted : ℕ → List ℕ → ℕ → List ℕ → Scalar → Type 0 where
+  word-null : {p q : ℕ} {l r : List ℕ} → Spells (text "null") p l q r → MessageUnquoted p l q r null
+  word-true : {p q : ℕ} {l r : List ℕ} → Spells (text "true") p l q r → MessageUnquoted p l q r (bool true)
+  word-false : {p q : ℕ} {l r : List ℕ} → Spells (text "false") p l q r → MessageUnquoted p l q r (bool false)
+  number : {p q : ℕ} {l r bs : List ℕ} {i : Bool} → Number i bs → Spells bs p l q r → MessageUnquoted p l q r (num i bs)
 
--- 01, Message text: double quotes, no comments, one value. Nothing here allows a byte order mark outside a string
+-- Reference, Text of messages: double quotes, no comments, one value. Nothing here allows a byte order mark outside a string
 abbrev pub message-lexis : Lexis
-message-lexis = record { blank = λ b. blank b; comment = λ b. false; quote = λ b. eqb b (code "\""); several = false; Char = Char; Unquoted = Unquoted }
+message-lexis = record { blank = λ b. blank b; comment = λ b. false; quote = λ b. eqb b (code "\""); several = false; Char = MessageChar; Unquoted = MessageUnquoted }
 
--- 01, Message answers 23: the bytes are message text, and this is its tree
+-- Reference, Text of messages: the bytes are message text, and this is its tree
 abbrev pub MessageText : List ℕ → Json → Type 0
 MessageText l j = Text message-lexis message-levels l (item j no-items)

@@ -1,11 +1,13 @@
--- Notation that the definitions share: quoted text, tests on numbers and on lists of bytes. No rule of the paper stands here.
-use Prim.Native.Nat.{ℕ}
+-- Notation that the definitions share: quoted text, tests on numbers and on lists of bytes, words in items of a width. No rule of the reference stands here.
+use Prim.Native.Nat.{ℕ, _+_, _*_}
 use Prim.Native.String.{String}
 use Prim.Native.String as Quoted
 use Prim.Native.Char.{code}
-use mathlib.Core.Bool.{Bool, true, false, not, _&&_}
+use mathlib.Core.Bool.{Bool, true, false, not, cond, _&&_}
 use mathlib.Core.List.{List, [], _∷_}
 use lib.Dec.{leb, eqb}
+use lib.ListN.{length, getD}
+use lib.Seq.{sets}
 
 -- the bytes of a quoted text (all of them ASCII here)
 abbrev pub text : String → List ℕ
@@ -15,6 +17,10 @@ text (Quoted._∷_ c s) = code c ∷ text s
 -- a number from `low` to `high`
 abbrev pub within : ℕ → ℕ → ℕ → Bool
 within low high b = leb low b && leb b high
+
+-- a digit, 0 to 9
+abbrev pub digit : ℕ → Bool
+digit b = within (code "0") (code "9") b
 
 -- two lists of bytes or code points are equal
 abbrev pub same : List ℕ → List ℕ → Bool
@@ -32,3 +38,11 @@ all f (x ∷ xs) = f x && all f xs
 abbrev pub apart : {A : Type 0} → (A → A → Bool) → List A → Bool
 apart f [] = true
 apart f (x ∷ xs) = all (λ y. not (f x y)) xs && apart f xs
+
+-- word i of item k, in items of `width` words, both counted from 0; 0 past the end
+abbrev pub wordOf : ℕ → List ℕ → ℕ → ℕ → ℕ
+wordOf width w k i = getD w (width * k + i) 0
+
+-- the words after item k is written, if all of it fits
+unfoldable pub putItem : ℕ → List ℕ → ℕ → List ℕ → List ℕ
+putItem width w k xs = cond (leb (width * k + width) (length w)) (sets w (width * k) xs) w

@@ -3,7 +3,7 @@ use Prim.Native.Nat.{ℕ}
 use mathlib.Core.Bool.{Bool}
 use mathlib.Core.List.{List}
 
--- A value without brackets. 01, Message text: a number is its token and whether that is an integer, a string means a list of code points.
+-- A value without brackets. Reference, Trees: a number is its token and whether that is an integer, a string means a list of code points.
 pub data Scalar : Type 0 where
   null : Scalar
   bool : Bool → Scalar
@@ -36,7 +36,7 @@ endOf (leaf a e v) = e
 endOf (arr a e js) = e
 endOf (obj a e fs) = e
 
--- 01, Schema text: the six JSON kinds
+-- Reference, Trees: the six JSON kinds
 pub data Kind : Type 0 where
   object array string number boolean null-kind : Kind
 

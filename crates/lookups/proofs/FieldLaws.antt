@@ -9,7 +9,7 @@ use mathlib.Core.Option.{Option, some}
 use Rattle.grammar.specs.Notation.{same}
 use Rattle.grammar.specs.Tree.{Json, Fields}
 use Rattle.grammar.specs.Tree.Fields.{no-fields, field}
-use Rattle.grammar.specs.Machine.{Dialect}
+use Rattle.grammar.specs.Serving.Machine.{Dialect}
 use Rattle.rules.specs.Values.{valueAt}
 use Rattle.text.specs.Nodes.{next, Holds, HoldsFields}
 use Rattle.text.specs.Keys.{KeyAt}

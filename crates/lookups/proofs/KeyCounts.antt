@@ -14,7 +14,7 @@ use Rattle.grammar.specs.Notation.{same, all, apart}
 use Rattle.grammar.specs.Tree.{Json, Fields}
 use Rattle.grammar.specs.Tree.Fields.{no-fields, field}
 use Rattle.grammar.specs.Keys.{keysOf}
-use Rattle.grammar.specs.Machine.{Dialect}
+use Rattle.grammar.specs.Serving.Machine.{Dialect}
 use Rattle.grammar.proofs.Booleans.{both}
 use Rattle.strings.specs.declared.dialects.Dialect as Dialects
 use Rattle.strings.specs.Strings.{grammarOf}

@@ -8,7 +8,7 @@ use Rattle.grammar.specs.Tree.{Scalar, Json, kindOf}
 use Rattle.grammar.specs.Tree.Scalar.{null, bool, num, str}
 use Rattle.grammar.specs.Tree.Json.{leaf, arr, obj}
 use Rattle.grammar.specs.Tree.Kind.{string}
-use Rattle.grammar.specs.Machine.{Dialect}
+use Rattle.grammar.specs.Serving.Machine.{Dialect}
 use Rattle.rules.specs.Types.{sameKind}
 use Rattle.strings.specs.Strings.{plainString, Means}
 use Rattle.strings.specs.Meanings.{MeansName}

@@ -11,7 +11,7 @@ use Rattle.grammar.specs.Tree.{Json, Fields}
 use Rattle.grammar.specs.Tree.Scalar.{str}
 use Rattle.grammar.specs.Tree.Json.{leaf}
 use Rattle.grammar.specs.Keys.{keysOf}
-use Rattle.grammar.specs.Machine.{Dialect}
+use Rattle.grammar.specs.Serving.Machine.{Dialect}
 use Rattle.strings.specs.declared.dialects.Dialect as Dialects
 use Rattle.strings.specs.Strings.{grammarOf}
 use Rattle.rules.specs.Values.{valueAt, anyOf}

@@ -11,27 +11,18 @@ use Rattle.grammar.specs.Notation.{same, all, apart}
 use Rattle.grammar.specs.Tree.{Fields}
 use Rattle.grammar.specs.Tree.Fields.{no-fields, field}
 use Rattle.grammar.specs.Keys.{keysOf}
-use Rattle.grammar.proofs.Booleans.{both}
 use Rattle.rules.specs.Values.{anyOf}
 use Rattle.rules.specs.Rows.{optional, nameOf}
 use Rattle.rules.specs.Rules.{namesOf}
 use Rattle.rules.specs.SchemaTable.{memberIn}
-use Rattle.rules.specs.ReadingOf.{mandatoryThere}
-use Rattle.rules.proofs.Lists.{same-true, same-refl, all-true, of-not, anyOf-true}
-use Rattle.rules.proofs.First.{decided}
+use Rattle.rules.specs.Serving.ReadingOf.{mandatoryThere}
+use Rattle.rules.proofs.Lists.{same-true}
+use Rattle.lookups.proofs.KeyCounts.{first-apart, differs}
 use Rattle.rows.proofs.ListLaws.{same-sym}
 use Rattle.children.specs.Counts.{mandatoryIn}
 use Rattle.children.proofs.CountLaws.{count-more}
 use Rattle.members.specs.Mandatory.{metBy, met}
 use Rattle.members.proofs.MemberLaws.{one-of}
-
--- of names apart the first differs from the rest, and the rest are apart
-first-apart : (x : List ℕ) (l : List (List ℕ)) → apart same (x ∷ l) ≡ true → (all (λ y. not (same x y)) l ≡ true) × (apart same l ≡ true)
-first-apart x l = both (all (λ y. not (same x y)) l) (apart same l)
-
--- what differs from all of a list is none of it
-differs : (l : List (List ℕ)) (k : List ℕ) → all (λ y. not (same k y)) l ≡ true → anyOf l k ≡ false
-differs l k h = decided (anyOf l k) (λ t. of-not (same k k) (all-true (λ y. not (same k y)) l h k (anyOf-true l k t)) (same-refl k))
 
 module _ (S T : List ℕ) where
   -- a key that differs from every name means no member

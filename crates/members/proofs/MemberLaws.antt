@@ -14,9 +14,9 @@ use Rattle.rules.specs.Values.{anyOf}
 use Rattle.rules.specs.Rows.{base, branchStruct, children, members, after, nameOf}
 use Rattle.rules.specs.Rules.{namesOf}
 use Rattle.rules.specs.SchemaTable.{memberIn}
-use Rattle.rules.specs.ReadingOf.{branchLink}
+use Rattle.rules.specs.Serving.ReadingOf.{branchLink}
 use Rattle.rules.proofs.Lists.{none-not-some}
-use Rattle.children.specs.Index.{Given}
+use Rattle.children.specs.Index.{IndexedTable}
 use Rattle.children.specs.Children.{MeaningAt, ChildMeant}
 use Rattle.members.specs.Members.{MemberMeant, FieldMember}
 
@@ -116,7 +116,7 @@ module _ {S T m w ix : List ℕ} {left link k : ℕ} where
     meant-out z = record { told = λ cs o u ms e. absurd (members-out T left link h z e) }
 
     module _ (n : left ≡ 0 → ⊥) {r b x : ℕ} (q : r ≡ link - 1) (p : b ≡ base T r) (g : MemberMeant S T m w ix (left - 1) b k x) where
-      inherits : (cs : List ℕ) → Given S T ix → MeaningAt m w k cs → (ms : List ℕ) → (s : Split T left link ms) → x ≡ memberIn S T cs (s .inherited)
+      inherits : (cs : List ℕ) → IndexedTable S T ix → MeaningAt m w k cs → (ms : List ℕ) → (s : Split T left link ms) → x ≡ memberIn S T cs (s .inherited)
       inherits cs o u ms s = g .told cs o u (s .inherited) (ap (members T (left - 1)) (p ∙ ap (base T) q) ∙ s .inherited-is)
 
       pub meant-inherited : (x ≡ 0 → ⊥) → MemberMeant S T m w ix left link k x

@@ -7,20 +7,20 @@ use mathlib.Core.List.{List, [], _++_, append-nil}
 use mathlib.Core.Option.{Option, none, some}
 use native.Mathlib.Omega.{arith}
 use borrow.Author.Tests.{lt-ltb, le-ltb, ne-eqb}
-use Rattle.grammar.specs.Limits.{first-row, chain-structs}
+use Rattle.grammar.specs.Limits.{chain-structs}
 use Rattle.grammar.specs.Notation.{same, apart}
 use Rattle.grammar.specs.Tree.{Json, Fields, kindOf}
 use Rattle.grammar.specs.Tree.Scalar.{null, bool, num, str}
 use Rattle.grammar.specs.Tree.Json.{leaf, arr, obj}
 use Rattle.grammar.specs.Tree.Kind.{string}
-use Rattle.grammar.specs.Machine.Message.{message}
+use Rattle.grammar.specs.Serving.Machine.Message.{message}
 use Rattle.rules.specs.Kinds.{struct-kind, union-kind}
-use Rattle.rules.specs.Types.{sameKind}
+use Rattle.rules.specs.Types.{first-row, sameKind}
 use Rattle.rules.specs.Values.{asString, valueAt}
 use Rattle.rules.specs.Rows.{kind, unionBase, discriminator, branchStruct, children, members, nameOf}
 use Rattle.rules.specs.Rules.{namesOf}
 use Rattle.rules.specs.SchemaTable.{memberIn}
-use Rattle.rules.specs.ReadingOf.{append, branchLink, chosen, membersAt}
+use Rattle.rules.specs.Serving.ReadingOf.{append, branchLink, chosen, membersAt}
 use Rattle.rules.proofs.Lists.{clash}
 use Rattle.rules.proofs.Lookups.{member-found}
 use Rattle.rules.proofs.SoundFacts.{sound-facts}
@@ -29,7 +29,7 @@ use Rattle.text.specs.Nodes.{Holds, nodeKind}
 use Rattle.lookups.specs.Lookups.{stringKind, ValueFound, FindsValue}
 use Rattle.lookups.proofs.NodeLaws.{string-node}
 use Rattle.members.specs.Members.{FieldsAt, BranchTold, BranchOf, StructsTold, StructsAt}
-use Rattle.children.specs.Index.{Given}
+use Rattle.children.specs.Index.{IndexedTable}
 use Rattle.children.specs.Children.{ChildMeant}
 use Rattle.children.specs.Children.MeaningAt.{a-string}
 use Rattle.members.specs.declared.objects.Structs.{Structs}
@@ -95,7 +95,7 @@ module _ (S T m w ix : List ℕ) (r : ℕ) {k v x link : ℕ} {name : List ℕ} 
         abbrev Apart : List ℕ → Type 0
         Apart added = (ms : List ℕ) → members T chain-structs (unionBase T r) ≡ some ms → apart same (namesOf S T (ms ++ added)) ≡ true
 
-        found : (y : ℕ) → Given S T ix → ((cs : List ℕ) → c ≡ memberIn S T cs (children T r) → (has : Has T y) × Apart (has .rows) × (branchLink S T cs (children T r) ≡ y))
+        found : (y : ℕ) → IndexedTable S T ix → ((cs : List ℕ) → c ≡ memberIn S T cs (children T r) → (has : Has T y) × Apart (has .rows) × (branchLink S T cs (children T r) ≡ y))
             → (fs : Fields) → FieldsAt m w k fs → BranchTold S T r fs (Links b y)
         found y g z fs u =
             let f = chooses (λ x. (has : Has T y) × Apart (has .rows) × (x ≡ some (has .rows))) fs u
@@ -143,12 +143,12 @@ module _ (S T m w : List ℕ) {ix : List ℕ} {k t : ℕ} where
     };
   }
 
-  pub structs-below : (t ≡ 0 → ⊥) → t < 16 → StructsAt S T m w ix k t NoObject
+  pub structs-below : (t ≡ 0 → ⊥) → t < first-row → StructsAt S T m w ix k t NoObject
   unfolding membersAt
   structs-below n h = record { told = λ fs o u. rw (ne-eqb t 0 n, lt-ltb t first-row h) }
 
-  module _ (h : 16 ≤ t) {r y : ℕ} (p : r ≡ t - 16) (q : y ≡ kind T r) where
-    pub structs-struct : y ≡ struct-kind → {l : ℕ} → l ≡ t - 16 + 1 → StructsAt S T m w ix k t (Links l 0)
+  module _ (h : first-row ≤ t) {r y : ℕ} (p : r ≡ t - first-row) (q : y ≡ kind T r) where
+    pub structs-struct : y ≡ struct-kind → {l : ℕ} → l ≡ t - first-row + 1 → StructsAt S T m w ix k t (Links l 0)
     structs-struct e {l} z = record {
       told = λ fs o u.
           let n : l ≡ suc r = omega arith in
@@ -166,10 +166,10 @@ module _ (S T m w : List ℕ) {ix : List ℕ} {k t : ℕ} where
     pub structs-union : y ≡ union-kind → {x : Structs} → BranchOf S T m w ix r k x → StructsAt S T m w ix k t x
     structs-union e {x} g = record { told = λ fs o u. go x fs o (g .told fs o (sym q ∙ e) u) }
       where
-        base-has : Given S T ix → Has T (unionBase T r)
+        base-has : IndexedTable S T ix → Has T (unionBase T r)
         base-has o = link-has S T (o .sound-table) (unionBase T r) (sound-facts S T (o .sound-table) .union-link r (sym q ∙ e))
 
-        go : (x : Structs) (fs : Fields) → Given S T ix → BranchTold S T r fs x → StructsTold S T t fs x
+        go : (x : Structs) (fs : Fields) → IndexedTable S T ix → BranchTold S T r fs x → StructsTold S T t fs x
         go (Links b c) fs o d =
             let has = base-has o in
             record {

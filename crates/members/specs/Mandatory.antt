@@ -8,7 +8,7 @@ use Rattle.grammar.specs.Tree.{Fields}
 use Rattle.grammar.specs.Tree.Fields.{no-fields, field}
 use Rattle.rules.specs.Rows.{members}
 use Rattle.rules.specs.SchemaTable.{memberIn}
-use Rattle.children.specs.Index.{Given}
+use Rattle.children.specs.Index.{IndexedTable}
 use Rattle.children.specs.Counts.{mandatoryIn}
 
 -- 1 if the link is to a mandatory member, else 0
@@ -24,9 +24,9 @@ met S T ms (field a e key j fs) = metBy T (memberIn S T key ms) + met S T ms fs
 -- how many mandatory members the struct with a link has
 pub record MandatoryCount (T ix : List ℕ) (left link x : ℕ) : Type 0 where
   pub small : x ≤ left * 2 ^ 32
-  pub told : (S : List ℕ) → Given S T ix → (ms : List ℕ) → members T left link ≡ some ms → x ≡ mandatoryIn T ms
+  pub told : (S : List ℕ) → IndexedTable S T ix → (ms : List ℕ) → members T left link ≡ some ms → x ≡ mandatoryIn T ms
 
 -- and two structs
 pub record MandatoryMembers (T ix : List ℕ) (base branch x : ℕ) : Type 0 where
-  pub told : (S : List ℕ) → Given S T ix → (ms bs : List ℕ) → members T chain-structs base ≡ some ms → members T chain-structs branch ≡ some bs
+  pub told : (S : List ℕ) → IndexedTable S T ix → (ms bs : List ℕ) → members T chain-structs base ≡ some ms → members T chain-structs branch ≡ some bs
       → x ≡ mandatoryIn T (ms ++ bs)

@@ -1,20 +1,18 @@
 // The structs whose members an object has at a type.
+use builtins::FIRST_REFERENCE;
 use children::lists::child_meant;
 use lookups::values::is_string;
 use lookups::values::value_at;
 use rows::names::name_of;
 use rows::rows::wide;
 use rows::rows::word;
-use rules::FIRST_ROW;
 use rules::kind;
 use rules::row;
 use strings::dialects::Dialect;
 ghost use mathlib.Core.Path.{_≡_};
-ghost use Prim.Native.Nat.{_-_, _<_, _^_};
+ghost use Prim.Native.Nat.{_-_};
+ghost use Rattle.rows.specs.Rows.{Near};
 ghost use Rattle.members.specs.Members.{StructsAt, BranchOf};
-
-// A type reference, a word of a row, from here on is to a row.
-pub const FIRST_REFERENCE: u32 = FIRST_ROW as u32;
 
 // The type reference of a command without data.
 const NO_TYPE: u32 = 0;
@@ -45,7 +43,7 @@ fn branch_of(
     r: usize,
     k: usize,
 ) -> Structs
-    requires { ⌜ r < 2 ^ 39 ⌝ }
+    requires { ⌜ Near r ⌝ }
     ensures { λ x. ⌜ BranchOf (now (schema .entry)) (now (rows .entry)) (now (m .entry)) (now (nodes .entry)) (now (index .entry)) r k x ⌝ }
 {
     let discriminator = row_of(word(rows, r, row::DISCRIMINATOR));

@@ -6,25 +6,26 @@ use mathlib.Core.Bool.{true, false}
 use mathlib.Core.List.{List, [], _∷_, _++_, append-nil, append-assoc}
 use mathlib.Core.Option.{some}
 use lib.ListN.{length, take, drop, replicate, length-append}
-use lib.Seq.{take-at, length-take-le, sets-eq, length-sets}
+use lib.Seq.{take-at, length-take-le, sets-eq}
 use borrow.Author.Tests.{le-leb, lt-ltb, le-ltb}
 use Rattle.grammar.specs.Limits.{record-words}
+use Rattle.grammar.specs.Notation.{putItem}
 use Rattle.rules.specs.declared.MessageRefusal.{MessageRefusal}
 use Rattle.rules.specs.declared.MessageRefusal.the-variants as M
 use Rattle.rules.specs.declared.MessageAnswer.{MessageAnswer}
 use Rattle.rules.specs.declared.MessageAnswer.the-variants.{Accepted, Refused}
 use Rattle.rules.specs.MessageAnswers.{answerRecords}
 use Rattle.rules.specs.Readings.{Typed, recordOf, recordsOf}
-use Rattle.rules.specs.Answers.{MessageResult, refusedBy, acceptedWith, readingResult}
+use Rattle.rules.specs.Serving.Answers.{MessageResult, refusedBy, acceptedWith, readingResult}
 use Rattle.rules.proofs.Room.{records-length}
 use Rattle.readings.specs.Records.{putRecord, putAll}
-use Rattle.readings.proofs.RecordLaws.{all-length}
+use Rattle.readings.proofs.RecordLaws.{put-length, all-length}
 use Rattle.message.specs.Stages.{Uncleared}
 
 -- record n is written behind the first n
 put-front : (w : List ℕ) (n : ℕ) (t : Typed) → record-words * n + record-words ≤ length w
     → take (record-words * suc n) (putRecord w n (recordOf t)) ≡ take (record-words * n) w ++ recordOf t
-unfolding putRecord
+unfolding putItem
 put-front w n t h =
     let e : length (take (record-words * n) w ++ recordOf t) ≡ record-words * suc n = go in
     rw (le-leb (record-words * n + record-words) (length w) h)
@@ -34,16 +35,12 @@ put-front w n t h =
     go : length (take (record-words * n) w ++ recordOf t) ≡ record-words * suc n
     go = let a = length-take-le (record-words * n) w (omega arith) in let b = length-append (take (record-words * n) w) (recordOf t) in omega arith
 
-put-length : (w : List ℕ) (n : ℕ) (t : Typed) → record-words * n + record-words ≤ length w → length (putRecord w n (recordOf t)) ≡ length w
-unfolding putRecord
-put-length w n t h = rw (le-leb (record-words * n + record-words) (length w) h) (length-sets w (record-words * n) (recordOf t))
-
 all-front : (w : List ℕ) (n k : ℕ) (ts : List Typed) → k ≡ record-words * (n + length ts) → k ≤ length w → take k (putAll w n ts) ≡ take (record-words * n) w ++ recordsOf ts
 unfolding putAll
 all-front w n k [] p h = let e : k ≡ record-words * n = omega arith in ap (λ (i : ℕ). take i w) e ∙ sym (append-nil (take (record-words * n) w))
 all-front w n k (t ∷ ts) p h =
     let f : record-words * n + record-words ≤ length w = omega arith in
-    all-front (putRecord w n (recordOf t)) (suc n) k ts (omega arith) (omega (arith, put-length w n t f))
+    all-front (putRecord w n (recordOf t)) (suc n) k ts (omega arith) (omega (arith, put-length w (recordOf t) n))
     ∙ ap (λ (l : List ℕ). l ++ recordsOf ts) (put-front w n t f) ∙ append-assoc (take (record-words * n) w) (recordOf t) (recordsOf ts)
 
 -- refused

@@ -6,23 +6,24 @@ use mathlib.Core.Bool.{Bool, true, false, cond}
 use mathlib.Core.List.{List, [], _∷_}
 use mathlib.Core.Option.{Option, none, some}
 use lib.Dec.{eqb}
-use Rattle.grammar.specs.Limits.{first-row, table-rows}
+use Rattle.grammar.specs.Limits.{table-rows}
 use Rattle.grammar.specs.Notation.{text, same, all, apart}
 use Rattle.grammar.specs.Tree.{Json, Fields}
 use Rattle.grammar.specs.Tree.Scalar.{str}
 use Rattle.grammar.specs.Tree.Json.{leaf, arr, obj}
 use Rattle.grammar.specs.Tree.Fields.{no-fields, field}
 use Rattle.grammar.specs.Keys.{keysOf, keysOnce, keysOnceF}
-use Rattle.grammar.specs.Machine.Message.{message}
+use Rattle.grammar.specs.Serving.Machine.Message.{message}
+use Rattle.rules.specs.Types.{first-row}
 use Rattle.rules.specs.declared.MessageRefusal.the-variants as M
 use Rattle.rules.specs.Kinds.{command-kind, struct-kind}
-use Rattle.rules.specs.Rows.{rowCount, kind, arguments, allowOob, linkRef}
+use Rattle.rules.specs.Rows.{rowCount, kind, dataStruct, allowOob, linkRef}
 use Rattle.rules.specs.Sound.{sound}
 use Rattle.rules.specs.Values.{_>>=_, asFields, asString, valueAt, anyOf}
-use Rattle.rules.specs.Envelope.{Envelope, asArguments, asName, envelope, mayUse, argumentsOf}
+use Rattle.rules.specs.Envelope.{Envelope, asArguments, asCall, envelope, mayUse, argumentsOf}
 use Rattle.rules.specs.Envelope as Spec
-use Rattle.rules.specs.Answers as Answers
-use Rattle.rules.specs.Answers.{commandOf, commandAsking, envelopeAsking, asking}
+use Rattle.rules.specs.Serving.Answers as Answers
+use Rattle.rules.specs.Serving.Answers.{commandOf, commandAsking, envelopeAsking, asking}
 use Rattle.rules.proofs.Lists.{none-not-some, and-left, and-right}
 use Rattle.rules.proofs.SchemaOutcome.{bind-some}
 use Rattle.rules.proofs.SoundFacts.{sound-facts}
@@ -44,10 +45,10 @@ pub out-of-band-use : (T : List ℕ) (c : ℕ) {w : ℕ} {oob : Bool} → oob �
 out-of-band-use T c e p = rw (e, p) refl
 
 -- the link of a command's data is small in a sound table
-small-link : (S T : List ℕ) (c : ℕ) → sound S T ≡ true → kind T c ≡ command-kind → arguments T c ≤ table-rows
-small-link S T c ok k = go (arguments T c) refl
+small-link : (S T : List ℕ) (c : ℕ) → sound S T ≡ true → kind T c ≡ command-kind → dataStruct T c ≤ table-rows
+small-link S T c ok k = go (dataStruct T c) refl
   where
-    go : (l : ℕ) → arguments T c ≡ l → l ≤ table-rows
+    go : (l : ℕ) → dataStruct T c ≡ l → l ≤ table-rows
     go zero e = omega arith
     go (suc r) e =
         let q : kind T r ≡ struct-kind = sound-facts S T ok .command-link c k r e in
@@ -118,7 +119,7 @@ module _ {S T m w : List ℕ} {v : E.Envelope} (f : ReadsEnvelope m w v) where
             go : (j : Json) (l : ℕ) → Said j l → AskingTold m w l (asking S T j) (Refuses M.NotOutOfBand)
             go j l s = rw (s .proper, found s, sym (used s) ∙ t) refl
 
-        pub allowed : b ≡ true → {x : Asked} {t k : ℕ} → k ≡ arguments T c → (k + first-row < 2 ^ 32 → t ≡ linkRef k) → x .node ≡ args → x .how .reference ≡ t → x .how .array ≡ 0
+        pub allowed : b ≡ true → {x : Asked} {t k : ℕ} → k ≡ dataStruct T c → (k + first-row < 2 ^ 32 → t ≡ linkRef k) → x .node ≡ args → x .how .reference ≡ t → x .how .array ≡ 0
             → x .how .passes ≡ false → x .second ≡ c → AsksFor S T m w (Asks x)
         allowed y {x} {t} {k} a r n i o z d = record { told = λ ok j l h o. go ok j (l - 1) (said j l h o) }
           where
@@ -162,14 +163,14 @@ arguments-once j {v} h e = go j h e
         let z : a .0 ≡ v .arguments = ap (λ (x : Option Envelope). elim x [ none ↦ a .0 | some y ↦ y .arguments ]) (a .2) in
         subst (λ (x : Json). keysOnce x ≡ true) z (proper fs (valueAt (text "arguments") fs) h refl (a .1))
 
-    named : (fs : Fields) (x y : Option Json) → keysOnceF fs ≡ true → asName x y (valueAt (text "arguments") fs) ≡ some v → keysOnce (v .arguments) ≡ true
+    named : (fs : Fields) (x y : Option Json) → keysOnceF fs ≡ true → asCall x y (valueAt (text "arguments") fs) ≡ some v → keysOnce (v .arguments) ≡ true
     named fs none none h e = absurd (none-not-some e)
     named fs (some i) none h e = by fs false (asString i) h e
     named fs none (some i) h e = by fs true (asString i) h e
     named fs (some i) (some k) h e = absurd (none-not-some e)
 
     only : (fs : Fields) (t : Bool) → keysOnceF fs ≡ true
-        → cond t (asName (valueAt (text "execute") fs) (valueAt (text "exec-oob") fs) (valueAt (text "arguments") fs)) none ≡ some v → keysOnce (v .arguments) ≡ true
+        → cond t (asCall (valueAt (text "execute") fs) (valueAt (text "exec-oob") fs) (valueAt (text "arguments") fs)) none ≡ some v → keysOnce (v .arguments) ≡ true
     only fs true h e = named fs (valueAt (text "execute") fs) (valueAt (text "exec-oob") fs) h e
     only fs false h e = absurd (none-not-some e)
 

@@ -11,10 +11,10 @@ use borrow.Author.Tests.{ne-eqb, eq-eqb}
 use Rattle.grammar.specs.Notation.{same}
 use Rattle.grammar.specs.Tree.Scalar.{str}
 use Rattle.grammar.specs.Tree.Json.{leaf}
-use Rattle.grammar.specs.Machine.Message.{message}
+use Rattle.grammar.specs.Serving.Machine.Message.{message}
 use Rattle.rules.specs.Kinds.{command-kind}
 use Rattle.rules.specs.Rows.{rowCount, kind, nameOf}
-use Rattle.rules.specs.Answers.{commandFrom}
+use Rattle.rules.specs.Serving.Answers.{commandFrom}
 use Rattle.text.specs.Nodes.{Holds}
 use Rattle.rows.proofs.ListLaws.{same-sym}
 use Rattle.lookups.specs.Lookups.{NodeMeans}
@@ -24,10 +24,10 @@ use Rattle.message.specs.Commands.{asCommand, NamesCommand, FindsCommand
 
 module _ (S T m w : List ℕ) where
   -- one row
-  pub no-command : {k r i : ℕ} → i ≡ kind T r → (i ≡ 9 → ⊥) → NamesCommand S T m w k r false
+  pub no-command : {k r i : ℕ} → i ≡ kind T r → (i ≡ command-kind → ⊥) → NamesCommand S T m w k r false
   no-command {k} {r} {i} p q = record { told = λ a e l cs x. rw (ne-eqb (kind T r) command-kind (λ z. q (p ∙ z))) refl }
 
-  pub a-command : {k r i : ℕ} {name : List ℕ} {b : Bool} → i ≡ kind T r → i ≡ 9 → name ≡ nameOf S T r → NodeMeans message m w k name b → NamesCommand S T m w k r b
+  pub a-command : {k r i : ℕ} {name : List ℕ} {b : Bool} → i ≡ kind T r → i ≡ command-kind → name ≡ nameOf S T r → NodeMeans message m w k name b → NamesCommand S T m w k r b
   a-command {k} {r} p q n g =
       record { told = λ a e l cs x. rw (eq-eqb (kind T r) command-kind (sym p ∙ q)) (g .string a e l cs x ∙ ap (same cs) n ∙ same-sym cs (nameOf S T r)) }
 

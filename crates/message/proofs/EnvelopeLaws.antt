@@ -15,10 +15,10 @@ use Rattle.grammar.specs.Tree.Json.{leaf, arr, obj}
 use Rattle.grammar.specs.Tree.Fields.{no-fields}
 use Rattle.grammar.specs.Tree.Kind.{string}
 use Rattle.grammar.specs.Keys.{keysOf, keysOnce, keysOnceF}
-use Rattle.grammar.specs.Machine.Message.{message}
+use Rattle.grammar.specs.Serving.Machine.Message.{message}
 use Rattle.rules.specs.Types.{sameKind}
 use Rattle.rules.specs.Values.{_>>=_, asString, valueAt, anyOf}
-use Rattle.rules.specs.Envelope.{Envelope, asArguments, asName, envelope}
+use Rattle.rules.specs.Envelope.{Envelope, asArguments, asCall, envelope}
 use Rattle.rules.proofs.Lists.{clash, and-left}
 use Rattle.text.specs.Nodes.{node, next, Holds, HoldsFields, nodeKind}
 use Rattle.text.proofs.KeyLaws.{scalar-no-object}
@@ -49,7 +49,7 @@ absent w {k} e = rw (eq-eqb k 0 e) refl
 
 pub present : (w : List ℕ) {k i : ℕ} → (k ≡ 0 → ⊥) → i ≡ nodeKind w k → eqb i 9 ≡ properArguments w k
 unfolding properArguments
-present w {k} h e = rw (ne-eqb k 0 h) (ap (λ (n : ℕ). eqb n 9) e)
+present w {k} h e = rw (ne-eqb k 0 h) (ap (λ (n : ℕ). eqb n object-node) e)
 
 pub keys-said : {m w : List ℕ} {b v : Bool} → NoOtherKeys message m w 0 envelopeKeys b → b ≡ v → NoOtherKeys message m w 0 envelopeKeys v
 keys-said {m} {w} h e = subst (NoOtherKeys message m w 0 envelopeKeys) e h
@@ -65,7 +65,7 @@ module _ (m w : List ℕ) where
       go (arr a e js) l x k = refl
       go (obj a e fs) l x k = subst (λ (o : Option Envelope). EnvelopeTold m w (l - 1) o Improper) (sym (h a e fs l x (and-left (apart same (keysOf fs)) (keysOnceF fs) k))) refl
 
-  pub not-object : (node w 0 0 ≡ 9 → ⊥) → ReadsEnvelope m w Improper
+  pub not-object : (node w 0 0 ≡ object-node → ⊥) → ReadsEnvelope m w Improper
   not-object h = refused (λ a e fs l x k. absurd (h (x .0 .has-kind)))
 
   pub other-key : NoOtherKeys message m w 0 envelopeKeys false → ReadsEnvelope m w Improper
@@ -125,7 +125,7 @@ module _ (m w : List ℕ) where
 
     -- the two keys that name a command: exactly one
     by-keys : (ox oy v : Option Json) (x y k : ℕ) → ValueFound message m w l ox x → ValueFound message m w l oy y → ArgumentsAt v k
-        → EnvelopeTold m w l (asName ox oy v) (cond (eqb y 0) (callOf w x false k) (cond (eqb x 0) (callOf w y true k) Improper))
+        → EnvelopeTold m w l (asCall ox oy v) (cond (eqb y 0) (callOf w x false k) (cond (eqb x 0) (callOf w y true k) Improper))
     unfolding callOf
     by-keys none none v x y k f g p = rw (eq-eqb y 0 g, eq-eqb x 0 f) refl
     by-keys (some i) none v x y k f g p = rw (eq-eqb y 0 g) (by-name v k p i x false (f .0) (f .1))
@@ -139,7 +139,7 @@ module _ (m w : List ℕ) where
     nothing-said v oob none e = refl
     nothing-said v oob (some cs) e = rw e refl
 
-    no-arguments : (ox oy v : Option Json) → asArguments v ≡ none → asName ox oy v ≡ none
+    no-arguments : (ox oy v : Option Json) → asArguments v ≡ none → asCall ox oy v ≡ none
     no-arguments none none v e = refl
     no-arguments (some i) none v e = nothing-said v false (asString i) e
     no-arguments none (some j) v e = nothing-said v true (asString j) e
@@ -155,7 +155,7 @@ module _ (m w : List ℕ) where
         (arguments-not (l - 1) (valueAt (text "arguments") fs) k (h .told fs (l - 1) (z .3)) t)))
 
     -- the whole envelope
-    read-so : node w 0 0 ≡ 9 → properArguments w k ≡ true → ReadsEnvelope m w (cond (eqb y 0) (callOf w x false k) (cond (eqb x 0) (callOf w y true k) Improper))
+    read-so : node w 0 0 ≡ object-node → properArguments w k ≡ true → ReadsEnvelope m w (cond (eqb y 0) (callOf w x false k) (cond (eqb x 0) (callOf w y true k) Improper))
     unfolding envelope
     read-so q t = record { told = λ j l z i. go j l z i }
       where
@@ -168,7 +168,7 @@ module _ (m w : List ℕ) where
             rw (sym (o .told fs (l - 1) u (and-left (apart same (keysOf fs)) (keysOnceF fs) i))) (by-keys (l - 1) (valueAt (text "execute") fs) (valueAt (text "exec-oob") fs) (valueAt (text "arguments") fs) x y k
             (f .told fs (l - 1) u) (g .told fs (l - 1) u) (arguments-at (l - 1) (valueAt (text "arguments") fs) k (h .told fs (l - 1) u) t))
 
-    module _ (q : node w 0 0 ≡ 9) (t : properArguments w k ≡ true) where
+    module _ (q : node w 0 0 ≡ object-node) (t : properArguments w k ≡ true) where
       pub in-band : {r : E.Envelope} → y ≡ 0 → r ≡ callOf w x false k → ReadsEnvelope m w r
       in-band e p = subst (λ (z : E.Envelope). ReadsEnvelope m w z) (rw (eq-eqb y 0 e) (sym p)) (read-so q t)
 

@@ -15,8 +15,8 @@ use Rattle.grammar.specs.Tree.Json.{leaf, arr, obj}
 use Rattle.grammar.specs.Tree.Items.{no-items, item}
 use Rattle.grammar.specs.Tree.Fields.{no-fields}
 use Rattle.grammar.specs.Keys.{keysOnce}
-use Rattle.grammar.specs.Machine.Out.{whole, fault, deep}
-use Rattle.grammar.specs.Machine.Message.{message, readMessage}
+use Rattle.grammar.specs.Serving.Machine.Out.{whole, fault, deep}
+use Rattle.grammar.specs.Serving.Machine.Message.{message, readMessage}
 use Rattle.grammar.proofs.Texts.{message-complete, message-broken, message-too-deep}
 use Rattle.rules.specs.declared.MessageRefusal.{MessageRefusal}
 use Rattle.rules.specs.declared.MessageRefusal.the-variants as M
@@ -25,9 +25,9 @@ use Rattle.rules.specs.declared.MessageAnswer.the-variants.{Accepted, Refused}
 use Rattle.rules.specs.Sound.{sound}
 use Rattle.rules.specs.Readings.{Typed, strict}
 use Rattle.rules.specs.Envelope as Spec
-use Rattle.rules.specs.Answers as Answers
-use Rattle.rules.specs.Answers.{MessageResult, asking, askedReading, refusedBy, readingResult, askedResult, textResult, soundResult, messageResult}
-use Rattle.rules.specs.ReadingOf.{readingOf}
+use Rattle.rules.specs.Serving.Answers as Answers
+use Rattle.rules.specs.Serving.Answers.{MessageResult, asking, askedReading, refusedBy, readingResult, askedResult, textResult, soundResult, messageResult}
+use Rattle.rules.specs.Serving.ReadingOf.{readingOf}
 use Rattle.strings.specs.Strings.{plainString}
 use Rattle.tokens.specs.NodeKinds.{plain-string-node, other-string-node, object-node}
 use Rattle.tokens.specs.Tokens.{scalarNode}
@@ -37,7 +37,7 @@ use Rattle.text.specs.Texts.{MessageTold, ReadsMessage}
 use Rattle.text.proofs.KeyLaws.{goes-on}
 use Rattle.text.specs.declared.texts.Text.{Text}
 use Rattle.text.specs.declared.texts.Text.the-variants as Texts
-use Rattle.children.specs.Index.{Given}
+use Rattle.children.specs.Index.{IndexedTable}
 use Rattle.readings.specs.Records.{putAll, ReadTold, ReadsWhole}
 use Rattle.readings.specs.declared.readings.Count.{Count}
 use Rattle.readings.specs.declared.readings.Count.the-variants.{Records, Nothing}
@@ -97,7 +97,7 @@ module _ {m v w : List ℕ} {r : TextFound} (t : ReadsText m v w r) where
   value-read e = subst (λ (y : TextFound). TextTold m w y) e (t .told)
 
 -- what is asked
-module _ {S T m w ix : List ℕ} (g : Given S T ix) (v : ValueRead m w) {r : Asking} (q : AsksFor S T m w r) where
+module _ {S T m w ix : List ℕ} (g : IndexedTable S T ix) (v : ValueRead m w) {r : Asking} (q : AsksFor S T m w r) where
   told : AskingTold m w (message-levels - 1) (asking S T (v .value)) r
   told = q .told (g .sound-table) (v .value) message-levels (v .holds) (v .once)
 

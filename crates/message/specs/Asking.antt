@@ -8,11 +8,11 @@ use Rattle.grammar.specs.Tree.{Json}
 use Rattle.grammar.specs.Tree.Json.{obj}
 use Rattle.grammar.specs.Tree.Fields.{no-fields}
 use Rattle.grammar.specs.Keys.{keysOnce}
-use Rattle.grammar.specs.Machine.Message.{message}
+use Rattle.grammar.specs.Serving.Machine.Message.{message}
 use Rattle.rules.specs.Sound.{sound}
 use Rattle.rules.specs.Readings.{strict}
 use Rattle.rules.specs.Envelope as Envelope
-use Rattle.rules.specs.Answers as Answers
+use Rattle.rules.specs.Serving.Answers as Answers
 use Rattle.text.specs.Nodes.{Holds}
 use Rattle.message.specs.declared.asked.Asked.{Asked}
 use Rattle.message.specs.declared.asked.Asking.{Asking}

@@ -6,10 +6,10 @@ use mathlib.Core.List.{List}
 use mathlib.Core.Option.{Option, none, some}
 use Rattle.grammar.specs.Tree.Scalar.{str}
 use Rattle.grammar.specs.Tree.Json.{leaf}
-use Rattle.grammar.specs.Machine.Message.{message}
+use Rattle.grammar.specs.Serving.Machine.Message.{message}
 use Rattle.rules.specs.Names.{sameName}
 use Rattle.rules.specs.Rows.{rowCount, isCommand, nameOf}
-use Rattle.rules.specs.Answers.{commandFrom}
+use Rattle.rules.specs.Serving.Answers.{commandFrom}
 use Rattle.text.specs.Nodes.{Holds}
 use Rattle.message.specs.declared.commands.Command.{Command}
 use Rattle.message.specs.declared.commands.Command.the-variants.{Row, Unknown}

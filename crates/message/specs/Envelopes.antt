@@ -12,7 +12,7 @@ use Rattle.grammar.specs.Tree.Scalar.{str}
 use Rattle.grammar.specs.Tree.Json.{leaf, obj}
 use Rattle.grammar.specs.Tree.Fields.{no-fields}
 use Rattle.grammar.specs.Keys.{keysOnce}
-use Rattle.grammar.specs.Machine.Message.{message}
+use Rattle.grammar.specs.Serving.Machine.Message.{message}
 use Rattle.rules.specs.Envelope.{Envelope, envelope}
 use Rattle.text.specs.Nodes.{node, Holds, nodeKind}
 use Rattle.lookups.specs.Lookups.{stringKind}

@@ -8,15 +8,15 @@ use Rattle.grammar.specs.Limits.{message-bytes, message-levels, record-words}
 use Rattle.grammar.specs.Tree.{Json}
 use Rattle.grammar.specs.Tree.Items.{no-items, item}
 use Rattle.grammar.specs.Keys.{keysOnce}
-use Rattle.grammar.specs.Machine.Out.{whole}
-use Rattle.grammar.specs.Machine.Message.{message, readMessage}
+use Rattle.grammar.specs.Serving.Machine.Out.{whole}
+use Rattle.grammar.specs.Serving.Machine.Message.{message, readMessage}
 use Rattle.rules.specs.declared.MessageRefusal.the-variants as M
 use Rattle.rules.specs.declared.MessageAnswer.{MessageAnswer}
 use Rattle.rules.specs.MessageAnswers.{answerRecords}
 use Rattle.rules.specs.Envelope as Envelope
-use Rattle.rules.specs.Answers.{MessageResult, Asking.asks, asking, refusedBy, textResult, messageResult}
+use Rattle.rules.specs.Serving.Answers.{MessageResult, Asking.asks, asking, refusedBy, textResult, messageResult}
 use Rattle.text.specs.Nodes.{node-words, next, Holds}
-use Rattle.children.specs.Index.{Given}
+use Rattle.children.specs.Index.{IndexedTable}
 use Rattle.message.specs.declared.asked.Asked.{Asked}
 use Rattle.message.specs.declared.check.TextFound.{TextFound}
 use Rattle.message.specs.declared.check.TextFound.the-variants.{Value, Refused}
@@ -61,7 +61,7 @@ pub record ReadsText (m old new : List ℕ) (r : TextFound) : Type 0 where
 
 -- what the message asks of a sound table with its index
 pub record AskedIn (S T m w ix : List ℕ) (x : Asked) : Type 0 where
-  pub given : Given S T ix
+  pub given : IndexedTable S T ix
   pub value : Json
   pub text : readMessage m ≡ whole (item value no-items)
   pub once : keysOnce value ≡ true

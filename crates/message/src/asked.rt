@@ -3,14 +3,14 @@ use crate::commands::Command;
 use crate::commands::find_command;
 use crate::envelope::Envelope;
 use crate::envelope::read_envelope;
+use builtins::FIRST_REFERENCE;
 use readings::readings::ReadAs;
 use rows::rows::word;
-use rules::FIRST_ROW;
 use rules::MessageRefusal;
 use rules::row;
 ghost use mathlib.Core.Path.{_≡_};
 ghost use Prim.Native.Nat.{_+_, _<_, _^_};
-ghost use Rattle.grammar.specs.Limits.{first-row};
+ghost use Rattle.rules.specs.Types.{first-row};
 ghost use Rattle.rules.specs.Envelope.{mayUse};
 ghost use Rattle.rules.specs.Rows.{linkRef};
 ghost use Rattle.message.specs.Asking.{AsksFor};
@@ -26,8 +26,6 @@ pub enum Asking {
     Asks(Asked),
     Refuses(MessageRefusal),
 }
-
-const FIRST_REFERENCE: u32 = FIRST_ROW as u32;
 
 // The type reference to a link's row, 0 for no link. A link of a sound table is small.
 fn link_ref(link: u32) -> u32
@@ -68,7 +66,7 @@ pub fn ask_command(schema: &[u8], rows: &[u32], m: &[u8], nodes: &[u32]) -> Aski
         return Asking::Refuses(MessageRefusal::NotOutOfBand);
     }
     let how = ReadAs {
-        reference: link_ref(word(rows, c, row::ARGUMENTS)),
+        reference: link_ref(word(rows, c, row::DATA_STRUCT)),
         array: 0,
         passes: false,
     };

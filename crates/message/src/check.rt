@@ -21,9 +21,9 @@ use words::clear;
 ghost use Prim.Native.Nat.{_≤_, _<_, _^_};
 ghost use lib.ListN.{length};
 ghost use Rattle.grammar.specs.Limits.{message-bytes};
-ghost use Rattle.grammar.specs.Machine.Message.{readMessage};
-ghost use Rattle.rules.specs.Answers.{textResult, soundResult, messageResult};
-ghost use Rattle.children.specs.Index.{Given};
+ghost use Rattle.grammar.specs.Serving.Machine.Message.{readMessage};
+ghost use Rattle.rules.specs.Serving.Answers.{textResult, soundResult, messageResult};
+ghost use Rattle.children.specs.Index.{IndexedTable};
 ghost use Rattle.message.specs.Stages.{short-message, NodesFit, ReadsText, KeysRead, WholeText, AskedIn, PresentIn, Uncleared, Answered};
 
 // There is at most one node for every two bytes.
@@ -118,7 +118,7 @@ fn answer_in(
     nodes: &mut [u32],
     records: &mut [u32],
 ) -> MessageAnswer
-    requires { ⌜ Given (now schema) (now rows) (now index) × NodesFit (now m) (now nodes) ⌝ }
+    requires { ⌜ IndexedTable (now schema) (now rows) (now index) × NodesFit (now m) (now nodes) ⌝ }
     ensures { λ r. ⌜ Uncleared (textResult (now (schema .entry)) (now (rows .entry)) (length (now (records .entry))) (readMessage (now (m .entry)))) (now (records .entry)) (now (records .exit)) r ⌝ }
 {
     let found = read_text(m, nodes);
@@ -139,7 +139,7 @@ fn answer_short(
     m: &[u8],
     records: &mut [u32],
 ) -> MessageAnswer
-    requires { ⌜ Given (now schema) (now rows) (now index) × (length (now m) ≤ short-message) ⌝ }
+    requires { ⌜ IndexedTable (now schema) (now rows) (now index) × (length (now m) ≤ short-message) ⌝ }
     ensures { λ r. ⌜ Uncleared (textResult (now (schema .entry)) (now (rows .entry)) (length (now (records .entry))) (readMessage (now (m .entry)))) (now (records .entry)) (now (records .exit)) r ⌝ }
 {
     let mut nodes = [0u32; SHORT_ROOM];
@@ -153,7 +153,7 @@ fn answer_long(
     m: &[u8],
     records: &mut [u32],
 ) -> MessageAnswer
-    requires { ⌜ Given (now schema) (now rows) (now index) × (length (now m) ≤ message-bytes) ⌝ }
+    requires { ⌜ IndexedTable (now schema) (now rows) (now index) × (length (now m) ≤ message-bytes) ⌝ }
     ensures { λ r. ⌜ Uncleared (textResult (now (schema .entry)) (now (rows .entry)) (length (now (records .entry))) (readMessage (now (m .entry)))) (now (records .entry)) (now (records .exit)) r ⌝ }
 {
     let mut nodes = [0u32; NODE_ROOM];
@@ -168,7 +168,7 @@ fn answer_given(
     m: &[u8],
     records: &mut [u32],
 ) -> MessageAnswer
-    requires { ⌜ Given (now schema) (now rows) (now index) ⌝ }
+    requires { ⌜ IndexedTable (now schema) (now rows) (now index) ⌝ }
     ensures { λ r. ⌜ Uncleared (soundResult (now (schema .entry)) (now (rows .entry)) (now (m .entry)) (length (now (records .entry)))) (now (records .entry)) (now (records .exit)) r ⌝ }
 {
     if MESSAGE_BYTES < m.len() {

@@ -8,7 +8,7 @@ use text::nodes::NODE_KIND;
 use text::nodes::node_word;
 use tokens::node;
 ghost use mathlib.Core.Path.{_≡_};
-ghost use Rattle.grammar.specs.Machine.Message.{message};
+ghost use Rattle.grammar.specs.Serving.Machine.Message.{message};
 ghost use Rattle.lookups.specs.Lookups.{NoOtherKeys};
 ghost use Rattle.message.specs.Envelopes.{envelopeKeys, callOf, properArguments, ReadsEnvelope};
 

@@ -1,4 +1,4 @@
-// The paper's numbers of the answers.
+// The numbers of the answers (Reference, Schema answers and Message answers).
 use rules::MessageAnswer;
 use rules::MessageRefusal;
 use rules::SchemaAnswer;

@@ -14,15 +14,15 @@ use Rattle.grammar.specs.Limits.{chain-structs}
 use Rattle.grammar.specs.Tree.{Json, Fields}
 use Rattle.grammar.specs.Tree.Fields.{no-fields, field}
 use Rattle.grammar.specs.Keys.{keysOnce, keysOnceF}
-use Rattle.grammar.specs.Machine.Message.{message}
+use Rattle.grammar.specs.Serving.Machine.Message.{message}
 use Rattle.rules.specs.Rows.{members, typeRef, arrayMark}
 use Rattle.rules.specs.SchemaTable.{memberIn}
 use Rattle.rules.proofs.Lists.{and-left, and-right}
-use Rattle.children.specs.Index.{Given}
+use Rattle.children.specs.Index.{IndexedTable}
 use Rattle.children.specs.Counts.{mandatoryIn}
 use Rattle.children.proofs.CountLaws.{count-few}
 use Rattle.rules.specs.Readings.{Typed}
-use Rattle.rules.specs.ReadingOf.{then, found, fieldsReading, readingOf}
+use Rattle.rules.specs.Serving.ReadingOf.{then, found, fieldsReading, readingOf}
 use Rattle.text.specs.Nodes.{next, Holds, HoldsFields}
 use Rattle.text.proofs.KeyLaws.{goes-on}
 use Rattle.members.specs.Members.{FieldMember}
@@ -77,7 +77,7 @@ module _ (S T m w : List ℕ) {ix : List ℕ} {b x left : ℕ} {passes : Bool} (
 
 module _ {S T m w ix : List ℕ} {i b x link : ℕ} (f : FieldMember S T m w ix i b x link) {e : ℕ} (u : i < e) where
   -- the first key that is left means this member
-  meant : (a y l : ℕ) (cs ms bs : List ℕ) (j : Json) (fs : Fields) → Given S T ix → HoldsFields message m w (field a y cs j fs) l i e
+  meant : (a y l : ℕ) (cs ms bs : List ℕ) (j : Json) (fs : Fields) → IndexedTable S T ix → HoldsFields message m w (field a y cs j fs) l i e
       → members T chain-structs b ≡ some ms → members T chain-structs x ≡ some bs → link ≡ memberIn S T cs (ms ++ bs)
   meant a y l cs ms bs j fs d h p q = f .told cs d (a-key (record { start = a; end = y; node-is = h .1; means = h .2 })) ms bs p q
 
@@ -85,7 +85,7 @@ module _ {S T m w ix : List ℕ} {i b x link : ℕ} (f : FieldMember S T m w ix 
   unfolding completeReading
   fields-unmeant {passes} {left} {c} {d} now z = record { told = λ fs l o h once q ms bs p p′. go fs l o h ms bs p p′ }
     where
-      go : (fs : Fields) (l : ℕ) → Given S T ix → HoldsFields message m w fs l i e → (ms bs : List ℕ) → members T chain-structs b ≡ some ms → members T chain-structs x ≡ some bs
+      go : (fs : Fields) (l : ℕ) → IndexedTable S T ix → HoldsFields message m w fs l i e → (ms bs : List ℕ) → members T chain-structs b ≡ some ms → members T chain-structs x ≡ some bs
           → ReadTold now now c (completeReading passes S T (ms ++ bs) d fs) Nothing
       go no-fields l o h ms bs p p′ = absurd (omega (arith, h))
       go (field a y cs j fs) l o h ms bs p p′ =
@@ -96,7 +96,7 @@ module _ {S T m w ix : List ℕ} {i b x link : ℕ} (f : FieldMember S T m w ix 
   module _ (n : link ≡ 0 → ⊥) {left c at t g : ℕ} {passes : Bool} (p : at ≡ i + 1) (q : t ≡ typeRef T (link - 1)) (q′ : g ≡ arrayMark T (link - 1)) {old mid : List ℕ} {v : Count}
       (h : ReadsValue S T m w ix old mid at t g passes left c v) where
     -- its value is read, and then the fields after it
-    one-field : (d a y l : ℕ) (cs ms bs : List ℕ) (j : Json) (fs : Fields) → Given S T ix → HoldsFields message m w (field a y cs j fs) l i e
+    one-field : (d a y l : ℕ) (cs ms bs : List ℕ) (j : Json) (fs : Fields) → IndexedTable S T ix → HoldsFields message m w (field a y cs j fs) l i e
         → members T chain-structs b ≡ some ms → members T chain-structs x ≡ some bs
         → completeReading passes S T (ms ++ bs) d (field a y cs j fs)
         ≡ then (readingOf passes S T j t g) (completeReading passes S T (ms ++ bs) (d + mandatoryIn T ((link - 1) ∷ [])) fs)
@@ -116,13 +116,13 @@ module _ {S T m w ix : List ℕ} {i b x link : ℕ} (f : FieldMember S T m w ix 
         ∙ ap (λ (r : Option (List Typed)). cond (eqb (d + mandatoryIn T ((link - 1) ∷ []) + met S T (ms ++ bs) fs) (mandatoryIn T (ms ++ bs))) r none) reading
         ∙ cond-then (eqb (d + mandatoryIn T ((link - 1) ∷ []) + met S T (ms ++ bs) fs) (mandatoryIn T (ms ++ bs))) (readingOf passes S T j t g) (fieldsReading passes S T fs (ms ++ bs))
 
-    value-told : (l : ℕ) (j : Json) → Given S T ix → Holds message m w j l (suc i) → keysOnce j ≡ true → l ≤ left → ReadTold old mid c (readingOf passes S T j t g) v
+    value-told : (l : ℕ) (j : Json) → IndexedTable S T ix → Holds message m w j l (suc i) → keysOnce j ≡ true → l ≤ left → ReadTold old mid c (readingOf passes S T j t g) v
     value-told l j o y once z = h .reads .told j l o (let k : at ≡ suc i = p ∙ add-one i in rw k y) once z
 
     pub fields-none : {d : ℕ} → v ≡ Nothing → FieldsRead S T m w ix old mid i e b x passes left c d Nothing
     fields-none {d} z = record { told = λ fs l o y once r ms bs k k′. go fs l o y once r ms bs k k′ }
       where
-        go : (fs : Fields) (l : ℕ) → Given S T ix → HoldsFields message m w fs l i e → keysOnceF fs ≡ true → l ≤ left → (ms bs : List ℕ)
+        go : (fs : Fields) (l : ℕ) → IndexedTable S T ix → HoldsFields message m w fs l i e → keysOnceF fs ≡ true → l ≤ left → (ms bs : List ℕ)
             → members T chain-structs b ≡ some ms → members T chain-structs x ≡ some bs → ReadTold old mid c (completeReading passes S T (ms ++ bs) d fs) Nothing
         go no-fields l o y once r ms bs k k′ = absurd (omega (arith, y))
         go (field a s cs j fs) l o y once r ms bs k k′ =
@@ -143,7 +143,7 @@ module _ {S T m w ix : List ℕ} {i b x link : ℕ} (f : FieldMember S T m w ix 
             → FieldsRead S T m w ix old new i e b x passes left c d y
         fields-on {d} new y k = record { told = λ fs l s hf once h′ ms bs k′ k″. go fs l s hf once h′ ms bs k′ k″ }
           where
-            go : (fs : Fields) (l : ℕ) → Given S T ix → HoldsFields message m w fs l i e → keysOnceF fs ≡ true → l ≤ left → (ms bs : List ℕ)
+            go : (fs : Fields) (l : ℕ) → IndexedTable S T ix → HoldsFields message m w fs l i e → keysOnceF fs ≡ true → l ≤ left → (ms bs : List ℕ)
                 → members T chain-structs b ≡ some ms → members T chain-structs x ≡ some bs → ReadTold old new c (completeReading passes S T (ms ++ bs) d fs) y
             go no-fields l s hf once h′ ms bs k′ k″ = absurd (omega (arith, hf))
             go (field a a″ cs j fs) l s hf once h′ ms bs k′ k″ =

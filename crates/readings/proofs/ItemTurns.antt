@@ -10,10 +10,10 @@ use lib.ListN.{length}
 use Rattle.grammar.specs.Tree.{Items}
 use Rattle.grammar.specs.Tree.Items.{no-items, item}
 use Rattle.grammar.specs.Keys.{keysOnce, keysOnceI}
-use Rattle.grammar.specs.Machine.Message.{message}
+use Rattle.grammar.specs.Serving.Machine.Message.{message}
 use Rattle.rules.proofs.Lists.{and-left, and-right}
-use Rattle.children.specs.Index.{Given}
-use Rattle.rules.specs.ReadingOf.{itemsReading, readingOf}
+use Rattle.children.specs.Index.{IndexedTable}
+use Rattle.rules.specs.Serving.ReadingOf.{itemsReading, readingOf}
 use Rattle.text.specs.Nodes.{next, HoldsItems}
 use Rattle.text.proofs.KeyLaws.{goes-on}
 use Rattle.readings.specs.Records.{ReadTold}
@@ -43,7 +43,7 @@ module _ {S T m w ix old mid : List ℕ} {i t left c : ℕ} {passes : Bool} {v :
   pub items-none : v ≡ Nothing → ItemsRead S T m w ix old mid i e t passes left c Nothing
   items-none z = record { told = λ js l o h once q. go js l o h once q }
     where
-      go : (js : Items) (l : ℕ) → Given S T ix → HoldsItems message m w js l i e → keysOnceI js ≡ true → l ≤ left → ReadTold old mid c (itemsReading passes S T js t) Nothing
+      go : (js : Items) (l : ℕ) → IndexedTable S T ix → HoldsItems message m w js l i e → keysOnceI js ≡ true → l ≤ left → ReadTold old mid c (itemsReading passes S T js t) Nothing
       go no-items l o h once q = absurd (omega (arith, h))
       go (item j js) l o h once q = told-none old mid c (readingOf passes S T j t 0) (itemsReading passes S T js t) (rw z at (g .reads .told j l o (h .1) (and-left (keysOnce j) (keysOnceI js) once) q))
 
@@ -59,7 +59,7 @@ module _ {S T m w ix old mid : List ℕ} {i t left c : ℕ} {passes : Bool} {v :
       pub items-on : (new : List ℕ) (r : Count) → ItemsRead S T m w ix mid new y e t passes left d r → ItemsRead S T m w ix old new i e t passes left c r
       items-on new r k = record { told = λ js l o h once q. go js l o h once q }
         where
-          go : (js : Items) (l : ℕ) → Given S T ix → HoldsItems message m w js l i e → keysOnceI js ≡ true → l ≤ left → ReadTold old new c (itemsReading passes S T js t) r
+          go : (js : Items) (l : ℕ) → IndexedTable S T ix → HoldsItems message m w js l i e → keysOnceI js ≡ true → l ≤ left → ReadTold old new c (itemsReading passes S T js t) r
           go no-items l o h once q = absurd (omega (arith, h))
           go (item j js) l o h once q =
               told-then old mid new c d (readingOf passes S T j t 0) (itemsReading passes S T js t) r (rw z at (g .reads .told j l o (h .1) (and-left (keysOnce j) (keysOnceI js) once) q))

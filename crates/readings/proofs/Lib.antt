@@ -1,5 +1,5 @@
--- Laws that the functions cite: built-ins, types and contents.
-pub mod BuiltInLaws
+-- Laws that the functions cite: kinds and built-ins, types and contents.
+pub mod KindLaws
 pub mod TypeLaws
 pub mod ContentLaws
 -- The records of a reading, and the readers that call each other.

@@ -12,18 +12,18 @@ use Rattle.grammar.specs.Tree.{Json, Fields}
 use Rattle.grammar.specs.Tree.Json.{arr, obj}
 use Rattle.grammar.specs.Notation.{same, apart}
 use Rattle.grammar.specs.Keys.{keysOf, keysOnce, keysOnceF}
-use Rattle.grammar.specs.Machine.Message.{message}
+use Rattle.grammar.specs.Serving.Machine.Message.{message}
 use Rattle.rules.specs.Rules.{namesOf}
 use Rattle.rules.proofs.Lists.{and-left, and-right}
 use Rattle.rules.specs.Readings.{Typed, typed}
-use Rattle.rules.specs.ReadingOf as Reading
-use Rattle.rules.specs.ReadingOf.{under, target, ended, mandatoryThere, plainReading, itemsReading, fieldsReading, readingOf}
-use Rattle.children.specs.Index.{Given}
+use Rattle.rules.specs.Serving.ReadingOf as Reading
+use Rattle.rules.specs.Serving.ReadingOf.{under, target, ended, mandatoryThere, plainReading, itemsReading, fieldsReading, readingOf}
+use Rattle.children.specs.Index.{IndexedTable}
 use Rattle.children.specs.Counts.{mandatoryIn}
 use Rattle.members.specs.Mandatory.{met}
 use Rattle.members.proofs.MeetLaws.{met-all}
 use Rattle.text.specs.Nodes.{next, Holds, HoldsItems, HoldsFields, nodeEnd, nodeStart}
-use Rattle.readings.specs.Parts.{viaAs, TypeFor, AsElements, AsMembers, ContentTold, ContentAt}
+use Rattle.readings.specs.Parts.{choiceAs, TypeFor, AsElements, AsMembers, ContentTold, ContentAt}
 use Rattle.readings.specs.Records.{putRecord, ReadTold}
 use Rattle.readings.specs.Readers.{completeReading, ReadsValue, ReadsPlain, ReadsItems, ReadsFields}
 use Rattle.readings.specs.declared.readings.Count.{Count}
@@ -44,19 +44,19 @@ complete-all passes S T fs d ms h =
 
 -- by which type
 module _ (S T m w : List ℕ) {k t f : ℕ} {x : Choice} (g : TypeFor T w k t f x) (passes : Bool) where
-  reading-by : (v : Reading.Via) → viaAs x ≡ v → (j : Json) (l : ℕ) → Holds message m w j l k → readingOf passes S T j t f ≡ ended v (typed j t f) (plainReading passes S T j (target v t) f)
-  reading-by v e j l h = ap (λ (y : Reading.Via). ended y (typed j t f) (plainReading passes S T j (target y t) f)) (sym (g .told S m j l h) ∙ e)
+  reading-by : (v : Reading.TypeChoice) → choiceAs x ≡ v → (j : Json) (l : ℕ) → Holds message m w j l k → readingOf passes S T j t f ≡ ended v (typed j t f) (plainReading passes S T j (target v t) f)
+  reading-by v e j l h = ap (λ (y : Reading.TypeChoice). ended y (typed j t f) (plainReading passes S T j (target y t) f)) (sym (g .told S m j l h) ∙ e)
 
   pub value-missing : x ≡ NoAlternative → {ix : List ℕ} (old : List ℕ) {left n : ℕ} → ReadsValue S T m w ix old old k t f passes left n Nothing
   value-missing e old {left} {n} = record {
     within = tt;
-    reads = record { told = λ j l o h once q. told-nothing old old n (readingOf passes S T j t f) refl (reading-by Reading.Via.missing (ap viaAs e) j l h) };
+    reads = record { told = λ j l o h once q. told-nothing old old n (readingOf passes S T j t f) refl (reading-by Reading.TypeChoice.missing (ap choiceAs e) j l h) };
   }
 
   pub value-direct : x ≡ Itself → {ix old new : List ℕ} {left n : ℕ} {r : Count} → ReadsPlain S T m w ix old new k t f passes left n r → ReadsValue S T m w ix old new k t f passes left n r
   value-direct e {old = old} {new} {left} {n} {r} d = record {
     within = d .within;
-    reads = record { told = λ j l o h once q. rw (reading-by Reading.Via.direct (ap viaAs e) j l h) (d .told j l o h once q) };
+    reads = record { told = λ j l o h once q. rw (reading-by Reading.TypeChoice.direct (ap choiceAs e) j l h) (d .told j l o h once q) };
   }
 
   pub value-alternative : {u : ℕ} → x ≡ Alternative u → {ix old mid new : List ℕ} {left n : ℕ} {r : Count} → mid ≡ putRecord old n (nodeStart w k ∷ nodeEnd w k ∷ t ∷ f ∷ [])
@@ -64,14 +64,14 @@ module _ (S T m w : List ℕ) {k t f : ℕ} {x : Choice} (g : TypeFor T w k t f 
   value-alternative {u} e {old = old} {mid} {new} {left} {n} {r} p d = record {
     within = d .within;
     reads = record {
-      told = λ j l o h once q. rw (reading-by (Reading.Via.alternative u) (ap viaAs e) j l h)
+      told = λ j l o h once q. rw (reading-by (Reading.TypeChoice.alternative u) (ap choiceAs e) j l h)
           (told-under old mid new n (typed j t f) (plainReading passes S T j u f) r (p ∙ node-record m w old j l k t f n h) (d .told j l o h once q));
     };
   }
 
 -- by which content: the record is written first
 module _ {S T m w ix : List ℕ} {k t f : ℕ} {x : Content} (g : ContentAt S T m w ix k t f x) (passes : Bool) where
-  content-is : (y : Content) → x ≡ y → (j : Json) (l : ℕ) → Given S T ix → Holds message m w j l k → keysOnce j ≡ true → ContentTold S T j t f y
+  content-is : (y : Content) → x ≡ y → (j : Json) (l : ℕ) → IndexedTable S T ix → Holds message m w j l k → keysOnce j ≡ true → ContentTold S T j t f y
   content-is y e j l o h once = rw e at (g .told j l o h once)
 
   module _ (old mid : List ℕ) (n : ℕ) (p : mid ≡ putRecord old n (nodeStart w k ∷ nodeEnd w k ∷ t ∷ f ∷ [])) where
@@ -100,7 +100,7 @@ module _ {S T m w ix : List ℕ} {k t f : ℕ} {x : Content} (g : ContentAt S T 
         told = λ j l o h once q. go j l o h once q (content-is Elements e j l o h once);
       }
         where
-          go : (j : Json) (l : ℕ) → Given S T ix → Holds message m w j l k → keysOnce j ≡ true → l ≤ left → AsElements S T j t f → ReadTold old new n (plainReading passes S T j t f) r
+          go : (j : Json) (l : ℕ) → IndexedTable S T ix → Holds message m w j l k → keysOnce j ≡ true → l ≤ left → AsElements S T j t f → ReadTold old new n (plainReading passes S T j t f) r
           go j l o h once q a = inside new c r (itemsReading passes S T (a .items) t) j l z h (a .reading passes)
               (d .reads .told (a .items) (l - 1) o (held (rw (a .is-array) at h)) (rw (a .is-array) at once) (omega arith))
             where
@@ -114,7 +114,7 @@ module _ {S T m w ix : List ℕ} {k t f : ℕ} {x : Content} (g : ContentAt S T 
         told = λ j l o h once q. go j l o h once q (content-is (Members b y) e j l o h once);
       }
         where
-          go : (j : Json) (l : ℕ) → Given S T ix → Holds message m w j l k → keysOnce j ≡ true → l ≤ left → AsMembers S T j t f b y → ReadTold old new n (plainReading passes S T j t f) r
+          go : (j : Json) (l : ℕ) → IndexedTable S T ix → Holds message m w j l k → keysOnce j ≡ true → l ≤ left → AsMembers S T j t f b y → ReadTold old new n (plainReading passes S T j t f) r
           go j l o h once q a =
               let ms = a .structs .base ++ a .structs .branch in
               inside new c r (cond (mandatoryThere S T ms (a .fields)) (fieldsReading passes S T (a .fields) ms) none) j l z h (a .reading passes)

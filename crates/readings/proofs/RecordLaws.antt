@@ -1,6 +1,6 @@
 -- Records written one after another: lengths are kept, a reading after another goes on where that one ended, and the record of a node is its value's.
 -- The idea: what is told of a value and of those after it is told of both together.
-use Prim.Native.Nat.{ℕ, suc, _+_, _*_, _/_, _≤_, _<_}
+use Prim.Native.Nat.{ℕ, suc, _+_, _*_}
 use mathlib.Core.Path.{_≡_, refl, sym, ap, ap₂, _∙_}
 use mathlib.Core.List.{List, [], _∷_, _++_}
 use mathlib.Core.Option.{Option, none, some}
@@ -10,35 +10,26 @@ use lib.Dec.{leb}
 use lib.ListN.{length, length-append}
 use lib.Seq.{sets, length-sets}
 use mathlib.Core.Bool.{Bool, true, false, cond}
-use borrow.Author.Tests.{le-leb, lt-leb}
 use Rattle.grammar.specs.Limits.{record-words}
+use Rattle.grammar.specs.Notation.{putItem}
 use Rattle.grammar.specs.Tree.{Json, startOf, endOf}
 use Rattle.grammar.specs.Tree.Json.{leaf, arr, obj}
-use Rattle.grammar.specs.Machine.Message.{message}
+use Rattle.grammar.specs.Serving.Machine.Message.{message}
 use Rattle.rules.specs.Readings.{Typed, typed, recordOf}
-use Rattle.rules.specs.ReadingOf.{under, then}
+use Rattle.rules.specs.Serving.ReadingOf.{under, then}
 use Rattle.text.specs.Nodes.{node, Holds, nodeEnd, nodeStart}
 use Rattle.readings.specs.Records.{putRecord, putAll, ReadTold}
 use Rattle.readings.specs.declared.readings.Count.{Count}
 use Rattle.readings.specs.declared.readings.Count.the-variants.{Records, Nothing}
 
 -- one record
-module _ (w xs : List ℕ) (n : ℕ) where
-  pub put-past : length w / 4 ≤ n → putRecord w n xs ≡ w
-  unfolding putRecord
-  put-past h = rw (lt-leb (record-words * n + record-words) (length w) (omega arith))
-
-  pub put-fits : n < length w / record-words → putRecord w n xs ≡ sets w (record-words * n) xs
-  unfolding putRecord
-  put-fits h = rw (le-leb (record-words * n + record-words) (length w) (omega arith))
-
-  pub put-length : length (putRecord w n xs) ≡ length w
-  unfolding putRecord
-  put-length = go (leb (record-words * n + record-words) (length w))
-    where
-      go : (b : Bool) → length (cond b (sets w (record-words * n) xs) w) ≡ length w
-      go true = length-sets w (record-words * n) xs
-      go false = refl
+pub put-length : (w xs : List ℕ) (n : ℕ) → length (putRecord w n xs) ≡ length w
+unfolding putItem
+put-length w xs n = go (leb (record-words * n + record-words) (length w))
+  where
+    go : (b : Bool) → length (cond b (sets w (record-words * n) xs) w) ≡ length w
+    go true = length-sets w (record-words * n) xs
+    go false = refl
 
 pub node-record : (m w old : List ℕ) (j : Json) (l k t f n : ℕ) → Holds message m w j l k
     → putRecord old n (nodeStart w k ∷ nodeEnd w k ∷ t ∷ f ∷ []) ≡ putRecord old n (recordOf (typed j t f))

@@ -7,13 +7,13 @@ use mathlib.Core.Option.{Option, none, some}
 use native.Mathlib.Omega.{arith}
 use lib.Dec.{eqb}
 use borrow.Author.Tests.{eq-eqb, ne-eqb, le-leb, lt-leb}
-use Rattle.grammar.specs.Limits.{first-row}
 use Rattle.grammar.specs.Tree.{Kind, kindOf}
-use Rattle.rules.specs.Types.{column, sameKind}
+use Rattle.rules.specs.Types.{first-row, column, sameKind}
 use Rattle.rules.specs.Rows.{kind, typeRef, children, typeKind}
 use Rattle.rules.specs.Rules.{is}
-use Rattle.rules.specs.ReadingOf.{ofKind, fromAlternatives, via}
-use Rattle.table.specs.RuleParts.{columnOr6}
+use Rattle.rules.specs.Serving.ReadingOf.{ofKind, fromAlternatives, typeChoice}
+use Rattle.builtins.specs.Kinds.{no-column, kindColumn}
+use Rattle.builtins.proofs.KindLaws.{column-small}
 use Rattle.rows.specs.Rows.{Follows, First, Counted}
 use Rattle.rows.proofs.LoopLaws.{WalkLeft, left-hit, left-on, left-ends}
 use Rattle.rows.proofs.ChildLaws.{left-children}
@@ -21,10 +21,10 @@ use Rattle.text.specs.Nodes.{nodeKind}
 use Rattle.readings.specs.Parts.{columnOf, AlternativeOf, TypeFor}
 use Rattle.readings.specs.declared.types.Choice.{Choice}
 use Rattle.readings.specs.declared.types.Choice.the-variants.{Itself, Alternative, NoAlternative}
-use Rattle.readings.proofs.BuiltInLaws.{column-small, node-column}
+use Rattle.readings.proofs.KindLaws.{node-column}
 
-is-column : (o : Option Kind) (k : Kind) → is o (λ j. sameKind j k) ≡ eqb (columnOr6 o) (column k)
-is-column none k = sym (ne-eqb 6 (column k) (omega (arith, column-small k)))
+is-column : (o : Option Kind) (k : Kind) → is o (λ j. sameKind j k) ≡ eqb (kindColumn o) (column k)
+is-column none k = sym (ne-eqb no-column (column k) (omega (arith, column-small k)))
 is-column (some j) k = refl
 
 -- a walk over alternatives: what is left to look at
@@ -38,36 +38,36 @@ module _ {T : List ℕ} {r c i n : ℕ} (v : AlternativesLeft T r c i n) where
   pub alternatives-end : n ≤ 0 → AlternativeOf T r c NoAlternative
   alternatives-end h = record { told = λ k z. left-ends (v .left k z) h }
 
-  module _ (h : 0 < n) {t t′ y y′ : ℕ} (p : t ≡ typeRef T i) (p′ : t′ ≡ t) (q : y ≡ columnOr6 (typeKind T t′)) (q′ : y′ ≡ y) where
-    of-column : (k : Kind) → column k ≡ c → is (typeKind T (typeRef T i)) (λ j. sameKind j k) ≡ eqb y′ c
+  module _ (h : 0 < n) {t t′ y : ℕ} (p : t ≡ typeRef T i) (p′ : t′ ≡ t) (q : y ≡ kindColumn (typeKind T t′)) where
+    of-column : (k : Kind) → column k ≡ c → is (typeKind T (typeRef T i)) (λ j. sameKind j k) ≡ eqb y c
     of-column k z =
         is-column (typeKind T (typeRef T i)) k
-        ∙ ap (λ (x : ℕ). eqb (columnOr6 (typeKind T x)) (column k)) (sym (p′ ∙ p)) ∙ rw (← q, ← q′, z)
+        ∙ ap (λ (x : ℕ). eqb (kindColumn (typeKind T x)) (column k)) (sym (p′ ∙ p)) ∙ rw (← q, z)
 
-    pub alternatives-hit : y′ ≡ c → AlternativeOf T r c (Alternative t)
-    alternatives-hit f = record { told = λ k z. left-hit (v .left k z) h (λ rs. rw (of-column k z, eq-eqb y′ c f, ← p)) }
+    pub alternatives-hit : y ≡ c → AlternativeOf T r c (Alternative t)
+    alternatives-hit f = record { told = λ k z. left-hit (v .left k z) h (λ rs. rw (of-column k z, eq-eqb y c f, ← p)) }
 
-    pub alternatives-on : (y′ ≡ c → ⊥) → {i′ : ℕ} → Follows T i i′ → AlternativesLeft T r c i′ (n - 1)
-    alternatives-on f x = record { left = λ k z. left-on (v .left k z) h (x .is) (λ rs. rw (of-column k z, ne-eqb y′ c f)) }
+    pub alternatives-on : (y ≡ c → ⊥) → {i′ : ℕ} → Follows T i i′ → AlternativesLeft T r c i′ (n - 1)
+    alternatives-on f x = record { left = λ k z. left-on (v .left k z) h (x .is) (λ rs. rw (of-column k z, ne-eqb y c f)) }
 
 -- the type for a value at a node
 module _ (T w : List ℕ) {k t f : ℕ} where
   pub direct-array : (f ≡ 0 → ⊥) → TypeFor T w k t f Itself
-  unfolding via
+  unfolding typeChoice
   direct-array n = record { told = λ S m j l h. rw (ne-eqb f 0 n) }
 
   module _ (z : f ≡ 0) where
-    pub direct-below : t < 16 → TypeFor T w k t f Itself
-    unfolding via
+    pub direct-below : t < first-row → TypeFor T w k t f Itself
+    unfolding typeChoice
     direct-below l = record { told = λ S m j x h. rw (z, lt-leb first-row t l) }
 
-    module _ (l : 16 ≤ t) {r y : ℕ} (p : r ≡ t - 16) (q : y ≡ kind T r) where
+    module _ (l : first-row ≤ t) {r y : ℕ} (p : r ≡ t - first-row) (q : y ≡ kind T r) where
       pub direct-other : (y ≡ 7 → ⊥) → TypeFor T w k t f Itself
-      unfolding via
+      unfolding typeChoice
       direct-other n = record { told = λ S m j x h. rw (z, le-leb first-row t l, ← p, ← q, ne-eqb y 7 n) }
 
       pub by-alternative : y ≡ 7 → {c d : ℕ} {x : Choice} → c ≡ columnOf d → d ≡ nodeKind w k → AlternativeOf T r c x → TypeFor T w k t f x
-      unfolding via
+      unfolding typeChoice
       by-alternative e {c} {d} {x} u v g = record {
         told = λ S m j i h.
             g .told (kindOf j) (sym (u ∙ ap columnOf v ∙ node-column m w j i k h)) ∙ rw (z, le-leb first-row t l, ← p, ← q, e);

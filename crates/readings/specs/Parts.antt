@@ -1,64 +1,62 @@
 -- Serves contracts: by which type a value is read and what is read inside it there, for every value that the nodes hold.
 use Prim.Native.Nat.{ℕ}
 use mathlib.Core.Path.{_≡_}
-use mathlib.Core.Bool.{Bool, true, cond}
+use mathlib.Core.Bool.{Bool, true, false, cond, _&&_}
 use mathlib.Core.List.{List, [], _∷_, _++_}
 use mathlib.Core.Option.{Option, none, some}
+use lib.Dec.{eqb}
 use lib.ListN.{getD}
 use Rattle.grammar.specs.Tree.{Scalar, Json, Items, Fields, Kind, kindOf}
 use Rattle.grammar.specs.Tree.Scalar.{num}
 use Rattle.grammar.specs.Tree.Json.{leaf, arr, obj}
+use Rattle.grammar.specs.Tree.Kind.{object, array, string, number, boolean, null-kind}
 use Rattle.grammar.specs.Keys.{keysOnce}
-use Rattle.grammar.specs.Machine.Message.{message}
-use Rattle.rules.specs.Types as Types
-use Rattle.rules.specs.Types.{column, takes, ranges, numberFits, builtInTakes}
+use Rattle.grammar.specs.Serving.Machine.Message.{message}
+use Rattle.rules.specs.Types.{isBuiltIn, column, ranges, numberFits, builtInTakes}
 use Rattle.rules.specs.Rows.{children}
 use Rattle.rules.specs.Readings.{typed}
-use Rattle.rules.specs.ReadingOf as Reading
-use Rattle.rules.specs.ReadingOf.{under, ofKind, fromAlternatives, scalarFits, via, mandatoryThere, plainReading, itemsReading, fieldsReading}
+use Rattle.rules.specs.Serving.ReadingOf as Reading
+use Rattle.rules.specs.Serving.ReadingOf.{under, ofKind, fromAlternatives, enumHas, typeChoice, mandatoryThere, plainReading, itemsReading, fieldsReading}
+use Rattle.builtins.specs.Kinds.{kindColumn}
 use Rattle.text.specs.Nodes.{Holds}
-use Rattle.children.specs.Index.{Given}
+use Rattle.children.specs.Index.{IndexedTable}
 use Rattle.members.specs.Members.{FieldsAt, TwoStructs}
-use Rattle.readings.specs.declared.builtins.Range.{Range}
-use Rattle.readings.specs.declared.builtins.Range.the-variants.{From, Any}
 use Rattle.readings.specs.declared.types.Choice.{Choice}
 use Rattle.readings.specs.declared.types.Choice.the-variants.{Itself, Alternative, NoAlternative}
 use Rattle.readings.specs.declared.contents.Content.{Content}
 use Rattle.readings.specs.declared.contents.Content.the-variants.{Alone, Elements, Members, Misfit}
 
--- the grid's column of a node's kind, 6 for none
+-- the JSON kind of a node's kind, by number, and its column
+abbrev pub node-kinds : List (Option Kind)
+node-kinds =
+    none ∷ some null-kind ∷ some boolean ∷ some boolean ∷ some number ∷ some number ∷ some string ∷ some string
+    ∷ some array ∷ some object ∷ []
+
 abbrev pub columnOf : ℕ → ℕ
-columnOf k = getD (6 ∷ 5 ∷ 4 ∷ 4 ∷ 3 ∷ 3 ∷ 2 ∷ 2 ∷ 1 ∷ 0 ∷ []) k 6
+columnOf k = kindColumn (getD node-kinds k none)
 
 -- built-ins
-pub record TakesKind (b c : ℕ) (r : Bool) : Type 0 where
-  pub told : (k : Kind) → column k ≡ c → r ≡ takes b k
-
-abbrev pub rangeAs : Range → Option Types.Range
-rangeAs (From l h) = some (record { low = l; high = h })
-rangeAs Any = none
-
 pub record NumberFits (m w : List ℕ) (k b : ℕ) (r : Bool) : Type 0 where
   pub told : (a e l : ℕ) (i : Bool) (token : List ℕ) → Holds message m w (leaf a e (num i token)) l k → r ≡ numberFits (getD (none ∷ ranges) b none) i token
 
 pub record BuiltInTakes (m w : List ℕ) (k b : ℕ) (r : Bool) : Type 0 where
-  pub told : (a e l : ℕ) (v : Scalar) → Holds message m w (leaf a e v) l k → r ≡ builtInTakes b v
+  pub told : (j : Json) (l : ℕ) → Holds message m w j l k → r ≡ builtInTakes b j
 
 -- alternates
-abbrev pub viaAs : Choice → Reading.Via
-viaAs Itself = Reading.Via.direct
-viaAs (Alternative u) = Reading.Via.alternative u
-viaAs NoAlternative = Reading.Via.missing
+abbrev pub choiceAs : Choice → Reading.TypeChoice
+choiceAs Itself = Reading.TypeChoice.direct
+choiceAs (Alternative u) = Reading.TypeChoice.alternative u
+choiceAs NoAlternative = Reading.TypeChoice.missing
 
 pub record AlternativeOf (T : List ℕ) (r c : ℕ) (x : Choice) : Type 0 where
-  pub told : (k : Kind) → column k ≡ c → viaAs x ≡ fromAlternatives (ofKind T k (children T r))
+  pub told : (k : Kind) → column k ≡ c → choiceAs x ≡ fromAlternatives (ofKind T k (children T r))
 
 pub record TypeFor (T w : List ℕ) (k t f : ℕ) (x : Choice) : Type 0 where
-  pub told : (S m : List ℕ) (j : Json) (l : ℕ) → Holds message m w j l k → viaAs x ≡ via S T (kindOf j) t f
+  pub told : (S m : List ℕ) (j : Json) (l : ℕ) → Holds message m w j l k → choiceAs x ≡ typeChoice S T (kindOf j) t f
 
--- scalars
-pub record ScalarFits (S T m w ix : List ℕ) (k t : ℕ) (b : Bool) : Type 0 where
-  pub told : (a e l : ℕ) (v : Scalar) → Given S T ix → Holds message m w (leaf a e v) l k → b ≡ scalarFits S T t v
+-- enums
+pub record EnumHas (S T m w ix : List ℕ) (k t : ℕ) (b : Bool) : Type 0 where
+  pub told : (a e l : ℕ) (v : Scalar) → IndexedTable S T ix → Holds message m w (leaf a e v) l k → b ≡ enumHas S T t v
 
 -- what is read inside a value, whatever is done with keys that no member has
 pub record AsElements (S T : List ℕ) (j : Json) (t f : ℕ) : Type 0 where
@@ -83,14 +81,21 @@ ContentTold S T j t f Elements = AsElements S T j t f
 ContentTold S T j t f (Members b c) = AsMembers S T j t f b c
 ContentTold S T j t f Misfit = (passes : Bool) → plainReading passes S T j t f ≡ none
 
-pub record ScalarContent (S T m w ix : List ℕ) (k t f : ℕ) (x : Content) : Type 0 where
-  pub told : (a e l : ℕ) (v : Scalar) → Given S T ix → Holds message m w (leaf a e v) l k → ContentTold S T (leaf a e v) t f x
+-- whether a value is read at a built-in; elsewhere it is read by its shape
+pub record AtBuiltIn (t f : ℕ) (b : Bool) : Type 0 where
+  pub told : b ≡ eqb f 0 && isBuiltIn t
 
-pub record ArrayContent (t f : ℕ) (x : Content) : Type 0 where
-  pub told : (S T : List ℕ) (a e : ℕ) (js : Items) → ContentTold S T (arr a e js) t f x
+abbrev pub Elsewhere : ℕ → ℕ → Type 0
+Elsewhere t f = eqb f 0 && isBuiltIn t ≡ false
+
+pub record ScalarContent (S T m w ix : List ℕ) (k t f : ℕ) (x : Content) : Type 0 where
+  pub told : Elsewhere t f → (a e l : ℕ) (v : Scalar) → IndexedTable S T ix → Holds message m w (leaf a e v) l k → ContentTold S T (leaf a e v) t f x
+
+pub record ArrayContent (f : ℕ) (x : Content) : Type 0 where
+  pub told : (t : ℕ) → Elsewhere t f → (S T : List ℕ) (a e : ℕ) (js : Items) → ContentTold S T (arr a e js) t f x
 
 pub record ObjectContent (S T m w ix : List ℕ) (k t f : ℕ) (x : Content) : Type 0 where
-  pub told : (a e : ℕ) (fs : Fields) → Given S T ix → FieldsAt m w k fs → ContentTold S T (obj a e fs) t f x
+  pub told : Elsewhere t f → (a e : ℕ) (fs : Fields) → IndexedTable S T ix → FieldsAt m w k fs → ContentTold S T (obj a e fs) t f x
 
 pub record ContentAt (S T m w ix : List ℕ) (k t f : ℕ) (x : Content) : Type 0 where
-  pub told : (j : Json) (l : ℕ) → Given S T ix → Holds message m w j l k → keysOnce j ≡ true → ContentTold S T j t f x
+  pub told : (j : Json) (l : ℕ) → IndexedTable S T ix → Holds message m w j l k → keysOnce j ≡ true → ContentTold S T j t f x

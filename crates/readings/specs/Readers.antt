@@ -8,12 +8,12 @@ use lib.Dec.{eqb}
 use Rattle.grammar.specs.Limits.{chain-structs}
 use Rattle.grammar.specs.Tree.{Json, Items, Fields}
 use Rattle.grammar.specs.Keys.{keysOnce, keysOnceI, keysOnceF}
-use Rattle.grammar.specs.Machine.Message.{message}
+use Rattle.grammar.specs.Serving.Machine.Message.{message}
 use Rattle.rules.specs.Rows.{members}
 use Rattle.rules.specs.Readings.{Typed}
-use Rattle.rules.specs.ReadingOf.{plainReading, itemsReading, fieldsReading}
+use Rattle.rules.specs.Serving.ReadingOf.{plainReading, itemsReading, fieldsReading}
 use Rattle.text.specs.Nodes.{next, Holds, HoldsItems, HoldsFields}
-use Rattle.children.specs.Index.{Given}
+use Rattle.children.specs.Index.{IndexedTable}
 use Rattle.children.specs.Counts.{mandatoryIn}
 use Rattle.members.specs.Mandatory.{met}
 use Rattle.readings.specs.Records.{ReadTold, ReadsAt}
@@ -32,11 +32,11 @@ pub record ReadsValue (S T m w ix old new : List ℕ) (k t f : ℕ) (passes : Bo
 -- at a type that is no alternate
 pub record ReadsPlain (S T m w ix old new : List ℕ) (k t f : ℕ) (passes : Bool) (left n : ℕ) (r : Count) : Type 0 where
   pub within : Within w k r
-  pub told : (j : Json) (l : ℕ) → Given S T ix → Holds message m w j l k → keysOnce j ≡ true → l ≤ left → ReadTold old new n (plainReading passes S T j t f) r
+  pub told : (j : Json) (l : ℕ) → IndexedTable S T ix → Holds message m w j l k → keysOnce j ≡ true → l ≤ left → ReadTold old new n (plainReading passes S T j t f) r
 
 -- the elements from node i up to node e, each at the type t
 pub record ItemsRead (S T m w ix old new : List ℕ) (i e t : ℕ) (passes : Bool) (left n : ℕ) (r : Count) : Type 0 where
-  pub told : (js : Items) (l : ℕ) → Given S T ix → HoldsItems message m w js l i e → keysOnceI js ≡ true → l ≤ left → ReadTold old new n (itemsReading passes S T js t) r
+  pub told : (js : Items) (l : ℕ) → IndexedTable S T ix → HoldsItems message m w js l i e → keysOnceI js ≡ true → l ≤ left → ReadTold old new n (itemsReading passes S T js t) r
 
 pub record ReadsItems (S T m w ix old new : List ℕ) (k t : ℕ) (passes : Bool) (left n : ℕ) (r : Count) : Type 0 where
   pub within : Within w k r
@@ -48,7 +48,7 @@ completeReading passes S T ms d fs = cond (eqb (d + met S T ms fs) (mandatoryIn 
 
 -- the fields from node i up to node e, each a member of one of two structs, after d mandatory ones
 pub record FieldsRead (S T m w ix old new : List ℕ) (i e base branch : ℕ) (passes : Bool) (left n d : ℕ) (r : Count) : Type 0 where
-  pub told : (fs : Fields) (l : ℕ) → Given S T ix → HoldsFields message m w fs l i e → keysOnceF fs ≡ true → l ≤ left
+  pub told : (fs : Fields) (l : ℕ) → IndexedTable S T ix → HoldsFields message m w fs l i e → keysOnceF fs ≡ true → l ≤ left
       → (ms bs : List ℕ) → members T chain-structs base ≡ some ms → members T chain-structs branch ≡ some bs
       → ReadTold old new n (completeReading passes S T (ms ++ bs) d fs) r
 

@@ -1,8 +1,8 @@
 // What is read inside a value at a type that is no alternate.
-use crate::builtins::built_in_takes;
+use crate::kinds::built_in_takes;
+use builtins::FIRST_REFERENCE;
 use children::lists::child_meant;
 use lookups::values::is_string;
-use members::objects::FIRST_REFERENCE;
 use members::objects::Structs;
 use members::objects::structs_at;
 use rows::rows::wide;
@@ -12,10 +12,7 @@ use rules::row;
 use text::nodes::NODE_KIND;
 use text::nodes::node_word;
 use tokens::node;
-ghost use Rattle.readings.specs.Parts.{ScalarFits, ContentAt, ArrayContent, ObjectContent, ScalarContent};
-
-// The built-in that takes every value.
-const ANY: u32 = 15;
+ghost use Rattle.readings.specs.Parts.{AtBuiltIn, EnumHas, ContentAt, ArrayContent, ObjectContent, ScalarContent};
 
 // Inside a value: nothing more than its own record, its elements, or its fields as members of the structs with two links; or it doesn't fit.
 pub enum Content {
@@ -25,8 +22,21 @@ pub enum Content {
     Misfit,
 }
 
-// Whether the scalar at node k fits the type reference t.
-fn scalar_fits(
+// Whether a value is read at a built-in type.
+fn at_built_in(t: u32, array: u32) -> bool
+    ensures { λ b. ⌜ AtBuiltIn t array b ⌝ }
+{
+    if array != 0 {
+        return false;
+    }
+    if t == 0 {
+        return false;
+    }
+    t < FIRST_REFERENCE
+}
+
+// Whether the scalar at node k is a value of the enum at the type reference t.
+fn enum_has(
     schema: &[u8],
     rows: &[u32],
     m: &[u8],
@@ -35,10 +45,10 @@ fn scalar_fits(
     k: usize,
     t: u32,
 ) -> bool
-    ensures { λ b. ⌜ ScalarFits (now (schema .entry)) (now (rows .entry)) (now (m .entry)) (now (nodes .entry)) (now (index .entry)) k t b ⌝ }
+    ensures { λ b. ⌜ EnumHas (now (schema .entry)) (now (rows .entry)) (now (m .entry)) (now (nodes .entry)) (now (index .entry)) k t b ⌝ }
 {
     if t < FIRST_REFERENCE {
-        return built_in_takes(m, nodes, k, wide(t));
+        return false;
     }
     let r = wide(t - FIRST_REFERENCE);
     if word(rows, r, row::KIND) != kind::ENUM {
@@ -66,26 +76,20 @@ fn scalar_content(
     if array != 0 {
         return Content::Misfit;
     }
-    if !scalar_fits(schema, rows, m, nodes, index, k, t) {
+    if !enum_has(schema, rows, m, nodes, index, k, t) {
         return Content::Misfit;
     }
     Content::Alone
 }
 
 // An array.
-fn array_content(t: u32, array: u32) -> Content
-    ensures { λ x. ⌜ ArrayContent t array x ⌝ }
+fn array_content(array: u32) -> Content
+    ensures { λ x. ⌜ ArrayContent array x ⌝ }
 {
-    if array == 1 {
-        return Content::Elements;
-    }
-    if array != 0 {
+    if array != 1 {
         return Content::Misfit;
     }
-    if t != ANY {
-        return Content::Misfit;
-    }
-    Content::Alone
+    Content::Elements
 }
 
 // An object, at node k.
@@ -103,9 +107,6 @@ fn object_content(
 {
     if array != 0 {
         return Content::Misfit;
-    }
-    if t == ANY {
-        return Content::Alone;
     }
     match structs_at(schema, rows, m, nodes, index, k, t) {
         Structs::Links(base, branch) => Content::Members(base, branch),
@@ -126,8 +127,14 @@ pub fn content_at(
 ) -> Content
     ensures { λ x. ⌜ ContentAt (now (schema .entry)) (now (rows .entry)) (now (m .entry)) (now (nodes .entry)) (now (index .entry)) k t array x ⌝ }
 {
+    if at_built_in(t, array) {
+        if !built_in_takes(m, nodes, k, wide(t)) {
+            return Content::Misfit;
+        }
+        return Content::Alone;
+    }
     match node_word(nodes, k, NODE_KIND) {
-        node::ARRAY => array_content(t, array),
+        node::ARRAY => array_content(array),
         node::OBJECT => object_content(schema, rows, m, nodes, index, k, t, array),
         _ => scalar_content(schema, rows, m, nodes, index, k, t, array),
     }

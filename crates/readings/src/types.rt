@@ -1,6 +1,6 @@
 // By which type a value is read: the one given, or one alternative of an alternate.
-use crate::builtins::column;
-use members::objects::FIRST_REFERENCE;
+use crate::kinds::json_kind;
+use builtins::FIRST_REFERENCE;
 use rows::rows::child_count;
 use rows::rows::first_child;
 use rows::rows::next_row;
@@ -20,16 +20,16 @@ pub enum Choice {
     NoAlternative,
 }
 
-// The first alternative of row r with the grid's column c.
-fn alternative(rows: &[u32], r: usize, c: usize) -> Choice
+// The first alternative of row r with the JSON kind k.
+fn alternative(rows: &[u32], r: usize, k: u32) -> Choice
     requires { ⌜ r < 2 ^ 39 ⌝ }
-    ensures { λ x. ⌜ AlternativeOf (now (rows .entry)) r c x ⌝ }
+    ensures { λ x. ⌜ AlternativeOf (now (rows .entry)) r k x ⌝ }
 {
     let mut i = first_child(rows, r);
     let mut left = child_count(rows, r);
     while 0 < left {
         let t = word(rows, i, row::TYPE_REF);
-        if wide(type_kind(rows, wide(t))) == c {
+        if type_kind(rows, wide(t)) == k {
             return Choice::Alternative(t);
         }
         i = next_row(rows, i);
@@ -52,5 +52,5 @@ pub fn type_for(rows: &[u32], nodes: &[u32], k: usize, t: u32, array: u32) -> Ch
     if word(rows, r, row::KIND) != kind::ALTERNATE {
         return Choice::Itself;
     }
-    alternative(rows, r, column(node_word(nodes, k, NODE_KIND)))
+    alternative(rows, r, json_kind(node_word(nodes, k, NODE_KIND)))
 }

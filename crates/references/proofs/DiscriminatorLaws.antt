@@ -15,13 +15,10 @@ use Rattle.rules.specs.Kinds.{union-kind}
 use Rattle.rules.specs.Names.{sameName}
 use Rattle.rules.specs.Rows.{kind, base, unionBase, children, members, after, nameOf}
 use Rattle.rules.specs.Rules.{is}
-use Rattle.rules.specs.SchemaTable.{memberIn, memberOf}
+use Rattle.rules.specs.SchemaTable.{memberIn, memberInChain}
 use Rattle.rules.proofs.Lists.{clash, none-not-some}
 use Rattle.table.specs.Chains.{chainEnds}
 use Rattle.rows.proofs.Walks.{granted, denied}
-use Rattle.rows.specs.Rows.{Follows, First, Counted}
-use Rattle.rows.proofs.LoopLaws.{WalkLeft, left-hit, left-on, left-ends}
-use Rattle.rows.proofs.ChildLaws.{left-children}
 use Rattle.table.proofs.ChainLaws.{ends-is}
 use Rattle.references.specs.NamedWords.{discriminator-word}
 use Rattle.references.specs.Lookups.{nameIn}
@@ -33,24 +30,6 @@ narrow-fits l h = rw (lt-ltb l (2 ^ 32) h)
 
 pub narrow-out : (l : ℕ) → 2 ^ 32 ≤ l → 0 ≡ narrow l
 narrow-out l h = rw (le-ltb l (2 ^ 32) h)
-
--- a walk: `whole` is the link of the first of the rows left that has the name x
-pub record LinkLeft (whole : ℕ) (S T x : List ℕ) (c n : ℕ) : Type 0 where
-  pub rows : WalkLeft (memberIn S T x) T whole c n
-
-pub link-starts : (S T x : List ℕ) {r a n : ℕ} → First T r a → Counted T r n → LinkLeft (memberIn S T x (children T r)) S T x a n
-link-starts S T x p q = record { rows = left-children p q (memberIn S T x) refl }
-
-module _ {whole : ℕ} {S T x : List ℕ} {c n : ℕ} (l : LinkLeft whole S T x c n) where
-  pub link-ends : n ≤ 0 → 0 ≡ whole
-  link-ends h = left-ends (l .rows) h
-
-  module _ (h : 0 < n) {y : List ℕ} {t : Bool} (p : y ≡ nameOf S T c) (q : t ≡ sameName x y) where
-    pub link-hit : t ≡ true → c + 1 ≡ whole
-    link-hit e = left-hit (l .rows) h (λ rs. rw (← p, ← q, e, add-one c))
-
-    pub link-on : t ≡ false → {c′ : ℕ} → Follows T c c′ → LinkLeft whole S T x c′ (n - 1)
-    link-on e f = record { rows = left-on (l .rows) h (f .is) (λ rs. rw (← p, ← q, e)) }
 
 -- the walk up the chain, by structs left and link
 module _ (S T : List ℕ) (n l : ℕ) (x : List ℕ) where
@@ -124,7 +103,7 @@ module _ (S U : List ℕ) (r : ℕ) {b : ℕ} {t : Bool} (p : b ≡ unionBase U 
   unfolding discriminatorFound
   discriminator-endless n = go (members U chain-structs (unionBase U r)) refl
     where
-      go : (o : Option (List ℕ)) → members U chain-structs (unionBase U r) ≡ o → 0 ≡ narrow (memberOf S U (nameIn S (getD U (row-words * r + discriminator-word) 0)) o)
+      go : (o : Option (List ℕ)) → members U chain-structs (unionBase U r) ≡ o → 0 ≡ narrow (memberInChain S U (nameIn S (getD U (row-words * r + discriminator-word) 0)) o)
       go none e = refl
       go (some ms) e = absurd (clash refl (ap (λ (o : Option (List ℕ)). is o (λ _. true)) (sym e) ∙ ends ∙ denied refl n))
 
@@ -132,10 +111,10 @@ module _ (S U : List ℕ) (r : ℕ) {b : ℕ} {t : Bool} (p : b ≡ unionBase U 
       → v ≡ discriminatorFound S r U
   unfolding discriminatorFound
   discriminator-found n {w} {l} {v} {x} e f g h =
-      let z : l ≡ memberOf S U (nameIn S (getD U (row-words * r + discriminator-word) 0)) (members U chain-structs (unionBase U r)) = rw (← e, ← f) (g ∙ ap (λ b. memberLink S U chain-structs b x) p ∙ go (members U chain-structs (unionBase U r)) refl) in
+      let z : l ≡ memberInChain S U (nameIn S (getD U (row-words * r + discriminator-word) 0)) (members U chain-structs (unionBase U r)) = rw (← e, ← f) (g ∙ ap (λ b. memberLink S U chain-structs b x) p ∙ go (members U chain-structs (unionBase U r)) refl) in
       h ∙ ap narrow z
     where
-      go : (o : Option (List ℕ)) → members U chain-structs (unionBase U r) ≡ o → memberLink S U chain-structs (unionBase U r) x ≡ memberOf S U x o
+      go : (o : Option (List ℕ)) → members U chain-structs (unionBase U r) ≡ o → memberLink S U chain-structs (unionBase U r) x ≡ memberInChain S U x o
       go none e = absurd (clash (granted refl n) (sym ends ∙ ap (λ (o : Option (List ℕ)). is o (λ _. true)) e))
       go (some ms) e = member-link-is S U x chain-structs (unionBase U r) ms e
 

@@ -1,5 +1,6 @@
 -- A name is looked for in the index of definitions, along its bucket's chain; what a word names then.
 -- The idea: rows with the heads of the indexed table have its kinds and names, and definitions of one name are in one bucket, in the order of rows.
+use Prim.{tt}
 use Prim.Native.Nat.{ℕ, zero, suc, _+_, _-_, _*_, _≤_, _<_, _^_}
 use mathlib.Core.Path.{_≡_, refl, sym, ap, _∙_}
 use mathlib.Core.Bool.{Bool, true, false, not, cond, _||_}
@@ -13,17 +14,18 @@ use Rattle.grammar.proofs.Lists.{same-true}
 use Rattle.buckets.specs.Buckets.{bucketOf, inBucket}
 use Rattle.buckets.proofs.BucketLaws.{bucket-short, index-walk}
 use Rattle.rules.specs.Kinds.{enum-kind, struct-kind, union-kind, alternate-kind}
-use Rattle.rules.specs.Types.{built-ins}
+use Rattle.rules.specs.Types.{built-ins, first-row}
 use Rattle.rules.specs.Names.{sameName}
 use Rattle.rules.specs.Rows.{kind, nameOf}
 use Rattle.rules.specs.SchemaTable.{placeIn, reference}
-use Rattle.rules.specs.Cells.{firstLink, isNamed}
+use Rattle.rules.specs.Serving.Cells.{firstLink, isNamed}
 use Rattle.rules.proofs.Lists.{clash, and-left, and-right}
 use Rattle.rows.specs.Index.{itself, rowHash}
 use Rattle.table.specs.Definitions.{definitionRows}
 use Rattle.rows.specs.Hashes.{hashOf}
 use Rattle.rows.proofs.Walks.{granted, denied}
-use Rattle.rows.proofs.IndexLaws.{Walk, Says, walk-start, walk-hit, walk-on, walk-end, walk-out}
+use Rattle.buckets.proofs.ChainWalks.{walk-start, walk-end, walk-out}
+use Rattle.rows.proofs.IndexLaws.{Walk, Says, walk-hit, walk-on}
 use Rattle.table.proofs.DistinctLaws.{few-rows}
 use Rattle.references.specs.Lookups.{nameIn, fitting, findRow, refersTo, wordRefers, Heads, Finds, Refers}
 
@@ -90,7 +92,7 @@ pub record Left (S U links : List ℕ) (s : Bool) (x : List ℕ) (head y n : ℕ
   pub told : (T : List ℕ) → Heads T U → Walk (firstLink (isNamed S T (fitting s) x)) links head (length links) y n
 
 pub left-start : {S U links : List ℕ} {s : Bool} {x : List ℕ} {head : ℕ} → Left S U links s x head head (length links)
-left-start {S} {U} {links} {s} {x} = record { told = λ T h. walk-start (firstLink (isNamed S T (fitting s) x)) links }
+left-start {S} {U} {links} {s} {x} = record { told = λ T h. walk-start }
 
 module _ {S U heads links : List ℕ} {s : Bool} {x : List ℕ} {m head : ℕ} (p : m ≡ hashOf x) (q : head ≡ getD heads (bucketOf m) 0) where
   -- what the chain says is what all definitions say
@@ -101,28 +103,28 @@ module _ {S U heads links : List ℕ} {s : Bool} {x : List ℕ} {m head : ℕ} (
     told = λ T k h.
         let few : length (inBucket (rowHash S T) (bucketOf m) (definitionRows T)) ≤ length links =
         omega (arith, bucket-short (rowHash S T) (bucketOf m) (definitionRows T), few-rows T, k .room) in
-        sym (says T h .told (inBucket (rowHash S T) (bucketOf m) (definitionRows T)) (index-walk itself (rowHash S T) (k .rows .chains) m q) few)
+        sym (says T h .told (inBucket (rowHash S T) (bucketOf m) (definitionRows T)) (index-walk itself (rowHash S T) (k .rows .chains) m q) few tt)
         ∙ bucket-first (rowHash S T) (isNamed S T (fitting s) x) m
         (λ r e. ap hashOf (sym (same-true x (nameOf S T r) (and-right (fitting s (kind T r)) (sameName x (nameOf S T r)) e))) ∙ sym p) (definitionRows T);
   }
 
   module _ {y n : ℕ} (w : Left S U links s x head y n) where
     pub left-end : y ≡ 0 → Finds S U heads links s x 0
-    left-end e = found 0 (omega arith) (λ T h. walk-end (firstLink (isNamed S T (fitting s) x)) links (w .told T h) e)
+    left-end e = found 0 (omega arith) (λ T h. walk-end (w .told T h) e)
 
     pub left-out : n ≤ 0 → Finds S U heads links s x 0
-    left-out e = found 0 (omega arith) (λ T h. walk-out (firstLink (isNamed S T (fitting s) x)) links (w .told T h) e)
+    left-out e = found 0 (omega arith) (λ T h. walk-out (w .told T h) e)
 
     pub left-hit : y ≤ 2 ^ 29 → 0 < y → {b : Bool} → b ≡ isNamed S U (fitting s) x (y - 1) → b ≡ true → Finds S U heads links s x y
     left-hit small low t e =
         let z : suc (y - 1) ≡ y = omega arith in
-        found y small (λ T h. walk-hit (firstLink (isNamed S T (fitting s) x)) links (w .told T h) low y
+        found y small (λ T h. walk-hit (w .told T h) low y
         (λ rs. rw (sym (t ∙ heads-named h (y - 1) S s x) ∙ e) z))
 
 pub left-on : {S U links : List ℕ} {s : Bool} {x : List ℕ} {head y n k : ℕ} {b : Bool} → Left S U links s x head y n → 0 < y → b ≡ isNamed S U (fitting s) x (y - 1) → b ≡ false
     → k ≡ getD links (y - 1) 0 → Left S U links s x head k (n - 1)
 left-on {S} {U} {links} {s} {x} {y = y} w low t e p = record {
-  told = λ T h. walk-on (firstLink (isNamed S T (fitting s) x)) links (w .told T h) low p (λ rs. rw (sym (t ∙ heads-named h (y - 1) S s x) ∙ e));
+  told = λ T h. walk-on (w .told T h) low p (λ rs. rw (sym (t ∙ heads-named h (y - 1) S s x) ∙ e));
 }
 
 -- a row that is named is there
@@ -139,7 +141,7 @@ by-name : (b l : ℕ) → (b ≡ 0 → ⊥) → reference b l ≡ b
 by-name zero l n = absurd (n refl)
 by-name (suc b) l n = refl
 
-by-row : (r : ℕ) → (r ≡ 0 → ⊥) → reference 0 r ≡ r + 15
+by-row : (r : ℕ) → (r ≡ 0 → ⊥) → reference 0 r ≡ r - 1 + first-row
 by-row zero n = absurd (n refl)
 by-row (suc r) n = omega arith
 
@@ -160,5 +162,5 @@ module _ {S U heads links : List ℕ} {s : Bool} {w : ℕ} where
         pub ref-missing : r ≡ 0 → Refers S U heads links s w 0
         ref-missing y = record { told = λ T k h. sym (word-named S T s w x n p ∙ rw (e, ← q, z, ← f .told T k h, y)) }
 
-        pub ref-row : (r ≡ 0 → ⊥) → Refers S U heads links s w (r + 15)
+        pub ref-row : (r ≡ 0 → ⊥) → Refers S U heads links s w (r - 1 + first-row)
         ref-row y = record { told = λ T k h. sym (word-named S T s w x n p ∙ rw (e, ← q, z, ← f .told T k h) (by-row r y)) }

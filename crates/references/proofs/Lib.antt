@@ -7,3 +7,4 @@ pub mod RawRows
 pub mod RawSteps
 pub mod RawDiscriminators
 pub mod Resolution
+pub mod SameDefinitions

@@ -12,11 +12,11 @@ use borrow.Author.Tests.{lt-ltb, le-ltb, eqb-false}
 use Rattle.grammar.specs.Limits.{schema-bytes, chain-structs, row-words}
 use Rattle.rules.specs.Kinds.{union-kind}
 use Rattle.rules.specs.Definitions.{Name, Data, Definition}
-use Rattle.rules.specs.SchemaTable.{bytesOf, memberOf, structLink, typeNamed, withoutDiscriminators, discriminatorLink, table}
-use Rattle.rules.specs.RawTable.{packed, EveryName, Spans}
+use Rattle.rules.specs.SchemaTable.{bytesOf, memberInChain, structLink, typeNamed, withoutDiscriminators, discriminatorLink, table}
+use Rattle.rules.specs.Serving.RawTable.{packed, EveryName, Spans}
 use Rattle.rules.specs.Rows.{rowCount, kind, members, unionBase}
-use Rattle.rules.specs.Cells.{Entry, blank, entries, wordsOf, wordsFrom, entryKind, EntryNames}
-use Rattle.rules.specs.Cells.Entry.{enumRow, alternateRow, valueRow, structRow, inlineRow, memberRow, unionRow, branchRow, alternativeRow, commandRow}
+use Rattle.rules.specs.Serving.Cells.{Entry, blank, entries, wordsOf, wordsFrom, entryKind, EntryNames}
+use Rattle.rules.specs.Serving.Cells.Entry.{enumRow, alternateRow, valueRow, structRow, inlineRow, memberRow, unionRow, branchRow, alternativeRow, commandRow}
 use Rattle.rules.proofs.Cells.{table-words, entry-names, every-at}
 use Rattle.rules.proofs.CellRows.{word-is, kind-is, rows-are}
 use Rattle.rules.proofs.CellDiscriminators.{Alike, alike-members, alike-found, SameDiscriminator, same-words, same-rows, union-words, words-alike, link-there}
@@ -68,9 +68,9 @@ module _ (S : List ℕ) (ds : List Definition) (short : length S ≤ schema-byte
   discriminator-at r discriminator s p =
       let a = without-alike r in
       let b : unionBase (U r) r ≡ unionBase (withoutDiscriminators S ds) r = a .same-word r owner-word (omega arith) in
-      let z : memberOf S (U r) (nameIn S (getD (U r) (row-words * r + discriminator-word) 0)) (members (U r) chain-structs (unionBase (U r) r)) ≡ DL r discriminator =
-      ap (λ w. memberOf S (U r) (nameIn S w) (members (U r) chain-structs (unionBase (U r) r))) p
-      ∙ ap₂ (memberOf S (U r)) (packed-name S short discriminator s) (alike-members a chain-structs (unionBase (U r) r) ∙ ap (members (withoutDiscriminators S ds) chain-structs) b)
+      let z : memberInChain S (U r) (nameIn S (getD (U r) (row-words * r + discriminator-word) 0)) (members (U r) chain-structs (unionBase (U r) r)) ≡ DL r discriminator =
+      ap (λ w. memberInChain S (U r) (nameIn S w) (members (U r) chain-structs (unionBase (U r) r))) p
+      ∙ ap₂ (memberInChain S (U r)) (packed-name S short discriminator s) (alike-members a chain-structs (unionBase (U r) r) ∙ ap (members (withoutDiscriminators S ds) chain-structs) b)
       ∙ alike-found a S (bytesOf S discriminator) (members (withoutDiscriminators S ds) chain-structs (unionBase (withoutDiscriminators S ds) r)) in
       ap narrow z ∙ sym (narrow-fits (DL r discriminator) (small-link r discriminator))
 

@@ -4,28 +4,26 @@ use Prim.Native.Nat.{ℕ, suc, _+_, _-_, _*_, _≤_}
 use mathlib.Core.Path.{_≡_, refl, sym, ap, ap₂, _∙_}
 use mathlib.Core.Bool.{Bool, true, false, _&&_}
 use mathlib.Core.List.{List, [], _∷_, _++_}
+use mathlib.Core.Option.{Option, none, some}
 use native.Mathlib.Omega.{arith}
-use lib.Dec.{eqb}
 use lib.ListN.{length, getD, set}
 use lib.Seq.{getD-append-add, set-getD}
-use borrow.Author.Tests.{eqb-false}
 use Rattle.grammar.specs.Limits.{schema-bytes, row-words}
-use Rattle.rules.specs.Kinds.{struct-kind, member-kind, union-kind, branch-kind, alternative-kind, command-kind}
+use Rattle.rules.specs.Values.{_>>=_, ifAbsent}
 use Rattle.rules.specs.Definitions.{Name, TypeText, Data, Definition}
-use Rattle.rules.specs.Definitions.Data.{absent, inline, named}
-use Rattle.rules.specs.Definitions.TypeText.{one}
-use Rattle.rules.specs.SchemaTable.{dataLink, typeOf, structLink, typeNamed, isTypeName, isStructName}
-use Rattle.rules.specs.RawTable.{packed, rawFrom, TypeNames, EveryName, Spans}
+use Rattle.rules.specs.Definitions.Data.{inline, named}
+use Rattle.rules.specs.SchemaTable.{inlineMembers, dataLink, typeOf, structLink, typeNamed, isTypeName, typeRefers, isStructName}
+use Rattle.rules.specs.Serving.RawTable.{packed, rawFrom, IfThere, TypeNames, DataNames, EveryName, Spans}
 use Rattle.rules.specs.Rows.{kind}
 use Rattle.rules.specs.Rows as Rows
-use Rattle.rules.specs.Cells.{Entry, wordsOf, isInlineData, owns, LinkNames, EntryNames}
-use Rattle.rules.specs.Cells.Entry.{enumRow, alternateRow, valueRow, structRow, inlineRow, memberRow, unionRow, branchRow, alternativeRow, commandRow}
+use Rattle.rules.specs.Serving.Cells.{Entry, wordsOf, isInline, owns, EntryNames}
+use Rattle.rules.specs.Serving.Cells.Entry.{enumRow, alternateRow, valueRow, structRow, inlineRow, memberRow, unionRow, branchRow, alternativeRow, commandRow}
 use Rattle.references.specs.NamedWords.{returns-word}
-use Rattle.references.specs.Lookups.{wordRefers, found}
-use Rattle.references.specs.Steps.{putAt, foundAt, putData, foundData, putCommand, foundCommand, putRow, foundRow}
-use Rattle.references.proofs.SlotLaws.{row-struct, row-member, row-union, row-branch, row-alternative, row-command, row-other}
+use Rattle.references.specs.declared.slots.Slot.the-variants.{Word}
+use Rattle.references.specs.Steps.{putAt, foundAt, putData, foundData, putCommand, foundCommand, slotOf, putSlot, foundSlot, putRow, foundRow}
+use Rattle.references.proofs.SlotLaws.{row-at}
 use Rattle.rules.proofs.TableRows.{next-above}
-use Rattle.references.proofs.RawWords.{rawDiscriminator, linkRefers, types-word, types-found, data-word}
+use Rattle.references.proofs.RawWords.{rawDiscriminator, Becomes, struct-becomes, type-becomes, none-becomes, if-becomes}
 
 -- words behind r rows
 module _ (X W : List ℕ) (r : ℕ) (n : length X ≡ row-words * r) where
@@ -62,32 +60,23 @@ module _ (X Y W : List ℕ) (r : ℕ) (n : length X ≡ row-words * r) (m : leng
         word-from s 4 h,
       )
 
--- what an entry's own row refers to
+-- what an entry's own row refers to; members written out have rows of their own
 module _ (S : List ℕ) (ds : List Definition) where
+  abbrev pub linkRefers : Data → Bool
+  linkRefers (inline ms) = true
+  linkRefers (named n) = isStructName S ds n
+
   abbrev pub entryRefers : Entry → Bool
   entryRefers (enumRow n c) = true
   entryRefers (alternateRow n c) = true
   entryRefers (valueRow n) = true
-  entryRefers (structRow n b c) = linkRefers S ds b
+  entryRefers (structRow n b c) = ifAbsent true (isStructName S ds) b
   entryRefers (inlineRow c) = true
-  entryRefers (memberRow m) = isTypeName S ds (m .type)
-  entryRefers (unionRow n b discriminator c) = linkRefers S ds b
+  entryRefers (memberRow m) = typeRefers S ds (m .type)
+  entryRefers (unionRow n b discriminator c) = linkRefers b
   entryRefers (branchRow p) = isStructName S ds (p .type)
-  entryRefers (alternativeRow p) = isTypeName S ds (one (p .type))
-  entryRefers (commandRow n a t oob) = linkRefers S ds a && isTypeName S ds t
-
--- a struct's base is no list of members
-abbrev pub NamedRow : Entry → Type 0
-NamedRow (enumRow n c) = Unit {0}
-NamedRow (alternateRow n c) = Unit {0}
-NamedRow (valueRow n) = Unit {0}
-NamedRow (structRow n b c) = isInlineData b ≡ false
-NamedRow (inlineRow c) = Unit {0}
-NamedRow (memberRow m) = Unit {0}
-NamedRow (unionRow n b discriminator c) = Unit {0}
-NamedRow (branchRow p) = Unit {0}
-NamedRow (alternativeRow p) = Unit {0}
-NamedRow (commandRow n a t oob) = Unit {0}
+  entryRefers (alternativeRow p) = isTypeName S ds (p .type)
+  entryRefers (commandRow n a t oob) = ifAbsent true linkRefers a && ifAbsent true (typeRefers S ds) t
 
 module _ (S : List ℕ) (ds : List Definition) (short : length S ≤ schema-bytes) (spans : EveryName (Spans S) ds) (X : List ℕ) (r : ℕ) (n : length X ≡ row-words * r) where
   abbrev T : List ℕ
@@ -100,25 +89,20 @@ module _ (S : List ℕ) (ds : List Definition) (short : length S ≤ schema-byte
   TN = typeNamed S ds
 
   -- a word of the row
-  put-behind : (s : Bool) (i : ℕ) (W : List ℕ) (w v : ℕ) → getD W i 0 ≡ w → wordRefers S T s w ≡ v
-      → (putAt S T s (row-words * r + i) (X ++ W) ≡ X ++ set W i v) × (foundAt S T s (row-words * r + i) (X ++ W) ≡ found w v)
-  put-behind s i W w v p q =
+  put-behind : (s : Bool) (i : ℕ) (W : List ℕ) (w v : ℕ) (t : Bool) → getD W i 0 ≡ w → Becomes S ds short spans s w v t
+      → (putAt S T s (row-words * r + i) (X ++ W) ≡ X ++ set W i v) × (foundAt S T s (row-words * r + i) (X ++ W) ≡ t)
+  put-behind s i W w v t p q =
       let z : getD (X ++ W) (row-words * r + i) 0 ≡ w = word-behind X W r n i ∙ p in
-      (rw (z, q, ← n) (set-behind X W i v), rw (z, q))
+      (rw (z, q .0, ← n) (set-behind X W i v), rw (z, q .0) (q .1))
 
   -- its link to a base or to data
-  data-behind : (b : Data) (W : List ℕ) → LinkNames (Spans S) b → getD W 3 0 ≡ dataLink packed packed rawDiscriminator r b → Rows.owns (X ++ W) r ≡ isInlineData b
-      → (putData S T r (X ++ W) ≡ X ++ set W 3 (dataLink SL TN rawDiscriminator r b)) × (foundData S T r (X ++ W) ≡ linkRefers S ds b)
+  data-behind : (a : Option Data) (W : List ℕ) → IfThere (DataNames (Spans S)) a → getD W 3 0 ≡ ifAbsent 0 (dataLink packed r) a → Rows.owns (X ++ W) r ≡ isInline (a >>= inlineMembers)
+      → (putData S T r (X ++ W) ≡ X ++ set W 3 (ifAbsent 0 (dataLink SL r) a)) × (foundData S T r (X ++ W) ≡ ifAbsent true (linkRefers S ds) a)
   unfolding putData foundData
-  data-behind absent W p q i =
-      let w = data-word S ds short spans r absent p refl in
-      let z = put-behind true 3 W (dataLink packed packed rawDiscriminator r absent) (dataLink SL TN rawDiscriminator r absent) q (w .0) in
-      (rw i (z .0), rw i (z .1 ∙ w .1))
-  data-behind (named m) W p q i =
-      let w = data-word S ds short spans r (named m) p refl in
-      let z = put-behind true 3 W (dataLink packed packed rawDiscriminator r (named m)) (dataLink SL TN rawDiscriminator r (named m)) q (w .0) in
-      (rw i (z .0), rw i (z .1 ∙ w .1))
-  data-behind (inline ms) W p q i = (rw i (ap (λ l. X ++ l) (sym (set-getD W 3 0) ∙ ap (set W 3) q)), rw i)
+  data-behind none W p q i = let z = put-behind true 3 W 0 0 true q (none-becomes S ds short spans true) in (rw i (z .0), rw i (z .1))
+  data-behind (some (named m)) W p q i =
+      let z = put-behind true 3 W (packed m) (SL m) (isStructName S ds m) q (struct-becomes S ds short spans m p) in (rw i (z .0), rw i (z .1))
+  data-behind (some (inline ms)) W p q i = (rw i (ap (λ l. X ++ l) (sym (set-getD W 3 0) ∙ ap (set W 3) q)), rw i)
 
   -- the row itself
   abbrev Step : Entry → List ℕ → Type 0
@@ -129,61 +113,43 @@ module _ (S : List ℕ) (ds : List Definition) (short : length S ≤ schema-byte
   kind-behind : (W : List ℕ) → getD W 0 0 ≡ kind (X ++ W) r
   kind-behind W = sym (word-behind X W r n 0)
 
-  other : (W : List ℕ) (k : ℕ) → getD W 0 0 ≡ k → eqb k struct-kind ≡ false → eqb k member-kind ≡ false → eqb k union-kind ≡ false → eqb k branch-kind ≡ false → eqb k alternative-kind ≡ false → eqb k command-kind ≡ false
-      → (putRow S T r (X ++ W) ≡ X ++ W) × (foundRow S T r (X ++ W) ≡ true)
-  other W k p a b c d e f =
-      row-other S (X ++ W) r (sym p ∙ kind-behind W) T (eqb-false k struct-kind a) (eqb-false k member-kind b) (eqb-false k union-kind c) (eqb-false k branch-kind d) (eqb-false k alternative-kind e) (eqb-false k command-kind f)
-
-  command-behind : (d : Data) (t : TypeText) (W : List ℕ) → LinkNames (Spans S) d → TypeNames (Spans S) t → getD W 3 0 ≡ dataLink packed packed rawDiscriminator r d
-      → getD (set W 3 (dataLink SL TN rawDiscriminator r d)) 5 0 ≡ typeOf packed packed rawDiscriminator t → Rows.owns (X ++ W) r ≡ isInlineData d
-      → (putCommand S T r (X ++ W) ≡ X ++ set (set W 3 (dataLink SL TN rawDiscriminator r d)) 5 (typeOf SL TN rawDiscriminator t))
-      × (foundCommand S T r (X ++ W) ≡ (linkRefers S ds d && isTypeName S ds t))
+  command-behind : (d : Option Data) (t : Option TypeText) (W : List ℕ) → IfThere (DataNames (Spans S)) d → IfThere (TypeNames (Spans S)) t
+      → getD W 3 0 ≡ ifAbsent 0 (dataLink packed r) d → getD (set W 3 (ifAbsent 0 (dataLink SL r) d)) 5 0 ≡ ifAbsent 0 (typeOf packed) t → Rows.owns (X ++ W) r ≡ isInline (d >>= inlineMembers)
+      → (putCommand S T r (X ++ W) ≡ X ++ set (set W 3 (ifAbsent 0 (dataLink SL r) d)) 5 (ifAbsent 0 (typeOf TN) t))
+      × (foundCommand S T r (X ++ W) ≡ (ifAbsent true (linkRefers S ds) d && ifAbsent true (typeRefers S ds) t))
   unfolding putCommand foundCommand
   command-behind d t W p q a b i =
       let y = data-behind d W p a i in
-      let z = put-behind false 5 (set W 3 (dataLink SL TN rawDiscriminator r d)) (typeOf packed packed rawDiscriminator t) (typeOf SL TN rawDiscriminator t) b (types-word S ds short spans t q) in
-      (ap (putAt S T false (row-words * r + returns-word)) (y .0) ∙ z .0, ap₂ _&&_ (y .1) (ap (foundAt S T false (row-words * r + returns-word)) (y .0) ∙ z .1 ∙ types-found S ds short spans t q))
+      let w = if-becomes S ds short spans (TypeNames (Spans S)) false (typeOf packed) (typeOf TN) (typeRefers S ds) (λ x. type-becomes S ds short spans (x .name)) t q in
+      let z = put-behind false 5 (set W 3 (ifAbsent 0 (dataLink SL r) d)) (ifAbsent 0 (typeOf packed) t) (ifAbsent 0 (typeOf TN) t) (ifAbsent true (typeRefers S ds) t) b w in
+      (ap (putAt S T false (row-words * r + returns-word)) (y .0) ∙ z .0, ap₂ _&&_ (y .1) (ap (foundAt S T false (row-words * r + returns-word)) (y .0) ∙ z .1))
 
-  pub row-step : (e : Entry) (Y : List ℕ) → EntryNames (Spans S) e → NamedRow e
-      → Rows.owns (X ++ (wordsOf packed packed rawDiscriminator r e ++ Y)) r ≡ owns e → Step e Y
-  row-step (enumRow m c) Y p b i = other (wordsOf packed packed rawDiscriminator r (enumRow m c) ++ Y) 1 refl refl refl refl refl refl refl
-  row-step (alternateRow m c) Y p b i = other (wordsOf packed packed rawDiscriminator r (alternateRow m c) ++ Y) 7 refl refl refl refl refl refl refl
-  row-step (valueRow m) Y p b i = other (wordsOf packed packed rawDiscriminator r (valueRow m) ++ Y) 2 refl refl refl refl refl refl refl
-  row-step (structRow m d c) Y p b i =
-      let W : List ℕ = wordsOf packed packed rawDiscriminator r (structRow m d c) ++ Y in
-      let w = data-word S ds short spans r d (p .1) b in
-      let x = row-struct S (X ++ W) r (kind-behind W) T refl in
-      let y = put-behind true 4 W (dataLink packed packed rawDiscriminator r d) (dataLink SL TN rawDiscriminator r d) refl (w .0) in
-      (x .0 ∙ y .0, x .1 ∙ y .1 ∙ w .1)
-  row-step (inlineRow c) Y p b i =
-      let W : List ℕ = wordsOf packed packed rawDiscriminator r (inlineRow c) ++ Y in
-      let w = data-word S ds short spans r absent tt refl in
-      let x = row-struct S (X ++ W) r (kind-behind W) T refl in
-      let y = put-behind true 4 W 0 0 refl (w .0) in
-      (x .0 ∙ y .0, x .1 ∙ y .1)
-  row-step (memberRow m) Y p b i =
-      let W : List ℕ = wordsOf packed packed rawDiscriminator r (memberRow m) ++ Y in
-      let x = row-member S (X ++ W) r (kind-behind W) T refl in
-      let y = put-behind false 3 W (typeOf packed packed rawDiscriminator (m .type)) (typeOf SL TN rawDiscriminator (m .type)) refl (types-word S ds short spans (m .type) (p .1)) in
-      (x .0 ∙ y .0, x .1 ∙ y .1 ∙ types-found S ds short spans (m .type) (p .1))
-  row-step (unionRow m d discriminator c) Y p b i =
+  -- a row of which one word names
+  word-step : (W : List ℕ) (s : Bool) (i w v : ℕ) (t : Bool) → slotOf (getD W 0 0) ≡ Word s i → getD W i 0 ≡ w → Becomes S ds short spans s w v t
+      → (putRow S T r (X ++ W) ≡ X ++ set W i v) × (foundRow S T r (X ++ W) ≡ t)
+  word-step W s i w v t k p q =
+      let x = row-at S (X ++ W) r (kind-behind W) T in
+      let y = put-behind s i W w v t p q in
+      (x .0 ∙ ap (λ z. putSlot S T z r (X ++ W)) k ∙ y .0, x .1 ∙ ap (λ z. foundSlot S T z r (X ++ W)) k ∙ y .1)
+
+  pub row-step : (e : Entry) (Y : List ℕ) → EntryNames (Spans S) e → Rows.owns (X ++ (wordsOf packed packed rawDiscriminator r e ++ Y)) r ≡ owns e → Step e Y
+  row-step (enumRow m c) Y p i = row-at S (X ++ (wordsOf packed packed rawDiscriminator r (enumRow m c) ++ Y)) r (kind-behind (wordsOf packed packed rawDiscriminator r (enumRow m c) ++ Y)) T
+  row-step (alternateRow m c) Y p i = row-at S (X ++ (wordsOf packed packed rawDiscriminator r (alternateRow m c) ++ Y)) r (kind-behind (wordsOf packed packed rawDiscriminator r (alternateRow m c) ++ Y)) T
+  row-step (valueRow m) Y p i = row-at S (X ++ (wordsOf packed packed rawDiscriminator r (valueRow m) ++ Y)) r (kind-behind (wordsOf packed packed rawDiscriminator r (valueRow m) ++ Y)) T
+  row-step (structRow m b c) Y p i =
+      word-step (wordsOf packed packed rawDiscriminator r (structRow m b c) ++ Y) true 4 _ _ _ refl refl
+      (if-becomes S ds short spans (Spans S) true packed SL (isStructName S ds) (struct-becomes S ds short spans) b (p .1))
+  row-step (inlineRow c) Y p i = word-step (wordsOf packed packed rawDiscriminator r (inlineRow c) ++ Y) true 4 _ _ _ refl refl (none-becomes S ds short spans true)
+  row-step (memberRow m) Y p i = word-step (wordsOf packed packed rawDiscriminator r (memberRow m) ++ Y) false 3 _ _ _ refl refl (type-becomes S ds short spans (m .type .name) (p .1))
+  row-step (unionRow m d discriminator c) Y p i =
       let W : List ℕ = wordsOf packed packed rawDiscriminator r (unionRow m d discriminator c) ++ Y in
-      let x = row-union S (X ++ W) r (kind-behind W) T refl in
-      let y = data-behind d W (p .1) refl i in
+      let x = row-at S (X ++ W) r (kind-behind W) T in
+      let y = data-behind (some d) W (p .1) refl i in
       (x .0 ∙ y .0, x .1 ∙ y .1)
-  row-step (branchRow q) Y p b i =
-      let W : List ℕ = wordsOf packed packed rawDiscriminator r (branchRow q) ++ Y in
-      let w = data-word S ds short spans r (named (q .type)) (p .1) refl in
-      let x = row-branch S (X ++ W) r (kind-behind W) T refl in
-      let y = put-behind true 3 W (packed (q .type)) (SL (q .type)) refl (w .0) in
-      (x .0 ∙ y .0, x .1 ∙ y .1 ∙ w .1)
-  row-step (alternativeRow q) Y p b i =
-      let W : List ℕ = wordsOf packed packed rawDiscriminator r (alternativeRow q) ++ Y in
-      let x = row-alternative S (X ++ W) r (kind-behind W) T refl in
-      let y = put-behind false 3 W (packed (q .type)) (TN (q .type)) refl (types-word S ds short spans (one (q .type)) (p .1)) in
-      (x .0 ∙ y .0, x .1 ∙ y .1 ∙ types-found S ds short spans (one (q .type)) (p .1))
-  row-step (commandRow m d t oob) Y p b i =
+  row-step (branchRow q) Y p i = word-step (wordsOf packed packed rawDiscriminator r (branchRow q) ++ Y) true 3 _ _ _ refl refl (struct-becomes S ds short spans (q .type) (p .1))
+  row-step (alternativeRow q) Y p i = word-step (wordsOf packed packed rawDiscriminator r (alternativeRow q) ++ Y) false 3 _ _ _ refl refl (type-becomes S ds short spans (q .type) (p .1))
+  row-step (commandRow m d t oob) Y p i =
       let W : List ℕ = wordsOf packed packed rawDiscriminator r (commandRow m d t oob) ++ Y in
-      let x = row-command S (X ++ W) r (kind-behind W) T refl in
+      let x = row-at S (X ++ W) r (kind-behind W) T in
       let y = command-behind d t W (p .1) (p .2) refl refl i in
       (x .0 ∙ y .0, x .1 ∙ y .1)

@@ -4,49 +4,27 @@ use Prim.Native.Nat.{ℕ, zero, suc, _+_, _*_, _≤_, _<_}
 use mathlib.Core.Path.{_≡_, refl, sym, ap, ap₂, _∙_}
 use mathlib.Core.Bool.{Bool, true, false, _&&_, and-assoc, and-true}
 use mathlib.Core.List.{List, [], _∷_, _++_, map, append-assoc, append-nil}
+use mathlib.Core.Option.{none, some}
 use native.Mathlib.Omega.{arith}
 use lib.ListN.{length, getD, take, drop, take-append-drop, drop-of-length-le}
 use lib.Seq.{length-take-le, take-suc, drop-cons, take-all}
 use Rattle.grammar.specs.Limits.{schema-bytes, row-words}
 use Rattle.grammar.specs.Notation.{all}
-use Rattle.rules.specs.Definitions.{Name, Member, Data, Body, Definition}
-use Rattle.rules.specs.Definitions.Data.{absent, inline, named}
+use Rattle.rules.specs.Values.{ifAbsent}
+use Rattle.rules.specs.Definitions.{Name, Data, Body, Definition}
+use Rattle.rules.specs.Definitions.Data.{inline, named}
 use Rattle.rules.specs.Definitions.Body.{enum, struct, union, alternate, command}
-use Rattle.rules.specs.SchemaTable.{structLink, typeNamed, isTypeName, isStructName, dataRefers, refers, allRefer}
-use Rattle.rules.specs.RawTable.{packed, rawFrom, Every, EveryName, Spans}
+use Rattle.rules.specs.SchemaTable.{inlineMembers, structLink, typeNamed, typeRefers, isStructName, dataRefers, refers, allRefer}
+use Rattle.rules.specs.Serving.RawTable.{packed, rawFrom, EveryName, Spans}
 use Rattle.rules.specs.Rows as Rows
-use Rattle.rules.specs.Cells.{Entry, blank, inlineEntries, ownEntry, childEntries, entries, wordsOf, wordsFrom, isInlineData, owns, EntryNames, NamedBase, NamedBases}
-use Rattle.rules.specs.Cells.Entry.{valueRow, memberRow, branchRow, alternativeRow}
-use Rattle.rules.proofs.Cells.{table-words, length-words, words-append, every-append, every-is, entry-names, every-at, entries-follow}
+use Rattle.rules.specs.Serving.Cells.{Entry, blank, inlineEntries, ownEntry, childEntries, entries, wordsOf, wordsFrom, owns, EntryNames}
+use Rattle.rules.specs.Serving.Cells.Entry.{valueRow, memberRow, branchRow, alternativeRow}
+use Rattle.rules.proofs.Cells.{table-words, length-words, words-append, entry-names, every-at, entries-follow}
 use Rattle.rules.proofs.CellRows.{Behind, owns-is}
 use Rattle.rows.proofs.ListLaws.{all-append, all-map}
 use Rattle.references.specs.Steps.{putRow, foundRow, putRows, foundRows}
-use Rattle.references.proofs.RawWords.{rawDiscriminator, linkRefers, all-behind}
-use Rattle.references.proofs.RawRows.{entryRefers, NamedRow, owns-behind, row-step}
-
--- no entry of a struct has a base that is written out
-inline-named : (b : Data) → Every NamedRow (inlineEntries b)
-inline-named absent = tt
-inline-named (inline ms) = (tt, every-is memberRow NamedRow (λ _. tt) ms)
-inline-named (named n) = tt
-
-base-named : (n : Name) (b : Data) (ms : List Member) → NamedBase (struct b ms) → isInlineData b ≡ false
-base-named n absent ms p = refl
-base-named n (inline ns) ms p = absurd p
-base-named n (named m) ms p = refl
-
-body-named : (n : Name) (b : Body) → NamedBase b → Every NamedRow (ownEntry n b ∷ childEntries b)
-body-named n (enum vs) p = (tt, every-is valueRow NamedRow (λ _. tt) vs)
-body-named n (struct b ms) p = (base-named n b ms p, every-is memberRow NamedRow (λ _. tt) ms)
-body-named n (union b discriminator bs) p = (tt, every-append NamedRow (inlineEntries b) (map branchRow bs) (inline-named b) (every-is branchRow NamedRow (λ _. tt) bs))
-body-named n (alternate alts) p = (tt, every-is alternativeRow NamedRow (λ _. tt) alts)
-body-named n (command a t oob) p = (tt, inline-named a)
-
-entries-named : (ds : List Definition) → NamedBases ds → Every NamedRow (entries ds)
-unfolding entries
-entries-named [] p = tt
-entries-named (d ∷ ds) p =
-    every-append NamedRow (ownEntry (d .name) (d .body) ∷ childEntries (d .body)) (entries ds) (body-named (d .name) (d .body) (p .0)) (entries-named ds (p .1))
+use Rattle.references.proofs.RawWords.{rawDiscriminator, all-behind}
+use Rattle.references.proofs.RawRows.{linkRefers, entryRefers, owns-behind, row-step}
 
 -- rows in parts
 module _ (f g : Name → ℕ) (h : ℕ → Name → ℕ) (es : List Entry) (r : ℕ) where
@@ -70,7 +48,7 @@ module _ (f g : Name → ℕ) (h : ℕ → Name → ℕ) (es : List Entry) (r : 
       let z : 0 + length (take r es) ≡ r = omega arith in
       ap (wordsFrom f g h 0) (take-suc es r blank l) ∙ words-append f g h 0 (take r es) (getD es r blank ∷ []) ∙ rw (z, append-nil (wordsOf f g h r (getD es r blank)))
 
-module _ (S : List ℕ) (ds : List Definition) (short : length S ≤ schema-bytes) (spans : EveryName (Spans S) ds) (bases : NamedBases ds) where
+module _ (S : List ℕ) (ds : List Definition) (short : length S ≤ schema-bytes) (spans : EveryName (Spans S) ds) where
   abbrev T : List ℕ
   T = rawFrom 0 ds
 
@@ -108,7 +86,7 @@ module _ (S : List ℕ) (ds : List Definition) (short : length S ≤ schema-byte
       let m : halfway r ≡ X ++ (wordsOf packed packed rawDiscriminator r e ++ Y) = ap (λ l. X ++ l) (rows-from packed packed rawDiscriminator es r l) in
       let i : Rows.owns (X ++ (wordsOf packed packed rawDiscriminator r e ++ Y)) r ≡ owns e = ap (λ u. Rows.owns u r) (sym m) ∙ owns-half r l in
       let s = row-step S ds short spans X r (length-below SL TN rawDiscriminator es r k) e Y
-      (every-at (EntryNames (Spans S)) blank es (entry-names (Spans S) ds spans) r l) (every-at NamedRow blank es (entries-named ds bases) r l) i in
+      (every-at (EntryNames (Spans S)) blank es (entry-names (Spans S) ds spans) r l) i in
       let n : X ++ (wordsOf SL TN rawDiscriminator r e ++ Y) ≡ halfway (suc r) =
       sym (append-assoc X (wordsOf SL TN rawDiscriminator r e) Y) ∙ ap (λ l. l ++ Y) (sym (rows-below SL TN rawDiscriminator es r l)) in
       (ap (putRow S T r) m ∙ s .0 ∙ n, ap (foundRow S T r) m ∙ s .1)
@@ -136,30 +114,25 @@ module _ (S : List ℕ) (ds : List Definition) (short : length S ≤ schema-byte
       (s .0 ∙ rw (t, d, append-nil), s .1 ∙ ap (all (entryRefers S ds)) t)
 
   -- what entries refer to is what definitions do
-  inline-refer : (b : Data) → (linkRefers S ds b && all (entryRefers S ds) (inlineEntries b)) ≡ dataRefers S ds b
-  inline-refer absent = refl
+  inline-refer : (b : Data) → (linkRefers S ds b && all (entryRefers S ds) (inlineEntries (inlineMembers b))) ≡ dataRefers S ds b
   inline-refer (inline ms) = all-map memberRow (entryRefers S ds) ms
   inline-refer (named n) = and-true (isStructName S ds n)
 
-  body-refers : (n : Name) (b : Body) → NamedBase b → all (entryRefers S ds) (ownEntry n b ∷ childEntries b) ≡ refers S ds b
-  body-refers n (enum vs) p = all-map valueRow (entryRefers S ds) vs ∙ pass vs
+  body-refers : (n : Name) (b : Body) → all (entryRefers S ds) (ownEntry n b ∷ childEntries b) ≡ refers S ds b
+  body-refers n (enum vs) = all-map valueRow (entryRefers S ds) vs ∙ pass vs
     where
       pass : (vs : List Name) → all (λ v. true) vs ≡ true
       pass [] = refl
       pass (v ∷ vs) = pass vs
-  body-refers n (struct b ms) p = ap₂ _&&_ (own b p) (all-map memberRow (entryRefers S ds) ms)
-    where
-      own : (b : Data) → NamedBase (struct b ms) → linkRefers S ds b ≡ dataRefers S ds b
-      own absent p = refl
-      own (inline ns) p = absurd p
-      own (named m) p = refl
-  body-refers n (union b discriminator bs) p =
-      ap (λ t. linkRefers S ds b && t) (all-append (entryRefers S ds) (inlineEntries b) (map branchRow bs))
-      ∙ sym (and-assoc (linkRefers S ds b) (all (entryRefers S ds) (inlineEntries b)) (all (entryRefers S ds) (map branchRow bs)))
+  body-refers n (struct b ms) = ap (λ t. ifAbsent true (isStructName S ds) b && t) (all-map memberRow (entryRefers S ds) ms)
+  body-refers n (union b discriminator bs) =
+      ap (λ t. linkRefers S ds b && t) (all-append (entryRefers S ds) (inlineEntries (inlineMembers b)) (map branchRow bs))
+      ∙ sym (and-assoc (linkRefers S ds b) (all (entryRefers S ds) (inlineEntries (inlineMembers b))) (all (entryRefers S ds) (map branchRow bs)))
       ∙ ap₂ _&&_ (inline-refer b) (all-map branchRow (entryRefers S ds) bs)
-  body-refers n (alternate alts) p = all-map alternativeRow (entryRefers S ds) alts
-  body-refers n (command a t oob) p =
-      swap (linkRefers S ds a) (isTypeName S ds t) (all (entryRefers S ds) (inlineEntries a)) ∙ ap (λ b. b && isTypeName S ds t) (inline-refer a)
+  body-refers n (alternate alts) = all-map alternativeRow (entryRefers S ds) alts
+  body-refers n (command none t oob) = and-true (ifAbsent true (typeRefers S ds) t)
+  body-refers n (command (some a) t oob) =
+      swap (linkRefers S ds a) (ifAbsent true (typeRefers S ds) t) (all (entryRefers S ds) (inlineEntries (inlineMembers a))) ∙ ap (λ b. b && ifAbsent true (typeRefers S ds) t) (inline-refer a)
     where
       swap : (a b c : Bool) → ((a && b) && c) ≡ ((a && c) && b)
       swap true true true = refl
@@ -168,13 +141,13 @@ module _ (S : List ℕ) (ds : List Definition) (short : length S ≤ schema-byte
       swap true false false = refl
       swap false b c = refl
 
-  all-refer : (ys : List Definition) → NamedBases ys → all (entryRefers S ds) (entries ys) ≡ all (λ (d : Definition). refers S ds (d .body)) ys
+  all-refer : (ys : List Definition) → all (entryRefers S ds) (entries ys) ≡ all (λ (d : Definition). refers S ds (d .body)) ys
   unfolding entries
-  all-refer [] p = refl
-  all-refer (d ∷ ys) p =
+  all-refer [] = refl
+  all-refer (d ∷ ys) =
       all-append (entryRefers S ds) (ownEntry (d .name) (d .body) ∷ childEntries (d .body)) (entries ys)
-      ∙ ap₂ _&&_ (body-refers (d .name) (d .body) (p .0)) (all-refer ys (p .1))
+      ∙ ap₂ _&&_ (body-refers (d .name) (d .body)) (all-refer ys)
 
   pub names-found : foundRows S T (length es) ≡ allRefer S ds
   unfolding allRefer
-  names-found = rows-resolved .1 ∙ all-refer ds bases
+  names-found = rows-resolved .1 ∙ all-refer ds

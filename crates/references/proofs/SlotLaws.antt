@@ -16,7 +16,9 @@ use Rattle.rules.specs.Rows.{kind, owns}
 use Rattle.table.specs.Definitions.{DefinitionIndex}
 use Rattle.references.specs.NamedWords.{base-word, type-word, branch-word, owner-word, returns-word}
 use Rattle.references.specs.Lookups.{wordRefers, Heads, Refers}
-use Rattle.references.specs.Steps.{putAt, foundAt, putData, foundData, putCommand, foundCommand, putRow, foundRow, putRows, foundRows, Puts}
+use Rattle.references.specs.declared.slots.Slot.{Slot}
+use Rattle.references.specs.declared.slots.Slot.the-variants.{Word, Data, Command, Nothing}
+use Rattle.references.specs.Steps.{putAt, foundAt, putData, foundData, putCommand, foundCommand, slotOf, putSlot, foundSlot, putRow, foundRow, putRows, foundRows, Puts}
 
 -- heads
 pub heads-own : (T : List ℕ) → Heads T T
@@ -26,6 +28,32 @@ heads-set : (T U : List ℕ) (r i v : ℕ) → 3 ≤ i → i < row-words → Hea
 heads-set T U r i v a b h = record {
   same-head = λ j n l. getD-set-other U (row-words * r + i) (row-words * j + n) v 0 (λ (e : row-words * j + n ≡ row-words * r + i). omega arith) ∙ h .same-head j n l;
 }
+
+-- what holds of each slot that a kind has: a slot of one word is of one after the head of a row
+by-slot : (Q : Slot → Type 0) → ((s : Bool) (i : ℕ) → 3 ≤ i → i < row-words → Q (Word s i)) → Q Data → Q Command → Q Nothing → (k : ℕ) → Q (slotOf k)
+by-slot Q w d c n k =
+    choose (eqb k struct-kind) (w true base-word (omega arith) (omega arith))
+    (choose (eqb k member-kind) (w false type-word (omega arith) (omega arith))
+    (choose (eqb k union-kind) d
+    (choose (eqb k branch-kind) (w true branch-word (omega arith) (omega arith))
+    (choose (eqb k alternative-kind) (w false type-word (omega arith) (omega arith)) (choose (eqb k command-kind) c n)))))
+  where
+    choose : (b : Bool) {x y : Slot} → Q x → Q y → Q (cond b x y)
+    choose true p q = p
+    choose false p q = q
+
+pub slot-inside : (k : ℕ) {i : ℕ} {s : Bool} → Word s i ≡ slotOf k → i < row-words
+slot-inside k {i} {s} e =
+    by-slot (λ x. Word s i ≡ x → i < row-words) (λ t j _ h f. let g : i ≡ j = cc in omega arith) (λ f. absurd (never f refl)) (λ f. absurd (never f refl)) (λ f. absurd (never f refl)) k e
+  where
+    isWord : Slot → ℕ
+    isWord (Word s i) = 1
+    isWord Data = 0
+    isWord Command = 0
+    isWord Nothing = 0
+
+    never : {x : Slot} → Word s i ≡ x → isWord x ≡ 0 → ⊥
+    never e z = let f = ap isWord e in omega arith
 
 -- a property that putting a word from the fourth on keeps
 module _ (S T : List ℕ) (P : List ℕ → Type 0) (keeps : (U : List ℕ) (r i v : ℕ) → 3 ≤ i → i < row-words → P U → P (set U (row-words * r + i) v)) where
@@ -46,13 +74,7 @@ module _ (S T : List ℕ) (P : List ℕ → Type 0) (keeps : (U : List ℕ) (r i
 
   pub kept-row : (r : ℕ) (U : List ℕ) → P U → P (putRow S T r U)
   unfolding putRow
-  kept-row r U p =
-      kept-cond (eqb (kind U r) struct-kind) _ _ (kept-at true r base-word U (omega arith) (omega arith) p)
-      (kept-cond (eqb (kind U r) member-kind) _ _ (kept-at false r type-word U (omega arith) (omega arith) p)
-      (kept-cond (eqb (kind U r) union-kind) _ _ (kept-data r U p)
-      (kept-cond (eqb (kind U r) branch-kind) _ _ (kept-at true r branch-word U (omega arith) (omega arith) p)
-      (kept-cond (eqb (kind U r) alternative-kind) _ _ (kept-at false r type-word U (omega arith) (omega arith) p)
-      (kept-cond (eqb (kind U r) command-kind) _ _ (kept-command r U p) p)))))
+  kept-row r U p = by-slot (λ x. P (putSlot S T x r U)) (λ s i a b. kept-at s r i U a b p) (kept-data r U p) (kept-command r U p) p (kind U r)
 
   pub kept-rows : P T → (r : ℕ) → P (putRows S T r)
   unfolding putRows
@@ -105,44 +127,22 @@ command-both {S} {U} r {mid} f g e = record {
 }
 
 -- row r by its kind
-pub row-by : {S U heads links : List ℕ} {put : List ℕ → List ℕ → List ℕ} {tells : List ℕ → List ℕ → Bool} {new : List ℕ} {b : Bool} (r : ℕ)
-    → ((T : List ℕ) → (putRow S T r U ≡ put T U) × (foundRow S T r U ≡ tells T U)) → Puts S U heads links put tells new b
-    → Puts S U heads links (λ T. putRow S T r) (λ T. foundRow S T r) new b
-row-by r e f = record { same-length = f .same-length; told = λ T j h. (f .told T j h .0 ∙ sym (e T .0), f .told T j h .1 ∙ sym (e T .1)) }
-
 module _ (S U : List ℕ) (r : ℕ) {k : ℕ} (p : k ≡ kind U r) (T : List ℕ) where
-  pub row-struct : k ≡ struct-kind → (putRow S T r U ≡ putAt S T true (row-words * r + base-word) U) × (foundRow S T r U ≡ foundAt S T true (row-words * r + base-word) U)
+  pub row-at : (putRow S T r U ≡ putSlot S T (slotOf k) r U) × (foundRow S T r U ≡ foundSlot S T (slotOf k) r U)
   unfolding putRow foundRow
-  row-struct e = (rw (← p, e), rw (← p, e))
+  row-at = (rw p, rw p)
 
-  pub row-member : k ≡ member-kind → (putRow S T r U ≡ putAt S T false (row-words * r + type-word) U) × (foundRow S T r U ≡ foundAt S T false (row-words * r + type-word) U)
-  unfolding putRow foundRow
-  row-member e = (rw (← p, e), rw (← p, e))
+pub row-by : {S U heads links : List ℕ} (r : ℕ) {k : ℕ} (x : Slot) {new : List ℕ} {b : Bool} → k ≡ kind U r → x ≡ slotOf k
+    → Puts S U heads links (λ T. putSlot S T x r) (λ T. foundSlot S T x r) new b → Puts S U heads links (λ T. putRow S T r) (λ T. foundRow S T r) new b
+row-by {S} {U} r x p e f = record {
+  same-length = f .same-length;
+  told = λ T j h. let z = row-at S U r p T in (
+    f .told T j h .0 ∙ ap (λ (y : Slot). putSlot S T y r U) e ∙ sym (z .0),
+    f .told T j h .1 ∙ ap (λ (y : Slot). foundSlot S T y r U) e ∙ sym (z .1),
+  );
+}
 
-  pub row-union : k ≡ union-kind → (putRow S T r U ≡ putData S T r U) × (foundRow S T r U ≡ foundData S T r U)
-  unfolding putRow foundRow
-  row-union e = (rw (← p, e), rw (← p, e))
-
-  pub row-branch : k ≡ branch-kind → (putRow S T r U ≡ putAt S T true (row-words * r + branch-word) U) × (foundRow S T r U ≡ foundAt S T true (row-words * r + branch-word) U)
-  unfolding putRow foundRow
-  row-branch e = (rw (← p, e), rw (← p, e))
-
-  pub row-alternative : k ≡ alternative-kind → (putRow S T r U ≡ putAt S T false (row-words * r + type-word) U) × (foundRow S T r U ≡ foundAt S T false (row-words * r + type-word) U)
-  unfolding putRow foundRow
-  row-alternative e = (rw (← p, e), rw (← p, e))
-
-  pub row-command : k ≡ command-kind
-      → (putRow S T r U ≡ putCommand S T r U) × (foundRow S T r U ≡ foundCommand S T r U)
-  unfolding putRow foundRow
-  row-command e = (rw (← p, e), rw (← p, e))
-
-  pub row-other : (k ≡ struct-kind → ⊥) → (k ≡ member-kind → ⊥) → (k ≡ union-kind → ⊥) → (k ≡ branch-kind → ⊥) → (k ≡ alternative-kind → ⊥) → (k ≡ command-kind → ⊥) → (putRow S T r U ≡ U) × (foundRow S T r U ≡ true)
-  unfolding putRow foundRow
-  row-other a b c d e f = (
-    rw (← p, ne-eqb k struct-kind a, ne-eqb k member-kind b, ne-eqb k union-kind c, ne-eqb k branch-kind d, ne-eqb k alternative-kind e, ne-eqb k command-kind f),
-    rw (← p, ne-eqb k struct-kind a, ne-eqb k member-kind b, ne-eqb k union-kind c, ne-eqb k branch-kind d, ne-eqb k alternative-kind e, ne-eqb k command-kind f),
-  )
-
+-- a row that names nothing
 pub row-kept : {S U heads links : List ℕ} → Puts S U heads links (λ _ U. U) (λ _ _. true) U true
 row-kept = record { same-length = refl; told = λ T j h. (refl, refl) }
 

@@ -7,7 +7,7 @@ use lib.ListN.{getD, set}
 use Rattle.grammar.specs.Limits.{chain-structs, row-words}
 use Rattle.rules.specs.Kinds.{union-kind}
 use Rattle.rules.specs.Rows.{kind, base, children, members, unionBase}
-use Rattle.rules.specs.SchemaTable.{memberIn, memberOf}
+use Rattle.rules.specs.SchemaTable.{memberIn, memberInChain}
 use Rattle.references.specs.NamedWords.{discriminator-word}
 use Rattle.references.specs.Lookups.{nameIn}
 
@@ -30,7 +30,7 @@ narrow l = cond (ltb l (2 ^ 32)) l 0
 module _ (S : List ℕ) where
   -- the link of the discriminator of union r, which a word names
   unfoldable pub discriminatorFound : ℕ → List ℕ → ℕ
-  discriminatorFound r U = narrow (memberOf S U (nameIn S (getD U (row-words * r + discriminator-word) 0)) (members U chain-structs (unionBase U r)))
+  discriminatorFound r U = narrow (memberInChain S U (nameIn S (getD U (row-words * r + discriminator-word) 0)) (members U chain-structs (unionBase U r)))
 
   unfoldable pub putDiscriminator : ℕ → List ℕ → List ℕ
   putDiscriminator r U = cond (eqb (kind U r) union-kind) (set U (row-words * r + discriminator-word) (discriminatorFound r U)) U

@@ -9,7 +9,7 @@ use Rattle.grammar.specs.Limits.{schema-bytes, row-words}
 use Rattle.rules.specs.Kinds.{enum-kind, struct-kind, union-kind, alternate-kind}
 use Rattle.rules.specs.Types.{built-ins}
 use Rattle.rules.specs.SchemaTable.{placeIn, reference}
-use Rattle.rules.specs.Cells.{firstLink, isNamed}
+use Rattle.rules.specs.Serving.Cells.{firstLink, isNamed}
 use Rattle.table.specs.Definitions.{definitionRows, DefinitionIndex}
 
 -- the bytes of the name that a word names (rules RawTable `packed`)

@@ -7,9 +7,8 @@ use lib.ListN.{length}
 use Rattle.grammar.specs.Limits.{schema-bytes}
 use Rattle.rules.specs.Definitions.{Definition}
 use Rattle.rules.specs.SchemaTable.{table, allRefer}
-use Rattle.rules.specs.RawTable.{rawFrom, EveryName, Spans}
-use Rattle.rules.specs.Cells.{NamedBases}
+use Rattle.rules.specs.Serving.RawTable.{rawFrom, EveryName, Spans}
 
 pub record Resolves (S raw new : List ℕ) (r : Bool) : Type 0 where
   pub same-length : length new ≡ length raw
-  pub told : (ds : List Definition) → length S ≤ schema-bytes → EveryName (Spans S) ds → NamedBases ds → raw ≡ rawFrom 0 ds → (new ≡ table S ds) × (r ≡ allRefer S ds)
+  pub told : (ds : List Definition) → length S ≤ schema-bytes → EveryName (Spans S) ds → raw ≡ rawFrom 0 ds → (new ≡ table S ds) × (r ≡ allRefer S ds)

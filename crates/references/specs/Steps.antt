@@ -11,6 +11,18 @@ use Rattle.rules.specs.Rows.{kind, owns}
 use Rattle.table.specs.Definitions.{DefinitionIndex}
 use Rattle.references.specs.NamedWords.{base-word, type-word, branch-word, owner-word, returns-word}
 use Rattle.references.specs.Lookups.{wordRefers, found, Heads}
+use Rattle.references.specs.declared.slots.Slot.{Slot}
+use Rattle.references.specs.declared.slots.Slot.the-variants.{Word, Data, Command, Nothing}
+
+-- what a row of kind k names, but for a discriminator
+abbrev pub slotOf : ℕ → Slot
+slotOf k =
+    cond (eqb k struct-kind) (Word true base-word)
+    (cond (eqb k member-kind) (Word false type-word)
+    (cond (eqb k union-kind) Data
+    (cond (eqb k branch-kind) (Word true branch-word)
+    (cond (eqb k alternative-kind) (Word false type-word)
+    (cond (eqb k command-kind) Command Nothing)))))
 
 module _ (S T : List ℕ) where
   -- word k
@@ -34,24 +46,25 @@ module _ (S T : List ℕ) where
   unfoldable pub foundCommand : ℕ → List ℕ → Bool
   foundCommand r U = foundData r U && foundAt false (row-words * r + returns-word) (putData r U)
 
-  -- row r by its kind, but for a discriminator
+  -- the words of row r that a slot is of
+  abbrev pub putSlot : Slot → ℕ → List ℕ → List ℕ
+  putSlot (Word structs i) r U = putAt structs (row-words * r + i) U
+  putSlot Data r U = putData r U
+  putSlot Command r U = putCommand r U
+  putSlot Nothing r U = U
+
+  abbrev pub foundSlot : Slot → ℕ → List ℕ → Bool
+  foundSlot (Word structs i) r U = foundAt structs (row-words * r + i) U
+  foundSlot Data r U = foundData r U
+  foundSlot Command r U = foundCommand r U
+  foundSlot Nothing r U = true
+
+  -- row r by its kind
   unfoldable pub putRow : ℕ → List ℕ → List ℕ
-  putRow r U =
-      cond (eqb (kind U r) struct-kind) (putAt true (row-words * r + base-word) U)
-      (cond (eqb (kind U r) member-kind) (putAt false (row-words * r + type-word) U)
-      (cond (eqb (kind U r) union-kind) (putData r U)
-      (cond (eqb (kind U r) branch-kind) (putAt true (row-words * r + branch-word) U)
-      (cond (eqb (kind U r) alternative-kind) (putAt false (row-words * r + type-word) U)
-      (cond (eqb (kind U r) command-kind) (putCommand r U) U)))))
+  putRow r U = putSlot (slotOf (kind U r)) r U
 
   unfoldable pub foundRow : ℕ → List ℕ → Bool
-  foundRow r U =
-      cond (eqb (kind U r) struct-kind) (foundAt true (row-words * r + base-word) U)
-      (cond (eqb (kind U r) member-kind) (foundAt false (row-words * r + type-word) U)
-      (cond (eqb (kind U r) union-kind) (foundData r U)
-      (cond (eqb (kind U r) branch-kind) (foundAt true (row-words * r + branch-word) U)
-      (cond (eqb (kind U r) alternative-kind) (foundAt false (row-words * r + type-word) U)
-      (cond (eqb (kind U r) command-kind) (foundCommand r U) true)))))
+  foundRow r U = foundSlot (slotOf (kind U r)) r U
 
   -- the rows of T below row r
   unfoldable pub putRows : ℕ → List ℕ

@@ -2,6 +2,8 @@
 use buckets::BUCKETS;
 use buckets::first;
 use buckets::next;
+use builtins::FIRST_REFERENCE;
+use builtins::names::built_in;
 use rows::hashes::hash_of;
 use rows::names::name_of;
 use rows::names::part_of;
@@ -11,11 +13,10 @@ use rows::rows::word;
 use rules::SCHEMA_BYTES;
 use rules::kind;
 use rules::row;
-use table::names::built_in;
 ghost use mathlib.Core.Path.{_≡_};
 ghost use Prim.Native.Nat.{_<_, _^_};
 ghost use lib.ListN.{length};
-ghost use Rattle.rules.specs.Cells.{isNamed};
+ghost use Rattle.rules.specs.Serving.Cells.{isNamed};
 ghost use Rattle.references.specs.Lookups.{fitting, nameIn, Finds, Refers};
 
 // Whether a row of that kind may be meant: a struct alone, or any type.
@@ -106,5 +107,5 @@ pub fn referred(
     if link == 0 {
         return 0;
     }
-    link + 15
+    link - 1 + FIRST_REFERENCE
 }

@@ -6,20 +6,17 @@ pub mod slots;
 use crate::discriminators::put_discriminators;
 use crate::slots::resolve_rows;
 use buckets::BUCKETS;
-use table::names::index_definitions;
-ghost use Prim.Native.Nat.{_*_, _≤_, _<_, _^_};
+ghost use Prim.Native.Nat.{_<_, _^_};
 ghost use lib.ListN.{length};
-ghost use Rattle.grammar.specs.Limits.{row-words};
+ghost use Rattle.table.specs.Definitions.{DefinitionIndex};
 ghost use Rattle.references.specs.Resolves.{Resolves};
 
-// Resolves raw rows; tells whether every name found its row. The links are scratch, a word for each row.
-pub fn resolve(s: &[u8], rows: &mut [u32], links: &mut [u32]) -> bool
-    requires { ⌜ (length (now rows) < 2 ^ 32) × (length (now rows) ≤ row-words * length (now links)) × (length (now links) < 2 ^ 32) ⌝ }
+// Resolves raw rows by the index of their definitions; tells whether every name found its row.
+pub fn resolve(s: &[u8], rows: &mut [u32], heads: &[u32; BUCKETS], links: &[u32]) -> bool
+    requires { ⌜ (length (now rows) < 2 ^ 32) × DefinitionIndex (now s) (now rows) (now heads) (now links) ⌝ }
     ensures { λ r. ⌜ Resolves (now (s .entry)) (now (rows .entry)) (now (rows .exit)) r ⌝ }
 {
-    let mut heads = [0u32; BUCKETS];
-    index_definitions(s, rows, &mut heads, links);
-    let all = resolve_rows(s, rows, &heads, links);
+    let all = resolve_rows(s, rows, heads, links);
     put_discriminators(s, rows);
     all
 }

@@ -13,7 +13,7 @@ ghost use lib.ListN.{length};
 ghost use Rattle.grammar.specs.Limits.{row-words};
 ghost use Rattle.rules.specs.Rows.{rowCount};
 ghost use Rattle.table.specs.Definitions.{DefinitionIndex};
-ghost use Rattle.references.specs.Steps.{putAt, foundAt, putData, foundData, putCommand, foundCommand, putRow, foundRow, putRows, foundRows, Puts};
+ghost use Rattle.references.specs.Steps.{putAt, foundAt, putData, foundData, putCommand, foundCommand, slotOf, putRow, foundRow, putRows, foundRows, Puts};
 
 fn both(a: bool, b: bool) -> bool
     ensures { λ r. ⌜ r ≡ (a && b) ⌝ }
@@ -66,27 +66,39 @@ fn put_command(s: &[u8], rows: &mut [u32], heads: &[u32; BUCKETS], links: &[u32]
     both(a, b)
 }
 
+// What a row names by its words: a struct or any type, by one word; what a union or a command does; or nothing.
+enum Slot {
+    Word(bool, usize),
+    Data,
+    Command,
+    Nothing,
+}
+
+// What a row of kind k names, but for a discriminator.
+fn slot_of(k: u32) -> Slot
+    ensures { λ x. ⌜ x ≡ slotOf k ⌝ }
+{
+    match k {
+        kind::STRUCT => Slot::Word(true, row::BASE),
+        kind::MEMBER => Slot::Word(false, row::TYPE_REF),
+        kind::UNION => Slot::Data,
+        kind::BRANCH => Slot::Word(true, row::BRANCH_STRUCT),
+        kind::ALTERNATIVE => Slot::Word(false, row::TYPE_REF),
+        kind::COMMAND => Slot::Command,
+        _ => Slot::Nothing,
+    }
+}
+
 // The names that row r refers to, but for a discriminator; whether each found its row.
 fn resolve_row(s: &[u8], rows: &mut [u32], heads: &[u32; BUCKETS], links: &[u32], r: usize) -> bool
     requires { ⌜ (length (now rows) < 2 ^ 32) × (row-words * r + row-words ≤ length (now rows)) ⌝ }
     ensures { λ b. ⌜ Puts (now (s .entry)) (now (rows .entry)) (now (heads .entry)) (now (links .entry)) (λ T. putRow (now (s .entry)) T r) (λ T. foundRow (now (s .entry)) T r) (now (rows .exit)) b ⌝ }
 {
-    let k = word(rows, r, row::KIND);
-    match k {
-        kind::STRUCT => put(s, rows, heads, links, true, ROW_WORDS * r + row::BASE),
-        kind::MEMBER => put(s, rows, heads, links, false, ROW_WORDS * r + row::TYPE_REF),
-        kind::UNION => put_data(s, rows, heads, links, r),
-        kind::BRANCH => put(
-            s,
-            rows,
-            heads,
-            links,
-            true,
-            ROW_WORDS * r + row::BRANCH_STRUCT,
-        ),
-        kind::ALTERNATIVE => put(s, rows, heads, links, false, ROW_WORDS * r + row::TYPE_REF),
-        kind::COMMAND => put_command(s, rows, heads, links, r),
-        _ => true,
+    match slot_of(word(rows, r, row::KIND)) {
+        Slot::Word(structs, i) => put(s, rows, heads, links, structs, ROW_WORDS * r + i),
+        Slot::Data => put_data(s, rows, heads, links, r),
+        Slot::Command => put_command(s, rows, heads, links, r),
+        Slot::Nothing => true,
     }
 }
 

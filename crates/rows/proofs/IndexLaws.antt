@@ -1,8 +1,8 @@
 -- Names looked up in an index of rows: a walk along a chain, a row that comes into the index, and a run of rows from its last to its first.
 -- The idea: the rows left of a chain decide what all of them do; names that clash have one hash, so a bucket tells of all rows in the index.
-use Prim.{tt}
+use Prim.{Unit, tt}
 use Prim.Native.Nat.{ℕ, _-_, _≤_, _<_}
-use mathlib.Core.Path.{_≡_, refl, sym, ap, _∙_, subst}
+use mathlib.Core.Path.{_≡_, refl, sym, ap, _∙_}
 use mathlib.Core.Bool.{Bool, true, false, not, _&&_, and-true, and-false}
 use mathlib.Core.List.{List, [], _∷_}
 use native.Mathlib.Omega.{arith}
@@ -11,7 +11,9 @@ use borrow.Author.Tests.{not-false}
 use Rattle.grammar.specs.Notation.{all, apart}
 use Rattle.grammar.proofs.Booleans.{clash as contradiction}
 use Rattle.buckets.specs.Buckets.{buckets, bucketOf, Added, All, Free, Chain, inBucket}
-use Rattle.buckets.proofs.BucketLaws.{chain-end, chain-step, bucket-short, bucket-all, index-empty, index-walk, index-added}
+use Rattle.buckets.proofs.BucketLaws.{bucket-short, bucket-all, index-empty, index-walk, index-added}
+use Rattle.buckets.proofs.ChainWalks.{walk-start, walk-end, walk-out}
+use Rattle.buckets.proofs.ChainWalks as chain
 use Rattle.rules.specs.Names.{clash}
 use Rattle.rules.specs.Rows.{next, walk, past, nameOf}
 use Rattle.rules.specs.Rules.{namesOf}
@@ -24,60 +26,20 @@ use Rattle.rows.specs.Rows.{Follows}
 use Rattle.rows.proofs.ListLaws.{all-map, all-same, all-both, all-true}
 use Rattle.rows.proofs.LoopLaws.{walk-at, walk-over}
 
--- a walk along a chain, for what f says of its rows
+-- a walk along a chain of rows, for what f says of them
 module _ {A : Type 0} (f : List ℕ → A) (links : List ℕ) where
-  -- the rows from the word x on are left, no more than n
-  pub record Rest (rs : List ℕ) (x n : ℕ) : Type 0 where
-    pub rest : List ℕ
-    pub chain : Chain itself links x rest
-    pub short : length rest ≤ n
-    pub same-so : f rs ≡ f rest
+  abbrev pub Walk : ℕ → ℕ → ℕ → ℕ → Type 0
+  Walk = chain.Walk itself (λ _. Unit {0}) f links
 
-  pub record Walk (head most x n : ℕ) : Type 0 where
-    pub told : (rs : List ℕ) → Chain itself links head rs → length rs ≤ most → Rest rs x n
+  abbrev pub Says : ℕ → ℕ → A → Type 0
+  Says = chain.Says itself (λ _. Unit {0}) f links
 
-  -- f says that of the rows that follow the word `head`
-  pub record Says (head most : ℕ) (v : A) : Type 0 where
-    pub told : (rs : List ℕ) → Chain itself links head rs → length rs ≤ most → f rs ≡ v
+module _ {A : Type 0} {f : List ℕ → A} {links : List ℕ} {head most x n : ℕ} (w : Walk f links head most x n) where
+  pub walk-hit : 0 < x → (v : A) → ((rs : List ℕ) → f ((x - 1) ∷ rs) ≡ v) → Says f links head most v
+  walk-hit h v e = chain.walk-hit w h v (λ y ys p u. ap (λ r. f (r ∷ ys)) p ∙ e ys)
 
-  pub walk-start : {head most : ℕ} → Walk head most head most
-  walk-start = record { told = λ rs c n. record { rest = rs; chain = c; short = n; same-so = refl } }
-
-  module _ {head most x n : ℕ} (w : Walk head most x n) where
-    pub walk-hit : 0 < x → (v : A) → ((rs : List ℕ) → f ((x - 1) ∷ rs) ≡ v) → Says head most v
-    walk-hit h v e = record {
-      told = λ rs c m.
-          let z = w .told rs c m in
-          let y = chain-step itself links x (z .rest) h (z .chain) in
-          z .same-so ∙ ap f (y .items) ∙ ap (λ r. f (r ∷ y .rest)) (y .at) ∙ e (y .rest);
-    }
-
-    pub walk-on : {y : ℕ} → 0 < x → y ≡ getD links (x - 1) 0 → ((rs : List ℕ) → f ((x - 1) ∷ rs) ≡ f rs) → Walk head most y (n - 1)
-    walk-on h p e = record {
-      told = λ rs c m.
-          let z = w .told rs c m in
-          let y = chain-step itself links x (z .rest) h (z .chain) in
-          record {
-            rest = y .rest;
-            chain = subst (λ (k : ℕ). Chain itself links k (y .rest)) (sym p) (y .after);
-            short = omega (arith, z .short, ap length (y .items));
-            same-so = z .same-so ∙ ap f (y .items) ∙ ap (λ r. f (r ∷ y .rest)) (y .at) ∙ e (y .rest);
-          };
-    }
-
-    pub walk-end : x ≡ 0 → Says head most (f [])
-    walk-end e = record {
-      told = λ rs c m.
-          let z = w .told rs c m in
-          z .same-so ∙ ap f (chain-end itself links (z .rest) (subst (λ (k : ℕ). Chain itself links k (z .rest)) e (z .chain)));
-    }
-
-    pub walk-out : n ≤ 0 → Says head most (f [])
-    walk-out h = record { told = λ rs c m. let z = w .told rs c m in z .same-so ∙ ap f (nothing (z .rest) (omega (arith, z .short))) }
-      where
-        nothing : (rs : List ℕ) → length rs ≤ 0 → rs ≡ []
-        nothing [] g = refl
-        nothing (r ∷ rs) g = absurd (omega arith)
+  pub walk-on : {y : ℕ} → 0 < x → y ≡ getD links (x - 1) 0 → ((rs : List ℕ) → f ((x - 1) ∷ rs) ≡ f rs) → Walk f links head most y (n - 1)
+  walk-on h q e = chain.walk-on w h q (λ y ys p u. (tt, ap (λ r. f (r ∷ ys)) p ∙ e ys))
 
 -- a name x that is looked for
 pub record NameWalk (S T links x : List ℕ) (head y n : ℕ) : Type 0 where
@@ -85,23 +47,23 @@ pub record NameWalk (S T links x : List ℕ) (head y n : ℕ) : Type 0 where
 
 module _ {S T links x : List ℕ} {head : ℕ} where
   pub name-start : NameWalk S T links x head head (length links)
-  name-start = record { walk = walk-start (freshIn S T x) links }
+  name-start = record { walk = walk-start }
 
   listed-so : {b : Bool} → Says (freshIn S T x) links head (length links) b → Unlisted S T links head x b
-  listed-so s = record { told = λ rs c n. sym (s .told rs c n) }
+  listed-so s = record { told = λ rs c n. sym (s .told rs c n tt) }
 
   module _ {y n : ℕ} (w : NameWalk S T links x head y n) where
     pub listed-hit : {b : Bool} → 0 < y → b ≡ clash x (nameOf S T (y - 1)) → b ≡ true → Unlisted S T links head x false
-    listed-hit h p t = listed-so (walk-hit (freshIn S T x) links (w .walk) h false (λ rs. rw (sym p ∙ t)))
+    listed-hit h p t = listed-so (walk-hit (w .walk) h false (λ rs. rw (sym p ∙ t)))
 
     pub listed-on : {b : Bool} {k : ℕ} → 0 < y → b ≡ clash x (nameOf S T (y - 1)) → b ≡ false → k ≡ getD links (y - 1) 0 → NameWalk S T links x head k (n - 1)
-    listed-on h p t e = record { walk = walk-on (freshIn S T x) links (w .walk) h e (λ rs. rw (sym p ∙ t)) }
+    listed-on h p t e = record { walk = walk-on (w .walk) h e (λ rs. rw (sym p ∙ t)) }
 
     pub listed-end : y ≡ 0 → Unlisted S T links head x true
-    listed-end e = listed-so (walk-end (freshIn S T x) links (w .walk) e)
+    listed-end e = listed-so (walk-end (w .walk) e)
 
     pub listed-out : n ≤ 0 → Unlisted S T links head x true
-    listed-out h = listed-so (walk-out (freshIn S T x) links (w .walk) h)
+    listed-out h = listed-so (walk-out (w .walk) h)
 
 -- the empty index
 pub index-none : (S T links : List ℕ) {heads : List ℕ} → heads ≡ replicate buckets 0 → RowIndex S T heads links []
@@ -113,18 +75,22 @@ pub index-more : {S T heads links rs heads′ links′ : List ℕ} {m : ℕ} (r 
 index-more {S} {T} {heads} r k f h p a =
     record { wide = ap length (a .head) ∙ length-set heads _ _ ∙ k .wide; chains = index-added itself (rowHash S T) (k .chains) r (k .wide) h refl (sym p) f a }
 
+-- the rows of its bucket tell of a name what all do
+pub of-bucket : {S T links : List ℕ} {m head : ℕ} {x : List ℕ} {b : Bool} → m ≡ hashOf x → Unlisted S T links head x b → (rs : List ℕ)
+    → Chain itself links head (inBucket (rowHash S T) (bucketOf m) rs) → length rs ≤ length links → b ≡ freshIn S T x rs
+of-bucket {S} {T} {links} {m} {x = x} p u rs c h =
+    let few : length (inBucket (rowHash S T) (bucketOf m) rs) ≤ length links = omega (arith, bucket-short (rowHash S T) (bucketOf m) rs) in
+    u .told (inBucket (rowHash S T) (bucketOf m) rs) c few
+    ∙ all-map (nameOf S T) (λ y. not (clash x y)) (inBucket (rowHash S T) (bucketOf m) rs)
+    ∙ bucket-all (rowHash S T) (λ i. not (clash x (nameOf S T i))) m
+    (λ i e. sym (clash-hash x (nameOf S T i) (not-false (clash x (nameOf S T i)) e)) ∙ sym p) rs
+    ∙ sym (all-map (nameOf S T) (λ y. not (clash x y)) rs)
+
 -- row r is looked up, and comes into the index
 module _ {S T heads links : List ℕ} (r : ℕ) {m head : ℕ} {x : List ℕ} {b : Bool} (n : x ≡ nameOf S T r) (p : m ≡ hashOf x) (q : head ≡ getD heads (bucketOf m) 0)
     (u : Unlisted S T links head x b) where
   of-index : (rs : List ℕ) → RowIndex S T heads links rs → length rs ≤ length links → b ≡ freshIn S T (nameOf S T r) rs
-  of-index rs k h =
-      let few : length (inBucket (rowHash S T) (bucketOf m) rs) ≤ length links = omega (arith, bucket-short (rowHash S T) (bucketOf m) rs) in
-      u .told (inBucket (rowHash S T) (bucketOf m) rs) (index-walk itself (rowHash S T) (k .chains) m q) few
-      ∙ all-map (nameOf S T) (λ y. not (clash x y)) (inBucket (rowHash S T) (bucketOf m) rs)
-      ∙ bucket-all (rowHash S T) (λ i. not (clash x (nameOf S T i))) m
-      (λ i e. sym (clash-hash x (nameOf S T i) (not-false (clash x (nameOf S T i)) e)) ∙ sym p) rs
-      ∙ sym (all-map (nameOf S T) (λ y. not (clash x y)) rs)
-      ∙ ap (λ z. freshIn S T z rs) n
+  of-index rs k h = of-bucket p u rs (index-walk itself (rowHash S T) (k .chains) m q) h ∙ ap (λ z. freshIn S T z rs) n
 
   pub entered-not : b ≡ false → {heads′ links′ : List ℕ} → Entered S T heads links r heads′ links′ false
   entered-not t = record { told = λ rs k f h. (sym t ∙ of-index rs k h, λ e. contradiction e refl) }

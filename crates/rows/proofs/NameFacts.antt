@@ -11,13 +11,13 @@ use lib.Dec.{eqb, leb}
 use lib.ListN.{length, take, drop, getD, drop-of-length-le, length-drop}
 use lib.Seq.{take-nil, take-all, drop-cons}
 use borrow.Author.Tests.{eq-eqb, ne-eqb, le-leb, lt-leb}
-use Rattle.grammar.proofs.Booleans.{within-is, within-below, within-above, Outside}
+use Rattle.grammar.proofs.Booleans.{within-is, within-below, within-above, within-out, Outside}
 use Rattle.grammar.proofs.Booleans.Outside.{below, above}
 use Rattle.grammar.specs.Lexis.{blank}
-use Rattle.grammar.specs.Notation.{text, within, same, all}
-use Rattle.rules.specs.Names.{letter, digit, nameByte, goodName}
+use Rattle.grammar.specs.Notation.{text, within, same, all, digit}
+use Rattle.rules.specs.Names.{letter, nameByte, goodName}
 use Rattle.strings.proofs.Tables.{entry}
-use Rattle.strings.specs.Classes.{classOf, tabulate}
+use Rattle.strings.specs.Classes.{classOf, tabulate, digit-class, letter-class}
 use Rattle.rows.proofs.Walks.{upTo, upTo-of}
 
 -- n bytes from a on, or those that there are
@@ -41,28 +41,24 @@ same-upTo x y e =
     (λ i h. rw (drop-of-length-le x h, drop-of-length-le y (let g : length y ≤ i = omega arith in g))) 0
 
 -- name bytes by their class
-class-names : tabulate (λ b. within 6 7 (classOf b)) 0 256 ≡ tabulate nameByte 0 256
+class-names : tabulate (λ b. within digit-class letter-class (classOf b)) 0 256 ≡ tabulate nameByte 0 256
 unfolding classOf blank
 class-names = refl
 
-name-class : (b : ℕ) → b < 256 → within 6 7 (classOf b) ≡ nameByte b
-name-class b h = sym (entry (λ i. within 6 7 (classOf i)) 256 b false h) ∙ ap (λ l. getD l b false) class-names ∙ entry nameByte 256 b false h
+name-class : (b : ℕ) → b < 256 → within digit-class letter-class (classOf b) ≡ nameByte b
+name-class b h = sym (entry (λ i. within digit-class letter-class (classOf i)) 256 b false h) ∙ ap (λ l. getD l b false) class-names ∙ entry nameByte 256 b false h
 
 module _ {b c : ℕ} (h : b < 256) (e : c ≡ classOf b) where
-  pub class-name : 6 ≤ c → c ≤ 7 → true ≡ nameByte b
-  class-name l u = sym (within-is 6 7 c l u) ∙ ap (within 6 7) e ∙ name-class b h
+  pub class-name : digit-class ≤ c → c ≤ letter-class → true ≡ nameByte b
+  class-name l u = sym (within-is digit-class letter-class c l u) ∙ ap (within digit-class letter-class) e ∙ name-class b h
 
-  pub class-low : c < 6 → false ≡ nameByte b
-  class-low l = sym (within-below 6 7 c l) ∙ ap (within 6 7) e ∙ name-class b h
+  pub class-low : c < digit-class → false ≡ nameByte b
+  class-low l = sym (within-below digit-class letter-class c l) ∙ ap (within digit-class letter-class) e ∙ name-class b h
 
-  pub class-high : 7 < c → false ≡ nameByte b
-  class-high u = sym (within-above 6 7 c u) ∙ ap (within 6 7) e ∙ name-class b h
+  pub class-high : letter-class < c → false ≡ nameByte b
+  class-high u = sym (within-above digit-class letter-class c u) ∙ ap (within digit-class letter-class) e ∙ name-class b h
 
 -- classes of bytes
-within-out : (a e b : ℕ) → Outside a e b → within a e b ≡ false
-within-out a e b (below h) = within-below a e b h
-within-out a e b (above h) = within-above a e b h
-
 module _ (b : ℕ) where
   pub upper-letter : 65 ≤ b → b ≤ 90 → true ≡ letter b
   upper-letter h k = rw (within-is 65 90 b h k)

@@ -2,7 +2,7 @@
 -- What a loop is to find out is the test of every number from the start on, as soon as one step and the end say so (`upTo-of`).
 use Prim.Native.Nat.{ℕ, zero, suc, _+_, _-_, _≤_, _<_}
 use mathlib.Core.Path.{_≡_, refl, sym, ap, _∙_}
-use mathlib.Core.Bool.{Bool, true, false, not, _&&_, and-false}
+use mathlib.Core.Bool.{Bool, true, false, not, _&&_}
 use mathlib.Core.List.{List, [], _∷_}
 use native.Mathlib.Nat.{sub-zero}
 use native.Mathlib.Numerals.{add-one}
@@ -57,26 +57,6 @@ module _ (f : ℕ → Bool) (e : ℕ) (w : ℕ → Bool) (step : (i : ℕ) → i
       from : (n b : ℕ) → e - b ≡ n → w b ≡ all f (upFrom b n)
       from zero b k = end b (omega arith)
       from (suc n) b k = step b (omega arith) ∙ rw add-one (ap (λ t. f b && t) (from n (suc b) (omega arith)))
-
--- a loop from the last number to the first: what is so from b on, and one number that fails
-module _ (f : ℕ → Bool) (e : ℕ) where
-  pub upTo-back : (b : ℕ) → b < e → f b ≡ true → upTo f (b + 1) e ≡ true → upTo f b e ≡ true
-  unfolding upTo
-  upTo-back b h p q = rw (upFrom-on b e h, p, q)
-
-  pub upTo-none : (b : ℕ) → e ≤ b → upTo f b e ≡ true
-  upTo-none b h = sym (upTo-end f b e refl h)
-
-  upTo-fails : (b : ℕ) → b < e → upTo f (b + 1) e ≡ false → upTo f b e ≡ false
-  unfolding upTo
-  upTo-fails b h q = rw (upFrom-on b e h, q, and-false)
-
-  pub upTo-miss : (i b : ℕ) → b ≤ i → i < e → f i ≡ false → upTo f b e ≡ false
-  upTo-miss i b h k q = from (i - b) b refl h
-    where
-      from : (n b : ℕ) → i - b ≡ n → b ≤ i → upTo f b e ≡ false
-      from zero b z g = let s : i ≡ b = omega arith in sym (upTo-hit f b e refl (omega arith) (ap f (sym s) ∙ q))
-      from (suc n) b z g = upTo-fails b (omega arith) (from n (b + 1) (omega arith) (omega arith))
 
 pub upTo-rows : (f : ℕ → Bool) (T : List ℕ) → everyRow T f ≡ upTo f 0 (rowCount T)
 unfolding upTo

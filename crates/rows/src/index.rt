@@ -25,7 +25,7 @@ ghost use Rattle.rows.specs.Rows.{Room};
 const LONG: usize = 32;
 
 // Whether a name whose hash is given clashes with none of the rows that follow the word `head`.
-fn is_unlisted(
+pub fn is_unlisted(
     schema: &[u8],
     rows: &[u32],
     hashes: &[u32],
@@ -54,7 +54,7 @@ fn is_unlisted(
 }
 
 // Adds row r to an index unless its name clashes with one in it; tells whether it does with none.
-pub fn add_new(
+fn add_new(
     schema: &[u8],
     rows: &[u32],
     hashes: &[u32],

@@ -3,12 +3,13 @@ use crate::rows::wide;
 use crate::rows::word;
 use rules::NAME_BYTES;
 use rules::row;
+use strings::class;
 use strings::classes::class_in;
 ghost use mathlib.Core.Path.{_≡_};
 ghost use lib.ListN.{take, drop};
 ghost use mathlib.Core.Bool.{_&&_, _||_};
-ghost use Rattle.grammar.specs.Notation.{text, same, all};
-ghost use Rattle.rules.specs.Names.{letter, digit, nameByte, goodName, clash};
+ghost use Rattle.grammar.specs.Notation.{text, same, all, digit};
+ghost use Rattle.rules.specs.Names.{letter, nameByte, goodName, clash};
 ghost use Rattle.rules.specs.Rows.{nameOf};
 ghost use Rattle.strings.specs.Classes.{classOf, tabulate};
 
@@ -83,7 +84,7 @@ fn is_name_byte(classes: &[u8; 256], b: u8) -> bool
 {
     let c = class_in(classes, b);
     match c {
-        6..=7 => true,
+        class::DIGIT..=class::LETTER => true,
         _ => false,
     }
 }

@@ -2,6 +2,7 @@
 use rules::ROW_WORDS;
 use rules::kind;
 use rules::row;
+use words::word_of;
 ghost use mathlib.Core.Path.{_≡_};
 ghost use Prim.Native.Nat.{_+_, _-_, _*_, _≤_, _<_, _^_};
 ghost use Rattle.rules.specs.Rows as Rows;
@@ -18,14 +19,7 @@ pub fn wide(x: u32) -> usize
 pub fn word(rows: &[u32], r: usize, i: usize) -> u32
     ensures { λ w. ⌜ w ≡ Rows.word (now (rows .entry)) r i ⌝ }
 {
-    if rows.len() / ROW_WORDS < r {
-        return 0;
-    }
-    let at = ROW_WORDS * r;
-    if rows.len() - at <= i {
-        return 0;
-    }
-    rows[at + i]
+    word_of(rows, ROW_WORDS, r, i)
 }
 
 // The row after row r and what belongs to that row alone.

@@ -17,7 +17,8 @@ use Rattle.rules.specs.Envelope.{Asked}
 use Rattle.rules.specs.Readings.{Typed, strict, recordsOf}
 use Rattle.rules.specs.MessageAnswers.{AsksIn, ReadsAsked, MessageApplies, MessageOutcome, Readable, Held}
 use Rattle.rules.specs.MessageAnswers.MessageOutcome.{accepted, refused}
-use Rattle.rules.specs.Answers.{messageResult}
+use Rattle.rules.specs.Demands.{Gives}
+use Rattle.rules.specs.Serving.Answers.{messageResult}
 use Rattle.rules.proofs.SoundFacts.{sound-facts}
 use Rattle.rules.proofs.ReadingExact.{unique}
 use Rattle.rules.proofs.MessageOutcome.{true-of, same-asked, unrefused, message-outcome, message-outcome-only}
@@ -48,21 +49,11 @@ module _ (S T m : List ℕ) where
         not-lt : {a b : ℕ} → (a < b → ⊥) → b ≤ a
         not-lt {a} {b} f = elim (decLt a b) [ yes y ↦ absurd (f y) | no n ↦ omega arith ]
 
-    -- Demand 3: whatever comes as schema, table, message and room, the message is accepted exactly when it is readable and the room can hold the reading,
-    -- and the acceptance gives the command's row, the number of records in that reading, and the reading itself as the records, with zeros after it.
-    pub record Gives (c n : ℕ) (words : List ℕ) : Type 0 where
-      pub asked : Asked
-      pub reading : List Typed
-      pub readable-so : Readable S T m asked reading
-      pub held : Held room reading
-      pub row : c ≡ asked .second
-      pub count : n ≡ length reading
-      pub records : words ≡ recordsOf reading ++ replicate (room - length (recordsOf reading)) 0
-
-    pub accepted-gives : (c n : ℕ) → messageResult S T m room .answer ≡ Accepted c n → Gives c n (messageResult S T m room .words)
+    -- an acceptance gives the reading, as the words
+    pub accepted-gives : (c n : ℕ) → messageResult S T m room .answer ≡ Accepted c n → Gives S T m room c n (messageResult S T m room .words)
     accepted-gives c n e = go (message-outcome S T m room)
       where
-        go : MessageOutcome S T m room (messageResult S T m room .answer) (messageResult S T m room .words) → Gives c n (messageResult S T m room .words)
+        go : MessageOutcome S T m room (messageResult S T m room .answer) (messageResult S T m room .words) → Gives S T m room c n (messageResult S T m room .words)
         go (accepted {a} {ts} h g k p q) =
             let x : c ≡ a .second = cc in
             let y : n ≡ length ts = cc in

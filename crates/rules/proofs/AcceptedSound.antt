@@ -29,14 +29,14 @@ use Rattle.rules.specs.Rows.{upFrom, rowCount, kind, start, size, isUnio
 use Rattle.rules.specs.Rows as Rows
 use Rattle.rules.specs.Rules.{is, everyRow, unionFits, discriminatorFits, branchFits, goodNames, distinctNames, goodChains, goodUnions, goodAlternates, goodReturns}
 use Rattle.rules.specs.SchemaTable.{structLink, typeNamed, discriminatorLink, table, allRefer}
-use Rattle.rules.specs.RawTable.{Every, EveryName, Spans}
+use Rattle.rules.specs.Serving.RawTable.{EveryName, Spans}
 use Rattle.rules.specs.Sound.{sound, laidOut, restZero, referencesFit, toStruct}
 use Rattle.rules.specs.SchemaAnswers.{Says, Breaks, SchemaApplies}
 use Rattle.rules.specs.MessageAnswers.{messageOrder, MessageApplies, MessageOutcome}
 use Rattle.rules.specs.MessageAnswers.MessageOutcome.{accepted, refused}
-use Rattle.rules.specs.Answers.{schemaResult, messageResult}
-use Rattle.rules.specs.Cells.{Entry, blank, entries, wordsFrom, entryName, owns, EntryNames}
-use Rattle.rules.specs.Cells.Entry.{enumRow, alternateRow, valueRow, structRow, inlineRow, memberRow, unionRow, branchRow, alternativeRow, commandRow}
+use Rattle.rules.specs.Serving.Answers.{schemaResult, messageResult}
+use Rattle.rules.specs.Serving.Cells.{Entry, blank, entries, wordsFrom, entryName, owns, EntryNames}
+use Rattle.rules.specs.Serving.Cells.Entry.{enumRow, alternateRow, valueRow, structRow, inlineRow, memberRow, unionRow, branchRow, alternativeRow, commandRow}
 use Rattle.rules.proofs.Lists.{clash, none-not-some, and-left, and-right, and-of, or-cases, all-of, any-true, is-true, upFrom-bounds}
 use Rattle.rules.proofs.TableRows.{fit-child, laid-fit}
 use Rattle.rules.proofs.Cells.{table-words, length-words, entry-names, every-at, entries-follow, names-weaken}
@@ -44,7 +44,6 @@ use Rattle.rules.proofs.CellRows.{Behind, rows-are, start-is, size-is, 
 use Rattle.rules.proofs.CellLayout.{table-laid-out}
 use Rattle.rules.proofs.SoundFacts.{StructLink, every-one, to-struct, to-owned, base-refers}
 use Rattle.rules.proofs.EntryLinks.{row-is, EntryLinked, DiscriminatorLinked, rest-zero, references-fit, union-base}
-use Rattle.rules.proofs.DefinitionForms.{Formed, definitions-formed}
 use Rattle.rules.proofs.NameSpans.{names-within}
 use Rattle.rules.proofs.SchemaLinks.{entries-linked}
 use Rattle.rules.proofs.Refusals.{first-has}
@@ -67,7 +66,7 @@ name-within S (commandRow n a t oob) k = k .0 .within
 every-of : (T : List ℕ) (f : ℕ → Bool) → ((r : ℕ) → r < rowCount T → f r ≡ true) → everyRow T f ≡ true
 every-of T f h = all-of f (upFrom 0 (rowCount T)) (λ r m. h r (omega (arith, upFrom-bounds (rowCount T) 0 r m .1)))
 
-module _ (S : List ℕ) (ds : List Definition) (spans : EveryName (Spans S) ds) (formed : Every (λ (d : Definition). Formed (d .body)) ds) (refer : allRefer S ds ≡ true) where
+module _ (S : List ℕ) (ds : List Definition) (spans : EveryName (Spans S) ds) (refer : allRefer S ds ≡ true) where
   abbrev f : Name → ℕ
   f = structLink S ds
 
@@ -97,7 +96,7 @@ module _ (S : List ℕ) (ds : List Definition) (spans : EveryName (Spans S) ds) 
         (omega (arith, start-is f g h (entries ds) r l, size-is f g h (entries ds) r l, name-within S entry (every-at (EntryNames (Spans S)) blank (entries ds) (entry-names (Spans S) ds spans) r l)))
 
     linked : EntryLinked T f g entry
-    linked = every-at (EntryLinked T f g) blank (entries ds) (entries-linked S ds behind h formed refer) r l
+    linked = every-at (EntryLinked T f g) blank (entries ds) (entries-linked S ds behind h refer) r l
 
     owner : Rows.owns T r ≡ owns entry
     owner = owns-is f g h (entries ds) (entry-names Behind ds behind) (entries-follow ds blank refl) r l
@@ -190,7 +189,7 @@ unrefused-sound S room ds s none-applies =
     length S ≤ schema-bytes → rowCount W ≤ table-rows → goodNames S W ≡ true → distinctNames S W ≡ true → goodChains S W ≡ true → goodUnions S W ≡ true
     → goodAlternates S W ≡ true → goodReturns S W ≡ true → sound S W ≡ true)
     (sym (table-words (structLink S ds) (typeNamed S ds) (discriminatorLink S ds) 0 ds))
-    (sound-rows S ds (names-within S (s .objects) ds (s .is-text) (s .keeps-keys)) (definitions-formed (s .objects) ds (s .keeps-keys))
+    (sound-rows S ds (names-within S (s .objects) ds (s .is-text) (s .keeps-keys))
     (true-of (allRefer S ds) (λ e. none-applies R.UnknownName (ds, s, e))))
     (not-less (none-applies R.TooLong)) (not-less (λ l. none-applies R.TooManyRows (ds, s, l))) (keeps goodNames (none-applies R.BadName)) (keeps distinctNames (none-applies R.RepeatedName))
     (keeps goodChains (none-applies R.BadChain)) (keeps goodUnions (none-applies R.BadUnion)) (keeps goodAlternates (none-applies R.BadAlternate)) (keeps goodReturns (none-applies R.BadReturn))
@@ -198,7 +197,7 @@ unrefused-sound S room ds s none-applies =
     not-less : {a b : ℕ} → (a < b → ⊥) → b ≤ a
     not-less {a} {b} k = elim (decLt a b) [ yes y ↦ absurd (k y) | no y ↦ omega arith ]
 
--- 01, Rows: the table of an accepted schema is sound
+-- Reference, Sound tables: the table of an accepted schema is sound
 pub accepted-sound : (S : List ℕ) (room n : ℕ) → schemaResult S room .answer ≡ SA.Accepted n
     → (js : Items) × (ds : List Definition) × SchemaText S js × (definitions js ≡ some ds) × (n ≡ rowCount (table S ds)) × (sound S (table S ds) ≡ true)
 accepted-sound S room n e =
@@ -214,7 +213,7 @@ accepted-rows S room n e =
     let k : length W ≡ row-words * n = omega (arith, z .rows, whole-rows S (z .definitions)) in
     rw (z .written, take-at W (replicate (room - length W) 0) (row-words * n) k) (unrefused-sound S room (z .definitions) (z .said) (z .unrefused))
 
--- 01, Message answers 21: never over the rows of an accepted schema
+-- Reference, Message answers 21: never over the rows of an accepted schema
 pub never-unsound : (S : List ℕ) (room n : ℕ) → schemaResult S room .answer ≡ SA.Accepted n → (m : List ℕ) (lent : ℕ)
     → messageResult S (take (row-words * n) (schemaResult S room .words)) m lent .answer ≡ MA.Refused M.UnsoundTable → ⊥
 never-unsound S room n e m lent q = go (message-outcome S W m lent)

@@ -1,5 +1,5 @@
 -- The P table holds: every case of it is answered as it says, by the one theorem below.
--- The answers are computed; by SchemaOutcome and MessageOutcome they are the only ones that the paper's tables allow.
+-- The answers are computed; by SchemaOutcome and MessageOutcome they are the only ones that the reference's tables allow.
 use Prim.Native.Nat.{ℕ, _*_}
 use mathlib.Core.Path.{_≡_, refl}
 use mathlib.Core.List.{List, _∷_, _++_, map}
@@ -9,7 +9,7 @@ use Rattle.grammar.specs.Notation.{text}
 use Rattle.rules.specs.SchemaTable.{concat}
 use Rattle.rules.specs.SchemaAnswers as Schema
 use Rattle.rules.specs.MessageAnswers as Message
-use Rattle.rules.specs.Answers.{SchemaResult, MessageResult, schemaResult, messageResult}
+use Rattle.rules.specs.Serving.Answers.{SchemaResult, MessageResult, schemaResult, messageResult}
 use Rattle.rules.specs.Cases.{Answer, Call, Case, cases}
 
 -- the numbers of an answer and then every lent word

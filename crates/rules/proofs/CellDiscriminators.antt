@@ -12,15 +12,13 @@ use lib.ListN.{length, getD, set, take}
 use lib.Seq.{getD-take}
 use borrow.Author.Tests.{ltb-true, ltb-false}
 use Rattle.grammar.specs.Limits.{row-words}
-use Rattle.rules.specs.Definitions.{Name, TypeText, Data, Definition}
-use Rattle.rules.specs.Definitions.TypeText.{nothing, one, listOf}
-use Rattle.rules.specs.Definitions.Data.{absent, inline, named}
-use Rattle.rules.specs.SchemaTable.{typeOf, dataLink, tableFrom, memberIn, memberOf}
-use Rattle.rules.specs.RawTable.{EveryName}
+use Rattle.rules.specs.Definitions.{Name, Data, Definition}
+use Rattle.rules.specs.SchemaTable.{tableFrom, memberIn, memberInChain}
+use Rattle.rules.specs.Serving.RawTable.{EveryName}
 use Rattle.rules.specs.Rows.{rowCount, kind, count, base, next, walk, firstChild, childCount, children, members, after, nameOf}
 use Rattle.rules.specs.Rows as Rows
-use Rattle.rules.specs.Cells.{Entry, blank, entries, wordsOf, wordsFrom}
-use Rattle.rules.specs.Cells.Entry.{enumRow, alternateRow, valueRow, structRow, inlineRow, memberRow, unionRow, branchRow, alternativeRow, commandRow}
+use Rattle.rules.specs.Serving.Cells.{Entry, blank, entries, wordsOf, wordsFrom}
+use Rattle.rules.specs.Serving.Cells.Entry.{enumRow, alternateRow, valueRow, structRow, inlineRow, memberRow, unionRow, branchRow, alternativeRow, commandRow}
 use Rattle.rules.proofs.Lists.{none-not-some}
 use Rattle.rules.proofs.TableRows.{no-children, fit-child, laid-fit}
 use Rattle.rules.proofs.Lookups.{member-found}
@@ -82,23 +80,13 @@ module _ {U T : List ℕ} (a : Alike U T) where
   alike-member S x [] = refl
   alike-member S x (m ∷ ms) = rw (alike-name S m, alike-member S x ms)
 
-  pub alike-found : (S x : List ℕ) (o : Option (List ℕ)) → memberOf S U x o ≡ memberOf S T x o
+  pub alike-found : (S x : List ℕ) (o : Option (List ℕ)) → memberInChain S U x o ≡ memberInChain S T x o
   alike-found S x none = refl
   alike-found S x (some ms) = alike-member S x ms
 
 -- one entry's words, whatever its discriminator becomes
 module _ (f g : Name → ℕ) (h k : ℕ → Name → ℕ) where
-  type-word : (t : TypeText) → typeOf f g h t ≡ typeOf f g k t
-  type-word nothing = refl
-  type-word (one n) = refl
-  type-word (listOf n) = refl
-
-  data-word : (r : ℕ) (b : Data) → dataLink f g h r b ≡ dataLink f g k r b
-  data-word r absent = refl
-  data-word r (inline ms) = refl
-  data-word r (named n) = refl
-
-  -- the same where its discriminator, if it has one, becomes the same
+  -- the discriminator of an entry, if it has one, becomes the same number by h as by k
   abbrev pub SameDiscriminator : ℕ → Entry → Type 0
   SameDiscriminator r (enumRow n c) = Unit {0}
   SameDiscriminator r (alternateRow n c) = Unit {0}
@@ -115,13 +103,13 @@ module _ (f g : Name → ℕ) (h k : ℕ → Name → ℕ) where
   same-words r (enumRow n c) q = refl
   same-words r (alternateRow n c) q = refl
   same-words r (valueRow n) q = refl
-  same-words r (structRow n b c) q = rw (data-word r b)
+  same-words r (structRow n b c) q = refl
   same-words r (inlineRow c) q = refl
-  same-words r (memberRow m) q = rw (type-word (m .type))
-  same-words r (unionRow n b discriminator c) q = rw (data-word r b, q)
+  same-words r (memberRow m) q = refl
+  same-words r (unionRow n b discriminator c) q = rw q
   same-words r (branchRow p) q = refl
   same-words r (alternativeRow p) q = refl
-  same-words r (commandRow n b t oob) q = rw (data-word r b, type-word t)
+  same-words r (commandRow n b t oob) q = refl
 
   same-discriminator : (r : ℕ) (e : Entry) → ((n : Name) → h r n ≡ k r n) → SameDiscriminator r e
   same-discriminator r (enumRow n c) q = tt
@@ -143,7 +131,7 @@ module _ (f g : Name → ℕ) (h k : ℕ → Name → ℕ) where
 
   -- a union's words but for its discriminator
   pub union-words : (r : ℕ) (n : Name) (b : Data) (discriminator : Name) (c : ℕ) (l : List ℕ) → set (wordsOf f g h r (unionRow n b discriminator c) ++ l) 5 (k r discriminator) ≡ wordsOf f g k r (unionRow n b discriminator c) ++ l
-  union-words r n b discriminator c l = rw (data-word r b)
+  union-words r n b discriminator c l = refl
 
 -- all words but those of discriminators are the same: take the other's for a union
 module _ (f g : Name → ℕ) (h k : ℕ → Name → ℕ) where
@@ -151,13 +139,13 @@ module _ (f g : Name → ℕ) (h k : ℕ → Name → ℕ) where
   head-words r (enumRow n c) = refl
   head-words r (alternateRow n c) = refl
   head-words r (valueRow n) = refl
-  head-words r (structRow n b c) = ap (take 5) (same-words f g h k r (structRow n b c) tt)
+  head-words r (structRow n b c) = refl
   head-words r (inlineRow c) = refl
-  head-words r (memberRow m) = ap (take 5) (same-words f g h k r (memberRow m) tt)
-  head-words r (unionRow n b discriminator c) = rw (data-word f g h k r b)
+  head-words r (memberRow m) = refl
+  head-words r (unionRow n b discriminator c) = refl
   head-words r (branchRow p) = refl
   head-words r (alternativeRow p) = refl
-  head-words r (commandRow n b t oob) = ap (take 5) (same-words f g h k r (commandRow n b t oob) tt)
+  head-words r (commandRow n b t oob) = refl
 
   word-alike : (r i : ℕ) (e : Entry) → i < 5 → getD (wordsOf f g h r e) i 0 ≡ getD (wordsOf f g k r e) i 0
   word-alike r i e l =
@@ -211,13 +199,13 @@ module _ (f g : Name → ℕ) (h : ℕ → Name → ℕ) (ds : List Definition) 
           let z : ms ≡ ns ++ children T r = cc in
           ⊎-elim (k ns q m) (child-there r m) (List·Memᴰ·append-cases ns (subst (List·Memᴰ m) z i))
 
-  pub link-there : (S x : List ℕ) (n l : ℕ) → memberOf S T x (members T n l) ≤ rowCount T
+  pub link-there : (S x : List ℕ) (n l : ℕ) → memberInChain S T x (members T n l) ≤ rowCount T
   link-there S x n l = go (members T n l) refl
     where
       found : (ms : List ℕ) → members T n l ≡ some ms → (k : ℕ) → memberIn S T x ms ≡ k → k ≤ rowCount T
       found ms e zero q = zero-le
       found ms e (suc m) q = member-there n l ms e m (member-found S T x ms m q .0)
 
-      go : (o : Option (List ℕ)) → members T n l ≡ o → memberOf S T x o ≤ rowCount T
+      go : (o : Option (List ℕ)) → members T n l ≡ o → memberInChain S T x o ≤ rowCount T
       go none e = zero-le
       go (some ms) e = found ms e (memberIn S T x ms) refl

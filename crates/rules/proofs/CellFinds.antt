@@ -1,27 +1,28 @@
 -- Definitions in the table of a schema: their rows in order, and that a name is found among them as it is among the definitions.
 -- The idea: a definition's own entry is the only one of its entries that is a definition.
-use Prim.Native.Nat.{ℕ, zero, suc, _+_, _≤_, _<_}
+use Prim.Native.Nat.{ℕ, suc, _+_, _<_}
 use mathlib.Core.Path.{_≡_, refl, sym, ap, _∙_}
-use mathlib.Core.Bool.{Bool, true, false, cond, _&&_}
+use mathlib.Core.Bool.{Bool, true, false, cond}
 use mathlib.Core.List.{List, [], _∷_, _++_, map, List·Memᴰ, List·Memᴰ·head, List·Memᴰ·tail, List·Memᴰ·cases-cons}
+use mathlib.Core.Option.{Option, none, some}
 use mathlib.Core.Logic.{⊎-elim}
 use native.Mathlib.Nat.{add-zero}
 use native.Mathlib.Omega.{arith}
-use lib.ListN.{length, getD, length-append}
+use lib.ListN.{length, getD}
 use Rattle.rules.specs.Names.{sameName}
-use Rattle.rules.specs.Definitions.{Name, Data, Body, Definition}
-use Rattle.rules.specs.Definitions.Data.{absent, inline, named}
+use Rattle.rules.specs.Values.{_>>=_}
+use Rattle.rules.specs.Definitions.{Name, Member, Body, Definition}
 use Rattle.rules.specs.Definitions.Body.{enum, struct, union, alternate, command}
-use Rattle.rules.specs.SchemaTable.{rowsTaken, rowKind, tableFrom, bytesOf, findFrom}
-use Rattle.rules.specs.RawTable.{Every, EveryName}
+use Rattle.rules.specs.SchemaTable.{inlineMembers, rowsTaken, rowKind, tableFrom, bytesOf, findFrom}
+use Rattle.rules.specs.Serving.RawTable.{Every, EveryName}
 use Rattle.rules.specs.Rows.{upFrom, rowCount, kind, nameOf}
 use Rattle.rules.specs.Rules.{those, isDefinition}
-use Rattle.rules.specs.Cells.{Entry, blank, inlineEntries, ownEntry, childEntries, entries, wordsFrom, entryKind, entryName, isOwn, firstLink, isNamed}
-use Rattle.rules.specs.Cells.Entry.{valueRow, inlineRow, memberRow, branchRow, alternativeRow}
+use Rattle.rules.specs.Serving.Cells.{Entry, blank, inlineEntries, ownEntry, childEntries, entries, wordsFrom, entryKind, entryName, isOwn, firstLink, isNamed}
+use Rattle.rules.specs.Serving.Cells.Entry.{valueRow, memberRow, branchRow, alternativeRow}
 use Rattle.rules.proofs.Lists.{and-left, and-right, upFrom-bounds}
 use Rattle.rules.proofs.Cells.{length-children, table-words, every-append, every-is, entry-names}
 use Rattle.rules.proofs.CellRows.{Behind, rows-are, kind-is, name-is, definition-is}
-use Rattle.rules.proofs.CellLayout.{Stands, stands-whole, stands-head, stands-left, stands-right, stands-tail}
+use Rattle.rules.proofs.CellLayout.{Stands, stands-whole, stands-head, stands-right}
 
 -- the rows of definitions that begin at row r
 abbrev pub starts : ℕ → List Definition → List ℕ
@@ -35,19 +36,18 @@ ownFrom r (e ∷ es) = cond (isOwn e) (r ∷ ownFrom (suc r) es) (ownFrom (suc r
 pub Child : Entry → Type 0
 Child e = isOwn e ≡ false
 
-inline-children : (b : Data) → Every Child (inlineEntries b)
+inline-children : (i : Option (List Member)) → Every Child (inlineEntries i)
 unfolding Child
-inline-children absent = tt
-inline-children (inline ms) = (refl, every-is memberRow Child (λ _. refl) ms)
-inline-children (named n) = tt
+inline-children none = tt
+inline-children (some ms) = (refl, every-is memberRow Child (λ _. refl) ms)
 
 pub all-children : (b : Body) → Every Child (childEntries b)
 unfolding Child
 all-children (enum vs) = every-is valueRow Child (λ _. refl) vs
 all-children (struct b ms) = every-is memberRow Child (λ _. refl) ms
-all-children (union b discriminator bs) = every-append Child (inlineEntries b) (map branchRow bs) (inline-children b) (every-is branchRow Child (λ _. refl) bs)
+all-children (union b discriminator bs) = every-append Child (inlineEntries (inlineMembers b)) (map branchRow bs) (inline-children (inlineMembers b)) (every-is branchRow Child (λ _. refl) bs)
 all-children (alternate alts) = every-is alternativeRow Child (λ _. refl) alts
-all-children (command a t oob) = inline-children a
+all-children (command a t oob) = inline-children (a >>= inlineMembers)
 
 own-none : (xs : List Entry) → Every Child xs → (r : ℕ) (es : List Entry) → ownFrom r (xs ++ es) ≡ ownFrom (r + length xs) es
 unfolding Child

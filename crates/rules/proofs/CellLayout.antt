@@ -1,30 +1,31 @@
 -- The words of definitions are laid out: each definition is followed by its inline struct, if it has one, and its children.
 -- The idea: a part of the entries stands from a row on; a definition's rows are such parts, one after the other.
-use Prim.Native.Nat.{ℕ, zero, suc, _+_, _*_, _/_, _≤_, _<_}
+use Prim.Native.Nat.{ℕ, zero, suc, _+_, _≤_, _<_}
 use mathlib.Core.Path.{_≡_, refl, sym, ap, _∙_}
 use mathlib.Core.Bool.{Bool, true, false, not, cond, _&&_, _||_}
-use mathlib.Core.List.{List, [], _∷_, _++_, map, append-nil, List·Memᴰ}
+use mathlib.Core.List.{List, [], _∷_, _++_, map, append-nil}
+use mathlib.Core.Option.{Option, none, some}
 use native.Mathlib.Nat.{add-zero}
 use native.Mathlib.Omega.{arith}
 use lib.Dec.{eqb}
 use lib.ListN.{length, getD, length-append, List·getD-append}
 use lib.Seq.{getD-append-add}
-use borrow.Author.Tests.{eq-eqb, ne-eqb}
-use Rattle.rules.specs.Definitions.{Name, Data, Pair, Body, Definition}
-use Rattle.rules.specs.Definitions.Data.{absent, inline, named}
+use borrow.Author.Tests.{eq-eqb}
+use Rattle.rules.specs.Values.{_>>=_}
+use Rattle.rules.specs.Definitions.{Name, Member, Body, Definition}
 use Rattle.rules.specs.Definitions.Body.{enum, struct, union, alternate, command}
-use Rattle.rules.specs.SchemaTable.{tableFrom}
-use Rattle.rules.specs.RawTable.{Every, EveryName}
+use Rattle.rules.specs.SchemaTable.{inlineMembers, tableFrom}
+use Rattle.rules.specs.Serving.RawTable.{Every, EveryName}
 use Rattle.rules.specs.Rows.{rowCount, kind, count, walk, past, firstChild, childCount, children, pastChildren}
 use Rattle.rules.specs.Rows as Rows
 use Rattle.rules.specs.Rules.{isDefinition}
 use Rattle.rules.specs.Sound.{childrenFit, definitionAt, laidOut}
-use Rattle.rules.specs.Cells.{Entry, blank, inlineEntries, ownEntry, childEntries, entries, wordsOf, wordsFrom, entryKind, isInlineRow, isOwn, owns, isInlineData, entryChildren, EntryNames}
-use Rattle.rules.specs.Cells.Entry.{enumRow, alternateRow, valueRow, structRow, inlineRow, memberRow, unionRow, branchRow, alternativeRow, commandRow}
+use Rattle.rules.specs.Serving.Cells.{Entry, blank, inlineEntries, ownEntry, childEntries, entries, wordsOf, wordsFrom, entryKind, isOwn, owns, isInline, entryChildren, EntryNames}
+use Rattle.rules.specs.Serving.Cells.Entry.{enumRow, alternateRow, valueRow, structRow, inlineRow, memberRow, unionRow, branchRow, alternativeRow, commandRow}
 use Rattle.grammar.specs.Notation.{all}
-use Rattle.rules.proofs.Lists.{clash, and-left, and-of, or-right}
+use Rattle.rules.proofs.Lists.{and-of, or-right}
 use Rattle.rules.proofs.Cells.{length-map, table-words, entry-names, Follow, entries-follow}
-use Rattle.rules.proofs.CellRows.{Behind, word-is, rows-are, kind-is, next-is, owns-is, definition-is, definition-of}
+use Rattle.rules.proofs.CellRows.{Behind, word-is, rows-are, kind-is, next-is, owns-is, definition-is}
 
 -- the entries xs are those of es from row b on
 pub record Stands (es : List Entry) (b : ℕ) (xs : List Entry) : Type 0 where
@@ -106,63 +107,62 @@ module _ (f g : Name → ℕ) (h : ℕ → Name → ℕ) (es : List Entry) where
     owner-is a e xs b s o = let p = stands-head s in owns-is f g h es behind follow a (p .0) ∙ ap owns (p .1) ∙ o
 
     -- where the children of an entry begin: directly after it, or after its inline struct
-    first-is : (a : ℕ) (e : Entry) (b : Data) (xs : List Entry) → Stands es a (e ∷ inlineEntries b ++ xs) → owns e ≡ isInlineData b → firstChild T a ≡ suc a + length (inlineEntries b)
+    first-is : (a : ℕ) (e : Entry) (i : Option (List Member)) (xs : List Entry) → Stands es a (e ∷ inlineEntries i ++ xs) → owns e ≡ isInline i → firstChild T a ≡ suc a + length (inlineEntries i)
     unfolding firstChild
-    first-is a e absent xs s o = rw (owner-is a e xs false s o, next-is f g h es a, add-zero (suc a))
-    first-is a e (named n) xs s o = rw (owner-is a e xs false s o, next-is f g h es a, add-zero (suc a))
-    first-is a e (inline ms) xs s o =
+    first-is a e none xs s o = rw (owner-is a e xs false s o, next-is f g h es a, add-zero (suc a))
+    first-is a e (some ms) xs s o =
         let q = stands-head (stands-tail s) in
         let c : count T (suc a) ≡ length ms = word-is f g h es (suc a) 3 (q .0) (omega arith) ∙ ap (λ x. getD (wordsOf f g h (suc a) x) 3 0) (q .1) in
         let m : length (map memberRow ms) ≡ length ms = length-map memberRow ms in
-        rw (owner-is a e (inlineEntries (inline ms) ++ xs) true s o, next-is f g h es a, next-is f g h es (suc a), c, past-is (length ms) (suc (suc a))) (omega arith)
+        rw (owner-is a e (inlineEntries (some ms) ++ xs) true s o, next-is f g h es a, next-is f g h es (suc a), c, past-is (length ms) (suc (suc a))) (omega arith)
 
-    pub children-are : (a : ℕ) (e : Entry) (b : Data) (xs : List Entry) → Stands es a (e ∷ inlineEntries b ++ xs) → owns e ≡ isInlineData b
-        → children T a ≡ walk T (suc a + length (inlineEntries b)) (entryChildren e)
+    pub children-are : (a : ℕ) (e : Entry) (i : Option (List Member)) (xs : List Entry) → Stands es a (e ∷ inlineEntries i ++ xs) → owns e ≡ isInline i
+        → children T a ≡ walk T (suc a + length (inlineEntries i)) (entryChildren e)
     unfolding children
-    children-are a e b xs s o =
+    children-are a e i xs s o =
         let p = stands-head s in
-        rw (first-is a e b xs s o, child-count-is a (p .0), p .1)
+        rw (first-is a e i xs s o, child-count-is a (p .0), p .1)
 
-    children-fit : {A : Type 0} (a : ℕ) (e : Entry) (b : Data) (c : A → Entry) (xs : List A) → Stands es a (e ∷ inlineEntries b ++ map c xs) → owns e ≡ isInlineData b
+    children-fit : {A : Type 0} (a : ℕ) (e : Entry) (i : Option (List Member)) (c : A → Entry) (xs : List A) → Stands es a (e ∷ inlineEntries i ++ map c xs) → owns e ≡ isInline i
         → entryChildren e ≡ length xs → ((x : A) → entryKind (c x) ≡ suc (entryKind e)) → childrenFit T a ≡ true
-    children-fit a e b c xs s o n k =
+    children-fit a e i c xs s o n k =
         let p = stands-head s in
         let q : kind T a ≡ entryKind e = kind-is f g h es a (p .0) ∙ ap entryKind (p .1) in
-        rw (children-are a e b (map c xs) s o, n, q)
-        (kinds-fit c (suc (entryKind e)) k (suc a + length (inlineEntries b)) xs (stands-right (inlineEntries b) (map c xs) (stands-tail s)))
+        rw (children-are a e i (map c xs) s o, n, q)
+        (kinds-fit c (suc (entryKind e)) k (suc a + length (inlineEntries i)) xs (stands-right (inlineEntries i) (map c xs) (stands-tail s)))
 
-    inline-fits : (a : ℕ) (e : Entry) (b : Data) (xs : List Entry) → Stands es a (e ∷ inlineEntries b ++ xs) → owns e ≡ isInlineData b
+    inline-fits : (a : ℕ) (e : Entry) (i : Option (List Member)) (xs : List Entry) → Stands es a (e ∷ inlineEntries i ++ xs) → owns e ≡ isInline i
         → not (Rows.owns T a) || childrenFit T (Rows.next T a) ≡ true
-    inline-fits a e (inline ms) xs s o =
+    inline-fits a e (some ms) xs s o =
         or-right (not (Rows.owns T a)) (childrenFit T (Rows.next T a))
-        (rw (next-is f g h es a) (children-fit (suc a) (inlineRow (length ms)) absent memberRow ms (stands-left (inlineRow (length ms) ∷ map memberRow ms) xs (stands-tail s)) refl refl (λ _. refl)))
-    inline-fits a e absent xs s o = rw (owner-is a e xs false s o)
-    inline-fits a e (named n) xs s o = rw (owner-is a e xs false s o)
+        (rw (next-is f g h es a) (children-fit (suc a) (inlineRow (length ms)) none memberRow ms (stands-left (inlineRow (length ms) ∷ map memberRow ms) xs (stands-tail s)) refl refl (λ _. refl)))
+    inline-fits a e none xs s o = rw (owner-is a e xs false s o)
 
     -- one definition
-    laid-one : {A : Type 0} (a : ℕ) (e : Entry) (b : Data) (c : A → Entry) (xs : List A) → Stands es a (e ∷ inlineEntries b ++ map c xs) → owns e ≡ isInlineData b
+    laid-one : {A : Type 0} (a : ℕ) (e : Entry) (i : Option (List Member)) (c : A → Entry) (xs : List A) → Stands es a (e ∷ inlineEntries i ++ map c xs) → owns e ≡ isInline i
         → entryChildren e ≡ length xs → ((x : A) → entryKind (c x) ≡ suc (entryKind e)) → isOwn e ≡ true
-        → (definitionAt T a ≡ true) × (pastChildren T a ≡ a + suc (length (inlineEntries b ++ map c xs)))
+        → (definitionAt T a ≡ true) × (pastChildren T a ≡ a + suc (length (inlineEntries i ++ map c xs)))
     unfolding pastChildren
-    laid-one a e b c xs s o n k w =
+    laid-one a e i c xs s o n k w =
         let p = stands-head s in
         let q : isDefinition T a ≡ true = definition-is f g h es behind a (p .0) ∙ ap isOwn (p .1) ∙ w in
-        let fit = children-fit a e b c xs s o n k in
-        let i = inline-fits a e b (map c xs) s o in
-        let m : firstChild T a ≡ suc a + length (inlineEntries b) = first-is a e b (map c xs) s o in
+        let fit = children-fit a e i c xs s o n k in
+        let j = inline-fits a e i (map c xs) s o in
+        let m : firstChild T a ≡ suc a + length (inlineEntries i) = first-is a e i (map c xs) s o in
         let y : childCount T a ≡ length xs = child-count-is a (p .0) ∙ ap entryChildren (p .1) ∙ n in
-        let z : length (inlineEntries b ++ map c xs) ≡ length (inlineEntries b) + length xs = length-append (inlineEntries b) (map c xs) ∙ rw (length-map c xs) in
-        (rw (fit, i, q), past-is (childCount T a) (firstChild T a) ∙ omega arith)
+        let z : length (inlineEntries i ++ map c xs) ≡ length (inlineEntries i) + length xs = length-append (inlineEntries i) (map c xs) ∙ rw (length-map c xs) in
+        (rw (fit, j, q), past-is (childCount T a) (firstChild T a) ∙ omega arith)
 
     laid-body : (a : ℕ) (n : Name) (b : Body) → Stands es a (ownEntry n b ∷ childEntries b)
         → (definitionAt T a ≡ true) × (pastChildren T a ≡ a + suc (length (childEntries b)))
-    laid-body a n (enum vs) s = laid-one a (enumRow n (length vs)) absent valueRow vs s refl refl (λ _. refl) refl
-    laid-body a n (struct b ms) s = laid-one a (structRow n b (length ms)) absent memberRow ms s refl refl (λ _. refl) refl
-    laid-body a n (union b discriminator bs) s = laid-one a (unionRow n b discriminator (length bs)) b branchRow bs s refl refl (λ _. refl) refl
-    laid-body a n (alternate alts) s = laid-one a (alternateRow n (length alts)) absent alternativeRow alts s refl refl (λ _. refl) refl
+    laid-body a n (enum vs) s = laid-one a (enumRow n (length vs)) none valueRow vs s refl refl (λ _. refl) refl
+    laid-body a n (struct b ms) s = laid-one a (structRow n b (length ms)) none memberRow ms s refl refl (λ _. refl) refl
+    laid-body a n (union b discriminator bs) s = laid-one a (unionRow n b discriminator (length bs)) (inlineMembers b) branchRow bs s refl refl (λ _. refl) refl
+    laid-body a n (alternate alts) s = laid-one a (alternateRow n (length alts)) none alternativeRow alts s refl refl (λ _. refl) refl
     laid-body a n (command d t oob) s =
-        let z : inlineEntries d ++ [] ≡ inlineEntries d = append-nil (inlineEntries d) in
-        rw z at (laid-one {A = ⊥} a (commandRow n d t oob) d (λ x. absurd x) [] (rw z s) refl refl (λ x. absurd x) refl)
+        let i : Option (List Member) = d >>= inlineMembers in
+        let z : inlineEntries i ++ [] ≡ inlineEntries i = append-nil (inlineEntries i) in
+        rw z at (laid-one {A = ⊥} a (commandRow n d t oob) i (λ x. absurd x) [] (rw z s) refl refl (λ x. absurd x) refl)
 
     laid-end : (a n : ℕ) → a ≡ length es → laidOut T n a ≡ true
     unfolding laidOut

@@ -1,26 +1,25 @@
 -- What the words of entries say, row by row: kinds, names, inline structs, definitions, and where definitions are found.
 -- The idea: an inline struct is the only struct whose name has start 0, and it stands behind its owner alone.
-use Prim.Native.Nat.{ℕ, zero, suc, _+_, _*_, _/_, _≤_, _<_}
+use Prim.Native.Nat.{ℕ, suc, _+_, _*_, _≤_, _<_}
 use mathlib.Core.Path.{_≡_, refl, sym, ap, _∙_}
-use mathlib.Core.Bool.{Bool, true, false, not, cond, _&&_, _||_, and-false}
-use mathlib.Core.Logic.{⊎-elim}
-use mathlib.Core.List.{List, [], _∷_, _++_, map}
-use native.Mathlib.Nat.{add-zero}
+use mathlib.Core.Bool.{Bool, true, false, not, _&&_, _||_, and-false}
+use mathlib.Core.List.{List}
+use mathlib.Core.Option.{none, some}
 use native.Mathlib.Omega.{arith}
 use lib.Dec.{eqb, ltb}
 use lib.ListN.{length, getD, List·getD-eq-default}
 use borrow.Author.Tests.{eq-eqb, ne-eqb, ltb-true, ltb-false}
 use Rattle.grammar.specs.Limits.{row-words}
 use Rattle.rules.specs.Kinds.{enum-kind, struct-kind, union-kind, alternate-kind, command-kind}
-use Rattle.rules.specs.Definitions.{Name, Data}
-use Rattle.rules.specs.Definitions.Data.{absent, inline, named}
+use Rattle.rules.specs.Definitions.{Name}
+use Rattle.rules.specs.Definitions.Data.{inline, named}
 use Rattle.rules.specs.SchemaTable.{bytesOf}
-use Rattle.rules.specs.RawTable.{Every}
-use Rattle.rules.specs.Rows.{upFrom, rowCount, word, kind, start, size, isEnum, isStruct, isUnion, isAlternate, isCommand, nameOf}
+use Rattle.rules.specs.Serving.RawTable.{Every}
+use Rattle.rules.specs.Rows.{rowCount, kind, start, size, nameOf}
 use Rattle.rules.specs.Rows as Rows
-use Rattle.rules.specs.Rules.{those, isDefinition}
-use Rattle.rules.specs.Cells.{Entry, blank, wordsOf, wordsFrom, entryKind, entryName, isInlineRow, isOwn, owns, EntryNames}
-use Rattle.rules.specs.Cells.Entry.{enumRow, alternateRow, valueRow, structRow, inlineRow, memberRow, unionRow, branchRow, alternativeRow, commandRow}
+use Rattle.rules.specs.Rules.{isDefinition}
+use Rattle.rules.specs.Serving.Cells.{Entry, blank, wordsOf, wordsFrom, entryKind, entryName, isInlineRow, isOwn, owns, EntryNames}
+use Rattle.rules.specs.Serving.Cells.Entry.{enumRow, alternateRow, valueRow, structRow, inlineRow, memberRow, unionRow, branchRow, alternativeRow, commandRow}
 use Rattle.rules.proofs.Lists.{clash}
 use Rattle.rules.proofs.Cells.{entry-words, length-words, word-at, every-at, Follow, follow-at, follow-last}
 
@@ -62,11 +61,10 @@ module _ (f g : Name → ℕ) (h : ℕ → Name → ℕ) where
 
   owner-link : (r : ℕ) (p : Entry) → owns p ≡ true → linksOn r p ≡ true
   owner-link r (unionRow n (inline ms) discriminator k) o = rw (eq-eqb (suc (suc r)) (suc (suc r)) refl)
-  owner-link r (commandRow n (inline ms) t oob) o = rw (eq-eqb (suc (suc r)) (suc (suc r)) refl)
-  owner-link r (unionRow n absent discriminator k) o = absurd (clash o refl)
+  owner-link r (commandRow n (some (inline ms)) t oob) o = rw (eq-eqb (suc (suc r)) (suc (suc r)) refl)
   owner-link r (unionRow n (named m) discriminator k) o = absurd (clash o refl)
-  owner-link r (commandRow n absent t oob) o = absurd (clash o refl)
-  owner-link r (commandRow n (named m) t oob) o = absurd (clash o refl)
+  owner-link r (commandRow n none t oob) o = absurd (clash o refl)
+  owner-link r (commandRow n (some (named m)) t oob) o = absurd (clash o refl)
   owner-link r (enumRow n k) o = absurd (clash o refl)
   owner-link r (alternateRow n k) o = absurd (clash o refl)
   owner-link r (valueRow n) o = absurd (clash o refl)

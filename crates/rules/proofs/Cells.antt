@@ -4,36 +4,36 @@ use Prim.Native.Nat.{ℕ, zero, suc, _+_, _*_, _<_}
 use mathlib.Core.Path.{_≡_, refl, sym, ap, _∙_}
 use mathlib.Core.Bool.{false}
 use mathlib.Core.List.{List, [], _∷_, _++_, map, append-assoc}
+use mathlib.Core.Option.{Option, none, some}
 use native.Mathlib.Nat.{add-zero}
 use native.Mathlib.Omega.{arith}
 use lib.ListN.{length, getD, length-append, List·getD-append}
 use lib.Seq.{getD-append-add}
 use Rattle.grammar.specs.Limits.{row-words}
-use Rattle.rules.specs.Definitions.{Name, TypeText, Member, Data, Pair, Body, Definition}
-use Rattle.rules.specs.Definitions.TypeText.{nothing, one, listOf}
-use Rattle.rules.specs.Definitions.Data.{absent, inline, named}
+use Rattle.rules.specs.Values.{_>>=_}
+use Rattle.rules.specs.Definitions.{Name, Member, Data, Pair, Body, Definition}
+use Rattle.rules.specs.Definitions.Data.{inline, named}
 use Rattle.rules.specs.Definitions.Body.{enum, struct, union, alternate, command}
-use Rattle.rules.specs.SchemaTable.{dataRows, rowsTaken, row, concat, inlineStruct, rowsOf, tableFrom}
-use Rattle.rules.specs.RawTable.{Every, TypeNames, MemberNames, PairNames, DataNames, BodyNames, EveryName}
-use Rattle.rules.specs.Cells.{Entry, blank, inlineEntries, ownEntry, childEntries, entries, wordsOf, wordsFrom, entryKind, entryName, isInlineRow, owns, isInlineData, LinkNames, EntryNames}
-use Rattle.rules.specs.Cells.Entry.{enumRow, alternateRow, valueRow, structRow, inlineRow, memberRow, unionRow, branchRow, alternativeRow, commandRow}
+use Rattle.rules.specs.SchemaTable.{inlineMembers, inlineRows, rowsTaken, row, concat, inlineStruct, rowsOf, tableFrom}
+use Rattle.rules.specs.Serving.RawTable.{Every, IfThere, TypeNames, MemberNames, PairNames, DataNames, BodyNames, EveryName}
+use Rattle.rules.specs.Serving.Cells.{Entry, blank, inlineEntries, ownEntry, childEntries, entries, wordsOf, wordsFrom, entryKind, entryName, isInlineRow, owns, isInline, EntryNames}
+use Rattle.rules.specs.Serving.Cells.Entry.{enumRow, alternateRow, valueRow, structRow, inlineRow, memberRow, unionRow, branchRow, alternativeRow, commandRow}
 
 -- as many entries as rows
 pub length-map : {A B : Type 0} (f : A → B) (xs : List A) → length (map f xs) ≡ length xs
 length-map f [] = refl
 length-map f (x ∷ xs) = ap suc (length-map f xs)
 
-length-inline : (b : Data) → length (inlineEntries b) ≡ dataRows b
-length-inline absent = refl
-length-inline (inline ms) = ap suc (length-map memberRow ms)
-length-inline (named n) = refl
+length-inline : (o : Option (List Member)) → length (inlineEntries o) ≡ inlineRows o
+length-inline none = refl
+length-inline (some ms) = ap suc (length-map memberRow ms)
 
 pub length-children : (b : Body) → suc (length (childEntries b)) ≡ rowsTaken b
 length-children (enum vs) = ap suc (length-map valueRow vs)
 length-children (struct b ms) = ap suc (length-map memberRow ms)
-length-children (union b discriminator bs) = ap suc (length-append (inlineEntries b) (map branchRow bs) ∙ rw (length-inline b, length-map branchRow bs))
+length-children (union b discriminator bs) = ap suc (length-append (inlineEntries (inlineMembers b)) (map branchRow bs) ∙ rw (length-inline (inlineMembers b), length-map branchRow bs))
 length-children (alternate alts) = ap suc (length-map alternativeRow alts)
-length-children (command a t oob) = ap suc (length-inline a)
+length-children (command a t oob) = ap suc (length-inline (a >>= inlineMembers))
 
 module _ (f g : Name → ℕ) (h : ℕ → Name → ℕ) where
   -- entries after entries
@@ -51,11 +51,10 @@ module _ (f g : Name → ℕ) (h : ℕ → Name → ℕ) where
   words-children c w e r [] = refl
   words-children c w e r (x ∷ xs) = rw (e r x, words-children c w e (suc r) xs)
 
-  words-inline : (r : ℕ) (b : Data) → inlineStruct f g h b ≡ wordsFrom f g h r (inlineEntries b)
+  words-inline : (r : ℕ) (o : Option (List Member)) → inlineStruct g o ≡ wordsFrom f g h r (inlineEntries o)
   unfolding wordsFrom
-  words-inline r absent = refl
-  words-inline r (inline ms) = rw (words-children memberRow (λ m. wordsOf f g h 0 (memberRow m)) (λ _ _. refl) (suc r) ms)
-  words-inline r (named n) = refl
+  words-inline r none = refl
+  words-inline r (some ms) = rw (words-children memberRow (λ m. wordsOf f g h 0 (memberRow m)) (λ _ _. refl) (suc r) ms)
 
   words-definition : (r : ℕ) (n : Name) (b : Body) → rowsOf f g h r n b ≡ wordsFrom f g h r (ownEntry n b ∷ childEntries b)
   unfolding wordsFrom
@@ -63,12 +62,12 @@ module _ (f g : Name → ℕ) (h : ℕ → Name → ℕ) where
   words-definition r n (struct b ms) = rw (words-children memberRow (λ m. wordsOf f g h 0 (memberRow m)) (λ _ _. refl) (suc r) ms)
   words-definition r n (union b discriminator bs) =
       rw (
-        words-append (suc r) (inlineEntries b) (map branchRow bs),
-        words-inline (suc r) b,
-        words-children branchRow (λ p. wordsOf f g h 0 (branchRow p)) (λ _ _. refl) (suc r + length (inlineEntries b)) bs,
+        words-append (suc r) (inlineEntries (inlineMembers b)) (map branchRow bs),
+        words-inline (suc r) (inlineMembers b),
+        words-children branchRow (λ p. wordsOf f g h 0 (branchRow p)) (λ _ _. refl) (suc r + length (inlineEntries (inlineMembers b))) bs,
       )
   words-definition r n (alternate alts) = rw (words-children alternativeRow (λ p. wordsOf f g h 0 (alternativeRow p)) (λ _ _. refl) (suc r) alts)
-  words-definition r n (command a t oob) = rw (words-inline (suc r) a)
+  words-definition r n (command a t oob) = rw (words-inline (suc r) (a >>= inlineMembers))
 
   -- the table is the words of the entries
   pub table-words : (r : ℕ) (ds : List Definition) → tableFrom f g h r ds ≡ wordsFrom f g h r (entries ds)
@@ -136,31 +135,34 @@ pub every-is : {A B : Type 0} (c : A → B) (Q : B → Type 0) → ((x : A) → 
 every-is c Q k [] = tt
 every-is c Q k (x ∷ xs) = (k x, every-is c Q k xs)
 
-module _ (P : Name → Type 0) where
-  link-names : (b : Data) → DataNames P b → LinkNames P b
-  link-names absent p = tt
-  link-names (inline ms) p = tt
-  link-names (named n) p = p
+every-imply : {A : Type 0} (P Q : A → Type 0) → ((x : A) → P x → Q x) → (xs : List A) → Every P xs → Every Q xs
+every-imply P Q k [] p = tt
+every-imply P Q k (x ∷ xs) p = (k x (p .0), every-imply P Q k xs (p .1))
 
-  inline-names : (b : Data) → DataNames P b → Every (EntryNames P) (inlineEntries b)
-  inline-names absent p = tt
+pub if-imply : {A : Type 0} (P Q : A → Type 0) → ((x : A) → P x → Q x) → (o : Option A) → IfThere P o → IfThere Q o
+if-imply P Q k none p = tt
+if-imply P Q k (some x) p = k x p
+
+module _ (P : Name → Type 0) where
+  inline-names : (b : Data) → DataNames P b → Every (EntryNames P) (inlineEntries (inlineMembers b))
   inline-names (inline ms) p = (tt, every-map memberRow (MemberNames P) (EntryNames P) (λ m q. q) ms p)
   inline-names (named n) p = tt
 
   own-names : (n : Name) (b : Body) → P n → BodyNames P b → EntryNames P (ownEntry n b)
   own-names n (enum vs) p q = p
-  own-names n (struct b ms) p q = (p, link-names b (q .0))
-  own-names n (union b discriminator bs) p q = (p, link-names b (q .0), q .1)
+  own-names n (struct b ms) p q = (p, q .0)
+  own-names n (union b discriminator bs) p q = (p, q .0, q .1)
   own-names n (alternate alts) p q = p
-  own-names n (command a t oob) p q = (p, link-names a (q .0), q .1)
+  own-names n (command a t oob) p q = (p, q .0, q .1)
 
   child-names : (b : Body) → BodyNames P b → Every (EntryNames P) (childEntries b)
   child-names (enum vs) q = every-map valueRow P (EntryNames P) (λ v p. p) vs q
   child-names (struct b ms) q = every-map memberRow (MemberNames P) (EntryNames P) (λ m p. p) ms (q .1)
   child-names (union b discriminator bs) q =
-      every-append (EntryNames P) (inlineEntries b) (map branchRow bs) (inline-names b (q .0)) (every-map branchRow (PairNames P) (EntryNames P) (λ m p. p) bs (q .2))
+      every-append (EntryNames P) (inlineEntries (inlineMembers b)) (map branchRow bs) (inline-names b (q .0)) (every-map branchRow (PairNames P) (EntryNames P) (λ m p. p) bs (q .2))
   child-names (alternate alts) q = every-map alternativeRow (PairNames P) (EntryNames P) (λ m p. p) alts q
-  child-names (command a t oob) q = inline-names a (q .0)
+  child-names (command none t oob) q = tt
+  child-names (command (some a) t oob) q = inline-names a (q .0)
 
   pub entry-names : (ds : List Definition) → EveryName P ds → Every (EntryNames P) (entries ds)
   unfolding entries
@@ -171,38 +173,27 @@ module _ (P : Name → Type 0) where
 
 -- names that have one property have another that it gives
 module _ {P Q : Name → Type 0} (k : (n : Name) → P n → Q n) where
-  type-weaken : (t : TypeText) → TypeNames P t → TypeNames Q t
-  type-weaken nothing p = tt
-  type-weaken (one n) p = k n p
-  type-weaken (listOf n) p = k n p
-
   members-weaken : (ms : List Member) → Every (MemberNames P) ms → Every (MemberNames Q) ms
-  members-weaken [] p = tt
-  members-weaken (m ∷ ms) p = ((k (m .name) (p .0 .0), type-weaken (m .type) (p .0 .1)), members-weaken ms (p .1))
+  members-weaken = every-imply (MemberNames P) (MemberNames Q) (λ m p. (k (m .name) (p .0), k (m .type .name) (p .1)))
 
   pairs-weaken : (ps : List Pair) → Every (PairNames P) ps → Every (PairNames Q) ps
-  pairs-weaken [] q = tt
-  pairs-weaken (p ∷ ps) q = ((k (p .name) (q .0 .0), k (p .type) (q .0 .1)), pairs-weaken ps (q .1))
-
-  list-weaken : (ns : List Name) → Every P ns → Every Q ns
-  list-weaken [] p = tt
-  list-weaken (n ∷ ns) p = (k n (p .0), list-weaken ns (p .1))
+  pairs-weaken = every-imply (PairNames P) (PairNames Q) (λ p q. (k (p .name) (q .0), k (p .type) (q .1)))
 
   data-weaken : (b : Data) → DataNames P b → DataNames Q b
-  data-weaken absent p = tt
   data-weaken (inline ms) p = members-weaken ms p
   data-weaken (named n) p = k n p
 
   body-weaken : (b : Body) → BodyNames P b → BodyNames Q b
-  body-weaken (enum vs) p = list-weaken vs p
-  body-weaken (struct b ms) p = (data-weaken b (p .0), members-weaken ms (p .1))
+  body-weaken (enum vs) p = every-imply P Q k vs p
+  body-weaken (struct b ms) p = (if-imply P Q k b (p .0), members-weaken ms (p .1))
   body-weaken (union b discriminator bs) p = (data-weaken b (p .0), k discriminator (p .1), pairs-weaken bs (p .2))
   body-weaken (alternate alts) p = pairs-weaken alts p
-  body-weaken (command a t oob) p = (data-weaken a (p .0), type-weaken t (p .1))
+  body-weaken (command a t oob) p = (if-imply (DataNames P) (DataNames Q) data-weaken a (p .0), if-imply (TypeNames P) (TypeNames Q) (λ x. k (x .name)) t (p .1))
 
   pub names-weaken : (ds : List Definition) → EveryName P ds → EveryName Q ds
-  names-weaken [] p = tt
-  names-weaken (d ∷ ds) p = ((k (d .name) (p .0 .0), body-weaken (d .body) (p .0 .1)), names-weaken ds (p .1))
+  names-weaken =
+      every-imply (λ (d : Definition). P (d .name) × BodyNames P (d .body)) (λ (d : Definition). Q (d .name) × BodyNames Q (d .body))
+      (λ d p. (k (d .name) (p .0), body-weaken (d .body) (p .1)))
 
 pub every-at : {A : Type 0} (Q : A → Type 0) (d : A) (xs : List A) → Every Q xs → (j : ℕ) → j < length xs → Q (getD xs j d)
 every-at Q d [] p j h = absurd (omega arith)
@@ -224,19 +215,18 @@ module _ {A : Type 0} (c : A → Entry) (plain : (x : A) → (isInlineRow (c x) 
 abbrev Begins : List Entry → Type 0
 Begins es = (q : Entry) → owns q ≡ false → Follow q es
 
-follow-inline : (p : Entry) (b : Data) (es : List Entry) → owns p ≡ isInlineData b → Begins es → Follow p (inlineEntries b ++ es)
-follow-inline p absent es o k = k p o
-follow-inline p (inline ms) es o k = (sym o, follow-map memberRow (λ _. (refl, refl)) (inlineRow (length ms)) ms es refl k)
-follow-inline p (named n) es o k = k p o
+follow-inline : (p : Entry) (i : Option (List Member)) (es : List Entry) → owns p ≡ isInline i → Begins es → Follow p (inlineEntries i ++ es)
+follow-inline p none es o k = k p o
+follow-inline p (some ms) es o k = (sym o, follow-map memberRow (λ _. (refl, refl)) (inlineRow (length ms)) ms es refl k)
 
 follow-body : (n : Name) (b : Body) (es : List Entry) → Begins es → Follow (ownEntry n b) (childEntries b ++ es)
 follow-body n (enum vs) es k = follow-map valueRow (λ _. (refl, refl)) (enumRow n (length vs)) vs es refl k
 follow-body n (struct b ms) es k = follow-map memberRow (λ _. (refl, refl)) (structRow n b (length ms)) ms es refl k
 follow-body n (union b discriminator bs) es k =
-    rw (append-assoc (inlineEntries b) (map branchRow bs) es)
-    (follow-inline (unionRow n b discriminator (length bs)) b (map branchRow bs ++ es) refl (λ q o. follow-map branchRow (λ _. (refl, refl)) q bs es o k))
+    rw (append-assoc (inlineEntries (inlineMembers b)) (map branchRow bs) es)
+    (follow-inline (unionRow n b discriminator (length bs)) (inlineMembers b) (map branchRow bs ++ es) refl (λ q o. follow-map branchRow (λ _. (refl, refl)) q bs es o k))
 follow-body n (alternate alts) es k = follow-map alternativeRow (λ _. (refl, refl)) (alternateRow n (length alts)) alts es refl k
-follow-body n (command a t oob) es k = follow-inline (commandRow n a t oob) a es refl k
+follow-body n (command a t oob) es k = follow-inline (commandRow n a t oob) (a >>= inlineMembers) es refl k
 
 own-plain : (n : Name) (b : Body) → isInlineRow (ownEntry n b) ≡ false
 own-plain n (enum vs) = refl
@@ -250,7 +240,7 @@ unfolding entries
 entries-follow [] p o = o
 entries-follow (d ∷ ds) p o = (own-plain (d .name) (d .body) ∙ sym o, follow-body (d .name) (d .body) (entries ds) (entries-follow ds))
 
--- the same by places: row j and the next
+-- by places: the entry after entry j is an inline struct exactly when entry j owns one
 pub follow-at : (p : Entry) (es : List Entry) → Follow p es → (j : ℕ) → suc j < length es → isInlineRow (getD es (suc j) blank) ≡ owns (getD es j blank)
 follow-at p [] k j h = absurd (omega arith)
 follow-at p (e ∷ []) k j h = absurd (omega arith)

@@ -17,7 +17,7 @@ module _ (T : List ℕ) where
     ends : Chain 0 0
     goes-on : {r n : ℕ} → Chain (base T r) n → Chain (suc r) (suc n)
 
-  -- the same, and not too many
+  -- the chain of bases from a link on ends, after at most so many structs
   pub record ChainWithin (most link : ℕ) : Type 0 where
     pub structs : ℕ
     pub chain : Chain link structs

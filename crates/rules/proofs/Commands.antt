@@ -13,7 +13,7 @@ use Rattle.rules.specs.Kinds.{command-kind}
 use Rattle.rules.specs.Names.{sameName}
 use Rattle.rules.specs.Rows.{rowCount, kind, isCommand, nameOf}
 use Rattle.rules.specs.Envelope.{Names}
-use Rattle.rules.specs.Answers.{commandFrom}
+use Rattle.rules.specs.Serving.Answers.{commandFrom}
 use Rattle.rules.proofs.Lists.{clash, and-left, and-right, and-of, same-true, same-refl}
 
 module _ (S T x : List ℕ) where

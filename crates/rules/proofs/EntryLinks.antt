@@ -4,20 +4,22 @@ use Prim.Native.Nat.{ℕ, suc, _-_, _<_}
 use mathlib.Core.Path.{_≡_, refl}
 use mathlib.Core.Bool.{Bool, true, false, _&&_, _||_}
 use mathlib.Core.List.{List}
+use mathlib.Core.Option.{Option, none, some}
 use native.Mathlib.Omega.{arith}
 use lib.Dec.{eqb, ltb}
 use lib.ListN.{length, getD}
 use borrow.Author.Tests.{eq-eqb}
 use Rattle.rules.specs.Kinds.{member-kind, union-kind}
+use Rattle.rules.specs.Values.{_>>=_, ifAbsent}
 use Rattle.rules.specs.Definitions.{Name, TypeText, Data}
-use Rattle.rules.specs.Definitions.TypeText.{nothing, one, listOf}
-use Rattle.rules.specs.Definitions.Data.{absent, inline, named}
+use Rattle.rules.specs.Definitions.Data.{inline, named}
 use Rattle.rules.specs.Rows.{word, kind, unionBase, discriminator}
 use Rattle.rules.specs.Rows as Rows
-use Rattle.rules.specs.SchemaTable.{flag, isList, typeOf, dataLink}
-use Rattle.rules.specs.Sound.{restZero, referencesFit, isFlag, toStruct, toType}
-use Rattle.rules.specs.Cells.{Entry, blank, wordsOf, wordsFrom, isInlineData, owns}
-use Rattle.rules.specs.Cells.Entry.{enumRow, alternateRow, valueRow, structRow, inlineRow, memberRow, unionRow, branchRow, alternativeRow, commandRow}
+use Rattle.rules.specs.SchemaTable.{inlineMembers, flag, listFlag, typeOf, dataLink}
+use Rattle.rules.specs.Serving.RawTable.{IfThere}
+use Rattle.rules.specs.Sound.{restZero, memberLinked, unionLinked, dataLinked, commandLinked, referencesFit, isFlag, toStruct, toType}
+use Rattle.rules.specs.Serving.Cells.{Entry, blank, wordsOf, wordsFrom, isInline, owns}
+use Rattle.rules.specs.Serving.Cells.Entry.{enumRow, alternateRow, valueRow, structRow, inlineRow, memberRow, unionRow, branchRow, alternativeRow, commandRow}
 use Rattle.rules.proofs.Lists.{clash, or-left, or-right}
 use Rattle.rules.proofs.CellRows.{word-is}
 
@@ -41,79 +43,55 @@ row-is f g h es r l = record {
 }
 
 module _ (T : List ℕ) (f g : Name → ℕ) where
-  -- a type that must be given, a return that may be absent
-  abbrev pub TypeLinked : TypeText → Type 0
-  TypeLinked nothing = ⊥
-  TypeLinked (one n) = toType T (g n) ≡ true
-  TypeLinked (listOf n) = toType T (g n) ≡ true
+  -- what a name that refers became is a reference to a type, or a link to a struct
+  abbrev pub TypeLinked : Name → Type 0
+  TypeLinked n = toType T (g n) ≡ true
 
-  abbrev pub ReturnLinked : TypeText → Type 0
-  ReturnLinked nothing = Unit {0}
-  ReturnLinked (one n) = toType T (g n) ≡ true
-  ReturnLinked (listOf n) = toType T (g n) ≡ true
-
-  -- a struct's base, which is never written out; a union's, which is never absent; a command's data
-  abbrev pub BaseLinked : Data → Type 0
-  BaseLinked absent = Unit {0}
-  BaseLinked (inline ms) = ⊥
-  BaseLinked (named n) = toStruct T (f n) ≡ true
-
-  abbrev pub UnionLinked : Data → Type 0
-  UnionLinked absent = ⊥
-  UnionLinked (inline ms) = Unit {0}
-  UnionLinked (named n) = toStruct T (f n) ≡ true
+  abbrev pub StructLinked : Name → Type 0
+  StructLinked n = toStruct T (f n) ≡ true
 
   abbrev pub DataLinked : Data → Type 0
-  DataLinked absent = Unit {0}
   DataLinked (inline ms) = Unit {0}
-  DataLinked (named n) = toStruct T (f n) ≡ true
+  DataLinked (named n) = StructLinked n
 
   -- every name of the entry that refers became a reference to a fitting row; but for a discriminator, on which number 9 decides
   abbrev pub EntryLinked : Entry → Type 0
   EntryLinked (enumRow n c) = Unit {0}
   EntryLinked (valueRow n) = Unit {0}
-  EntryLinked (structRow n b c) = BaseLinked b
+  EntryLinked (structRow n b c) = IfThere StructLinked b
   EntryLinked (inlineRow c) = Unit {0}
-  EntryLinked (memberRow m) = TypeLinked (m .type)
-  EntryLinked (unionRow n b d c) = UnionLinked b
-  EntryLinked (branchRow p) = toStruct T (f (p .type)) ≡ true
+  EntryLinked (memberRow m) = TypeLinked (m .type .name)
+  EntryLinked (unionRow n b d c) = DataLinked b
+  EntryLinked (branchRow p) = StructLinked (p .type)
   EntryLinked (alternateRow n c) = Unit {0}
-  EntryLinked (alternativeRow p) = toType T (g (p .type)) ≡ true
-  EntryLinked (commandRow n a t oob) = DataLinked a × ReturnLinked t
+  EntryLinked (alternativeRow p) = TypeLinked (p .type)
+  EntryLinked (commandRow n a t oob) = IfThere DataLinked a × IfThere (λ (x : TypeText). TypeLinked (x .name)) t
 
   is-flag : (b : Bool) → isFlag T (flag b) ≡ true
   is-flag true = refl
   is-flag false = refl
 
+  -- the words of an entry that is linked refer to what they should
+  return-linked : (t : Option TypeText) → IfThere (λ (x : TypeText). TypeLinked (x .name)) t
+      → (eqb (ifAbsent 0 (typeOf g) t) 0 && eqb (ifAbsent 0 listFlag t) 0 || toType T (ifAbsent 0 (typeOf g) t) && isFlag T (ifAbsent 0 listFlag t)) ≡ true
+  return-linked none k = refl
+  return-linked (some x) k = or-right (eqb (typeOf g x) 0 && eqb (listFlag x) 0) (toType T (typeOf g x) && isFlag T (listFlag x)) (rw (k, is-flag (x .list)))
+
+  base-linked : (b : Option Name) → IfThere StructLinked b → (eqb (ifAbsent 0 f b) 0 || toStruct T (ifAbsent 0 f b)) ≡ true
+  base-linked none k = refl
+  base-linked (some n) k = or-right (eqb (f n) 0) (toStruct T (f n)) k
+
+  union-linked : (r : ℕ) (b : Data) → DataLinked b → Rows.owns T r ≡ isInline (inlineMembers b) → (Rows.owns T r || toStruct T (dataLink f r b)) ≡ true
+  union-linked r (inline ms) k i = rw i
+  union-linked r (named n) k i = or-right (Rows.owns T r) (toStruct T (f n)) k
+
+  data-linked : (r : ℕ) (a : Option Data) → IfThere DataLinked a → Rows.owns T r ≡ isInline (a >>= inlineMembers)
+      → (eqb (ifAbsent 0 (dataLink f r) a) 0 || Rows.owns T r || toStruct T (ifAbsent 0 (dataLink f r) a)) ≡ true
+  data-linked r none k i = refl
+  data-linked r (some (inline ms)) k i = let l = suc (suc r) in or-left (eqb l 0 || Rows.owns T r) (toStruct T l) (or-right (eqb l 0) (Rows.owns T r) i)
+  data-linked r (some (named n)) k i = or-right (eqb (f n) 0 || Rows.owns T r) (toStruct T (f n)) k
+
   module _ (h : ℕ → Name → ℕ) where
-    -- the same of the words
-    type-linked : (t : TypeText) → TypeLinked t → toType T (typeOf f g h t) ≡ true
-    type-linked nothing k = absurd k
-    type-linked (one n) k = k
-    type-linked (listOf n) k = k
-
-    return-linked : (t : TypeText) → ReturnLinked t
-        → (eqb (typeOf f g h t) 0 && eqb (flag (isList t)) 0 || toType T (typeOf f g h t) && isFlag T (flag (isList t))) ≡ true
-    return-linked nothing k = refl
-    return-linked (one n) k = or-right (eqb (g n) 0 && true) (toType T (g n) && true) (rw k)
-    return-linked (listOf n) k = or-right (eqb (g n) 0 && false) (toType T (g n) && true) (rw k)
-
-    base-linked : (r : ℕ) (b : Data) → BaseLinked b → (eqb (dataLink f g h r b) 0 || toStruct T (dataLink f g h r b)) ≡ true
-    base-linked r absent k = refl
-    base-linked r (inline ms) k = absurd k
-    base-linked r (named n) k = or-right (eqb (f n) 0) (toStruct T (f n)) k
-
-    union-linked : (r : ℕ) (b : Data) → UnionLinked b → Rows.owns T r ≡ isInlineData b → (Rows.owns T r || toStruct T (dataLink f g h r b)) ≡ true
-    union-linked r absent k i = absurd k
-    union-linked r (inline ms) k i = rw i
-    union-linked r (named n) k i = or-right (Rows.owns T r) (toStruct T (f n)) k
-
-    data-linked : (r : ℕ) (a : Data) → DataLinked a → Rows.owns T r ≡ isInlineData a
-        → (eqb (dataLink f g h r a) 0 || Rows.owns T r || toStruct T (dataLink f g h r a)) ≡ true
-    data-linked r absent k i = refl
-    data-linked r (inline ms) k i = let l = suc (suc r) in or-left (eqb l 0 || Rows.owns T r) (toStruct T l) (or-right (eqb l 0) (Rows.owns T r) i)
-    data-linked r (named n) k i = or-right (eqb (f n) 0 || Rows.owns T r) (toStruct T (f n)) k
-
     -- unused words are 0
     pub rest-zero : (r : ℕ) (e : Entry) → RowIs T r (wordsOf f g h r e) → restZero T r ≡ true
     rest-zero r (enumRow n c) w = rw (w .word-0) (rw (w .word-4, w .word-5, w .word-6, w .word-7))
@@ -132,12 +110,13 @@ module _ (T : List ℕ) (f g : Name → ℕ) where
     DiscriminatorLinked r = kind T r ≡ union-kind → (ltb 0 (discriminator T r) && eqb (kind T (discriminator T r - 1)) member-kind) ≡ true
 
     pub references-fit : (r : ℕ) (e : Entry) → RowIs T r (wordsOf f g h r e) → EntryLinked e → Rows.owns T r ≡ owns e → DiscriminatorLinked r → referencesFit T r ≡ true
+    unfolding memberLinked unionLinked dataLinked commandLinked
     references-fit r (enumRow n c) w k i t = rw (w .word-0)
     references-fit r (valueRow n) w k i t = rw (w .word-0)
-    references-fit r (structRow n b c) w k i t = rw (w .word-0) (rw (w .word-4, base-linked r b k))
+    references-fit r (structRow n b c) w k i t = rw (w .word-0) (rw (w .word-4, base-linked b k))
     references-fit r (inlineRow c) w k i t = rw (w .word-0) (rw (w .word-4))
     references-fit r (memberRow m) w k i t =
-        rw (w .word-0) (rw (w .word-3, w .word-4, w .word-5, type-linked (m .type) k, is-flag (isList (m .type)), is-flag (m .optional)))
+        rw (w .word-0) (rw (w .word-3, w .word-4, w .word-5, k, is-flag (m .type .list), is-flag (m .optional)))
     references-fit r (unionRow n b d c) w k i t = rw (w .word-0) (rw (w .word-3, union-linked r b k i, t (w .word-0)))
     references-fit r (branchRow p) w k i t = rw (w .word-0) (rw (w .word-3, k))
     references-fit r (alternateRow n c) w k i t = rw (w .word-0)
@@ -146,7 +125,7 @@ module _ (T : List ℕ) (f g : Name → ℕ) where
         rw (w .word-0) (rw (w .word-3, w .word-4, w .word-5, w .word-6, data-linked r a (k .0) i, is-flag oob, return-linked x (k .1)))
 
     -- a union's base is its own inline struct or a struct that has a name
-    no-union : {A : Type 0} {a k : ℕ} → a ≡ k → a ≡ 5 → eqb k union-kind ≡ false → A
+    no-union : {A : Type 0} {a k : ℕ} → a ≡ k → a ≡ union-kind → eqb k union-kind ≡ false → A
     no-union {k = k} p q e = let z : k ≡ union-kind = cc in clash (eq-eqb k union-kind z) e
 
     pub union-base : (r : ℕ) (e : Entry) → RowIs T r (wordsOf f g h r e) → EntryLinked e → Rows.owns T r ≡ owns e → kind T r ≡ union-kind

@@ -8,7 +8,7 @@ use mathlib.Core.List.{List, [], _∷_, List·Memᴰ, List·Memᴰ·cases-cons, 
 use mathlib.Core.Option.{none, some}
 use lib.ListN.{drop, getElem?}
 use Rattle.rules.specs.Refusals.{FirstOf}
-use Rattle.rules.specs.Answers.{first}
+use Rattle.rules.specs.Serving.Answers.{first}
 use Rattle.rules.proofs.Lists.{clash, none-not-some}
 
 -- a test that is not true is false

@@ -1,19 +1,20 @@
 -- The JSON kinds of the built-ins and of type references: what the grid lets through has the kind that its row says.
 -- The idea: one computed test over the whole grid, carried to each entry; past the grid's end `getD` gives the default.
-use Prim.Native.Nat.{ℕ, _+_, _-_, _<_, zero-le}
+use Prim.Native.Nat.{ℕ, _+_, _-_, _≤_, _<_, zero-le}
 use mathlib.Core.Path.{_≡_, refl, sym, ap, _∙_}
-use mathlib.Core.Bool.{Bool, true, false, not, cond, _||_}
+use mathlib.Core.Bool.{Bool, true, false, not, cond, _||_, and-false}
 use mathlib.Core.List.{List, [], _∷_, List·Memᴰ, List·Memᴰ·head, List·Memᴰ·tail}
 use mathlib.Core.Option.{none, some}
 use native.Mathlib.Omega.{arith}
 use lib.Dec.{ltb}
 use lib.ListN.{getD, List·getD-eq-default}
 use borrow.Author.Tests.{eqb-true, eqb-false, lt-ltb, le-ltb, ltb-true, ltb-false}
-use Rattle.grammar.specs.Limits.{first-row}
 use Rattle.grammar.specs.Notation.{all}
-use Rattle.grammar.specs.Tree.{Scalar, Kind, scalarKind}
+use Rattle.grammar.specs.Tree.{Json, Kind, kindOf}
+use Rattle.grammar.specs.Tree.Scalar.{null, bool, num, str}
+use Rattle.grammar.specs.Tree.Json.{leaf, arr, obj}
 use Rattle.grammar.specs.Tree.Kind.{object, array, string, number, boolean, null-kind}
-use Rattle.rules.specs.Types.{built-in-kinds, column, sameKind, takesKind, grid, takes, valueFits, builtInTakes}
+use Rattle.rules.specs.Types.{first-row, built-in-kinds, column, sameKind, takesKind, grid, takes, any-type, isBuiltIn, valueInRange, builtInTakes}
 use Rattle.rules.specs.Rows.{upFrom, isEnum, isStruct, isUnion, typeKind}
 use Rattle.rules.proofs.Lists.{clash, and-left, or-implies, all-true, in-upFrom}
 
@@ -54,9 +55,26 @@ takes-below t k h = go (ltb t first-row) refl
     go true e = ltb-true t first-row e
     go false e = absurd (clash h (rw (List·getD-eq-default ([] ∷ grid) [] {n = t} (ltb-false t first-row e))))
 
-pub grid-takes : (t : ℕ) (v : Scalar) → builtInTakes t v ≡ true → takes t (scalarKind v) ≡ true
+pub grid-takes : (t : ℕ) (j : Json) → builtInTakes t j ≡ true → takes t (kindOf j) ≡ true
 unfolding builtInTakes
-grid-takes t v h = and-left (takes t (scalarKind v)) (valueFits t v) h
+grid-takes t j h = and-left (takes t (kindOf j)) (valueInRange t j) h
+
+-- only built-ins take anything, no row does, and any takes every value
+pub takes-built-in : (t : ℕ) (k : Kind) → takes t k ≡ true → isBuiltIn t ≡ true
+unfolding takes
+takes-built-in t k h = or-implies (takes t k) (isBuiltIn t) (grid-entry (λ u j. not (takes u j) || isBuiltIn u) refl t k (takes-below t k h)) h
+
+pub row-no-built-in : (t : ℕ) → first-row ≤ t → isBuiltIn t ≡ false
+row-no-built-in t l = rw (le-ltb t first-row l) (and-false (ltb 0 t))
+
+pub any-takes : (j : Json) → builtInTakes any-type j ≡ true
+unfolding builtInTakes takes
+any-takes (leaf a e null) = refl
+any-takes (leaf a e (bool b)) = refl
+any-takes (leaf a e (num i token)) = refl
+any-takes (leaf a e (str cs)) = refl
+any-takes (arr a e js) = refl
+any-takes (obj a e fs) = refl
 
 takes-kind : (t : ℕ) (k : Kind) → takes t k ≡ true → takesKind (getD (none ∷ built-in-kinds) t none) k ≡ true
 unfolding takes

@@ -19,10 +19,12 @@ pub mod NoQuotedDigits
 pub mod SchemaOutcome
 pub mod Commands
 pub mod MessageOutcome
+pub mod Lowest
 pub mod Acceptance
+pub mod Arguments
 pub mod ReadingOrder
+pub mod EnoughRoom
 pub mod DefinitionForms
-pub mod CellBases
 pub mod NameSpans
 pub mod EntryLinks
 pub mod SchemaLinks

@@ -18,7 +18,7 @@ use Rattle.rules.specs.Rows.{typeRef, optional, branchStruct, nameOf, ty
 use Rattle.rules.specs.Rules.{is}
 use Rattle.rules.specs.SchemaTable.{memberIn}
 use Rattle.rules.specs.Readings.{Mandatory}
-use Rattle.rules.specs.ReadingOf.{ofKind, branchLink, mandatoryThere}
+use Rattle.rules.specs.Serving.ReadingOf.{ofKind, branchLink, mandatoryThere}
 use Rattle.rules.proofs.Lists.{clash, none-not-some, or-implies, same-true, same-is, all-true, all-of, is-true, key-there}
 use Rattle.rules.proofs.Grid.{same-kind}
 

@@ -15,9 +15,9 @@ use Rattle.grammar.specs.Tree.{Json}
 use Rattle.grammar.specs.Tree.Items.{no-items, item}
 use Rattle.grammar.specs.Keys.{keysOnce}
 use Rattle.grammar.specs.MessageText.{MessageText}
-use Rattle.grammar.specs.Machine.{Out}
-use Rattle.grammar.specs.Machine.Out.{whole, fault, deep}
-use Rattle.grammar.specs.Machine.Message.{readMessage}
+use Rattle.grammar.specs.Serving.Machine.{Out}
+use Rattle.grammar.specs.Serving.Machine.Out.{whole, fault, deep}
+use Rattle.grammar.specs.Serving.Machine.Message.{readMessage}
 use Rattle.grammar.proofs.Texts.{message-text, message-item, message-deeper, message-unique, message-valid-or-deep}
 use Rattle.rules.specs.declared.MessageRefusal.{MessageRefusal}
 use Rattle.rules.specs.declared.MessageRefusal.the-variants as M
@@ -30,7 +30,7 @@ use Rattle.rules.specs.Readings.{Typed, strict, recordsOf}
 use Rattle.rules.specs.Refusals.{FirstOf}
 use Rattle.rules.specs.MessageAnswers.{messageOrder, Encloses, AsksIn, ReadsAsked, MessageApplies, MessageOutcome, Readable, Held}
 use Rattle.rules.specs.MessageAnswers.MessageOutcome.{accepted, refused}
-use Rattle.rules.specs.Answers.{MessageResult, commandOf, Asking.asks, Asking.refuses, commandAsking, envelopeAsking, asking, askedReading, refusedBy, acceptedWith, readingResult, askedResult, valueResult, textResult, soundResult, messageResult}
+use Rattle.rules.specs.Serving.Answers.{MessageResult, commandOf, Asking.asks, Asking.refuses, commandAsking, envelopeAsking, asking, askedReading, refusedBy, acceptedWith, readingResult, askedResult, valueResult, textResult, soundResult, messageResult}
 use Rattle.rules.proofs.Lists.{clash, none-not-some}
 use Rattle.rules.proofs.Refusals.{first-has, first-only}
 use Rattle.rules.proofs.SoundFacts.{sound-facts}

@@ -3,170 +3,164 @@
 use Prim.Native.Nat.{ℕ, _+_, _≤_}
 use Prim.Native.Char.{code}
 use native.Mathlib.Omega.{arith}
-use mathlib.Core.Path.{_≡_, refl}
+use mathlib.Core.Path.{_≡_}
 use mathlib.Core.Bool.{Bool, true, false, cond}
 use mathlib.Core.List.{List, [], _∷_}
-use mathlib.Core.Option.{Option, some}
+use mathlib.Core.Option.{Option, none, some}
 use lib.Dec.{eqb}
 use lib.ListN.{length}
 use Rattle.grammar.specs.Notation.{text, same}
-use Rattle.grammar.specs.Tree.{Json, Items, Fields, kindOf}
+use Rattle.grammar.specs.Tree.{Json, Items, Fields}
 use Rattle.grammar.specs.Tree.Scalar.{null, bool, num, str}
 use Rattle.grammar.specs.Tree.Json.{leaf, arr, obj}
 use Rattle.grammar.specs.Tree.Items.{no-items, item}
 use Rattle.grammar.specs.Tree.Fields.{no-fields, field}
-use Rattle.grammar.specs.Tree.Kind.{string}
 use Rattle.grammar.specs.SchemaText.{SchemaText}
 use Rattle.grammar.proofs.Spans.{Placed, PlacedItems, PlacedFields, schema-placed}
-use Rattle.rules.specs.Types.{sameKind}
-use Rattle.rules.specs.Values.{_>>=_, asItems, asFields, valueAt}
-use Rattle.rules.specs.Definitions.{Name, TypeText, Member, Data, Pair, Body, Definition, quoted, asName, asType, listType, names, starred, memberOf, members, pairs, asNames, asMembers, asPairs, asStructName, asData, must, may, definitions}
-use Rattle.rules.specs.Definitions.TypeText.{nothing, one, listOf}
-use Rattle.rules.specs.Definitions.Data.{absent, inline, named}
-use Rattle.rules.specs.Definitions.Body.{enum, struct, union, alternate, command}
-use Rattle.rules.specs.RawTable.{Every, TypeNames, MemberNames, PairNames, DataNames, BodyNames, EveryName, Spans}
-use Rattle.rules.proofs.Lists.{none-not-some}
-use Rattle.rules.proofs.SchemaOutcome.{bind-some}
-use Rattle.rules.proofs.DefinitionForms.{HasBody, HasBody.an-enum, HasBody.a-struct, HasBody.a-union, HasBody.an-alternate, HasBody.a-command, Defines, Among, Among.first, Among.later, every-definition, must-be, may-be}
+use Rattle.rules.specs.Values.{_>>=_, asItems, asFields, asFlag, valueAt}
+use Rattle.rules.specs.Definitions.{Name, TypeText, Body, Definition, quoted, nameOr, asName, asType, listType, starred, keyedMember, asMember, asPair, eachItem, eachField}
+use Rattle.rules.specs.Definitions.{asNames, asMembers, asPairs, asData, may, enumBody, structBody, unionBody, alternateBody, commandBody, asDefinition, definitions}
+use Rattle.rules.specs.Definitions.Data.{inline, named}
+use Rattle.rules.specs.Serving.RawTable.{Every, IfThere, TypeNames, MemberNames, PairNames, DataNames, BodyNames, EveryName, Spans}
+use Rattle.rules.proofs.Cells.{if-imply}
+use Rattle.rules.proofs.DefinitionForms.{if-then, if-may, trivial, of-some, Both, if-definition}
 
 module _ (S : List ℕ) where
-  name-given : (j : Json) → Placed (length S) j → (n : Name) → asName j ≡ some n → Spans S n
-  name-given (leaf a e (str cs)) (h, g) n p =
-      let z : n ≡ quoted a e = cc in
-      rw z (record { behind = omega arith; within = omega arith })
-  name-given (leaf a e null) h n p = none-not-some p
-  name-given (leaf a e (bool b)) h n p = none-not-some p
-  name-given (leaf a e (num i t)) h n p = none-not-some p
-  name-given (arr a e js) h n p = none-not-some p
-  name-given (obj a e fs) h n p = none-not-some p
+  -- what a shape gives of a value that is placed has the property
+  abbrev Gives : {A : Type 0} → (A → Type 0) → (Json → Option A) → Type 0
+  Gives P shape = (j : Json) → Placed (length S) j → IfThere P (shape j)
 
-  list-given : (js : Items) → PlacedItems (length S) js → (t : TypeText) → listType js ≡ some t → TypeNames (Spans S) t
-  list-given no-items h t p = none-not-some p
-  list-given (item j no-items) h t p =
-      let z = bind-some (asName j) (λ n. some (listOf n)) t p in
-      let y : t ≡ listOf (z .0) = cc (z .2) in
-      rw y (name-given j (h .0) (z .0) (z .1))
-  list-given (item j (item k js)) h t p = none-not-some p
+  name-or : {A : Type 0} (P : A → Type 0) (f : Name → A) (other : Json → Option A) → ((n : Name) → Spans S n → P (f n)) → Gives P other → Gives P (nameOr f other)
+  name-or P f other k g (leaf a e (str cs)) (h, l) = k (quoted a e) (record { behind = omega arith; within = omega arith })
+  name-or P f other k g (leaf a e null) h = g (leaf a e null) h
+  name-or P f other k g (leaf a e (bool b)) h = g (leaf a e (bool b)) h
+  name-or P f other k g (leaf a e (num i t)) h = g (leaf a e (num i t)) h
+  name-or P f other k g (arr a e js) h = g (arr a e js) h
+  name-or P f other k g (obj a e fs) h = g (obj a e fs) h
 
-  type-given : (j : Json) → Placed (length S) j → (t : TypeText) → asType j ≡ some t → TypeNames (Spans S) t
-  type-given (leaf a e (str cs)) h t p = let z : t ≡ one (quoted a e) = cc in rw z (name-given (leaf a e (str cs)) h (quoted a e) refl)
-  type-given (leaf a e null) h t p = none-not-some p
-  type-given (leaf a e (bool b)) h t p = none-not-some p
-  type-given (leaf a e (num i v)) h t p = none-not-some p
-  type-given (arr a e js) h t p = list-given js h t p
-  type-given (obj a e fs) h t p = none-not-some p
+  name-given : Gives (Spans S) asName
+  name-given = name-or (Spans S) (λ n. n) (λ _. none) (λ n s. s) (λ j h. tt)
 
-  names-given : (js : Items) → PlacedItems (length S) js → (ns : List Name) → names js ≡ some ns → Every (Spans S) ns
-  names-given no-items h ns p = let z : ns ≡ [] = cc in rw z tt
-  names-given (item j js) h ns p =
-      let x = bind-some (asName j) (λ n. names js >>= λ ms. some (n ∷ ms)) ns p in
-      let y = bind-some (names js) (λ ms. some (x .0 ∷ ms)) ns (x .2) in
-      let z : ns ≡ x .0 ∷ y .0 = cc (y .2) in
-      rw z (name-given j (h .0) (x .0) (x .1), names-given js (h .1) (y .0) (y .1))
+  -- arrays and objects
+  as-items : Gives (PlacedItems (length S)) asItems
+  as-items (leaf a e v) h = tt
+  as-items (arr a e js) h = h
+  as-items (obj a e fs) h = tt
+
+  as-fields : Gives (PlacedFields (length S)) asFields
+  as-fields (leaf a e v) h = tt
+  as-fields (arr a e js) h = tt
+  as-fields (obj a e fs) h = h
+
+  each-item : {A : Type 0} (P : A → Type 0) (shape : Json → Option A) → Gives P shape → (js : Items) → PlacedItems (length S) js → IfThere (Every P) (eachItem shape js)
+  each-item P shape g no-items h = tt
+  each-item P shape g (item j js) h =
+      if-then P (Every P) (shape j) _ (g j (h .0)) (λ x p. if-then (Every P) (Every P) (eachItem shape js) _ (each-item P shape g js (h .1)) (λ xs q. (p, q)))
+
+  -- a field whose key stands from place a to e
+  abbrev GivesField : {A : Type 0} → (A → Type 0) → (ℕ → ℕ → List ℕ → Json → Option A) → Type 0
+  GivesField P shape = (a e : ℕ) (key : List ℕ) (j : Json) → a + (2 + length key) ≤ e → e ≤ length S → Placed (length S) j → IfThere P (shape a e key j)
+
+  each-field : {A : Type 0} (P : A → Type 0) (shape : ℕ → ℕ → List ℕ → Json → Option A) → GivesField P shape
+      → (fs : Fields) → PlacedFields (length S) fs → IfThere (Every P) (eachField shape fs)
+  each-field P shape g no-fields h = tt
+  each-field P shape g (field a e key j fs) h =
+      if-then P (Every P) (shape a e key j) _ (g a e key j (h .0) (h .1) (h .2))
+      (λ x p. if-then (Every P) (Every P) (eachField shape fs) _ (each-field P shape g fs (h .3)) (λ xs q. (p, q)))
+
+  -- types
+  list-given : (js : Items) → PlacedItems (length S) js → IfThere (TypeNames (Spans S)) (listType js)
+  list-given no-items h = tt
+  list-given (item j no-items) h = if-then (Spans S) (TypeNames (Spans S)) (asName j) _ (name-given j (h .0)) (λ n s. s)
+  list-given (item j (item k js)) h = tt
+
+  type-given : Gives (TypeNames (Spans S)) asType
+  type-given =
+      name-or (TypeNames (Spans S)) (λ n. record { name = n; list = false }) (λ j. asItems j >>= listType) (λ n s. s)
+      (λ j h. if-then (PlacedItems (length S)) (TypeNames (Spans S)) (asItems j) _ (as-items j h) list-given)
 
   -- a key's name; a key that means `*` and more has at least three bytes
-  key-given : (a e : ℕ) (key : List ℕ) (t : TypeText) → a + (2 + length key) ≤ e → e ≤ length S → TypeNames (Spans S) t → MemberNames (Spans S) (memberOf a e (starred key) t)
+  key-given : (a e : ℕ) (key : List ℕ) (t : TypeText) → a + (2 + length key) ≤ e → e ≤ length S → TypeNames (Spans S) t → MemberNames (Spans S) (keyedMember a e (starred key) t)
   key-given a e [] t h g k = (record { behind = omega arith; within = omega arith }, k)
   key-given a e (c ∷ cs) t h g k = go (eqb c (code "*"))
     where
-      go : (b : Bool) → MemberNames (Spans S) (memberOf a e b t)
+      go : (b : Bool) → MemberNames (Spans S) (keyedMember a e b t)
       go true = (record { behind = omega arith; within = omega arith }, k)
       go false = (record { behind = omega arith; within = omega arith }, k)
 
-  members-given : (fs : Fields) → PlacedFields (length S) fs → (ms : List Member) → members fs ≡ some ms → Every (MemberNames (Spans S)) ms
-  members-given no-fields h ms p = let z : ms ≡ [] = cc in rw z tt
-  members-given (field a e key j fs) h ms p =
-      let x = bind-some (asType j) (λ t. members fs >>= λ ns. some (memberOf a e (starred key) t ∷ ns)) ms p in
-      let y = bind-some (members fs) (λ ns. some (memberOf a e (starred key) (x .0) ∷ ns)) ms (x .2) in
-      let z : ms ≡ memberOf a e (starred key) (x .0) ∷ y .0 = cc (y .2) in
-      rw z (key-given a e key (x .0) (h .0) (h .1) (type-given j (h .2) (x .0) (x .1)), members-given fs (h .3) (y .0) (y .1))
+  member-given : GivesField (MemberNames (Spans S)) asMember
+  member-given a e key j h g p = if-then (TypeNames (Spans S)) (MemberNames (Spans S)) (asType j) _ (type-given j p) (λ t. key-given a e key t h g)
 
-  pairs-given : (fs : Fields) → PlacedFields (length S) fs → (ps : List Pair) → pairs fs ≡ some ps → Every (PairNames (Spans S)) ps
-  pairs-given no-fields h ps p = let z : ps ≡ [] = cc in rw z tt
-  pairs-given (field a e key j fs) h ps p =
-      let x = bind-some (asName j) (λ t. pairs fs >>= λ qs. some (record { name = quoted a e; type = t } ∷ qs)) ps p in
-      let y = bind-some (pairs fs) (λ qs. some (record { name = quoted a e; type = x .0 } ∷ qs)) ps (x .2) in
-      let z : ps ≡ record { name = quoted a e; type = x .0 } ∷ y .0 = cc (y .2) in
-      rw z ((record { behind = omega arith; within = omega arith }, name-given j (h .2) (x .0) (x .1)), pairs-given fs (h .3) (y .0) (y .1))
+  pair-given : GivesField (PairNames (Spans S)) asPair
+  pair-given a e key j h g p = if-then (Spans S) (PairNames (Spans S)) (asName j) _ (name-given j p) (λ n s. (record { behind = omega arith; within = omega arith }, s))
 
-  -- arrays and objects
-  as-items : (j : Json) → Placed (length S) j → (js : Items) → asItems j ≡ some js → PlacedItems (length S) js
-  as-items (leaf a e v) h js p = none-not-some p
-  as-items (arr a e ks) h js p = let z : js ≡ ks = cc in rw z h
-  as-items (obj a e fs) h js p = none-not-some p
+  names-given : Gives (Every (Spans S)) asNames
+  names-given j h = if-then (PlacedItems (length S)) (Every (Spans S)) (asItems j) _ (as-items j h) (each-item (Spans S) asName name-given)
 
-  as-fields : (j : Json) → Placed (length S) j → (fs : Fields) → asFields j ≡ some fs → PlacedFields (length S) fs
-  as-fields (leaf a e v) h fs p = none-not-some p
-  as-fields (arr a e js) h fs p = none-not-some p
-  as-fields (obj a e gs) h fs p = let z : fs ≡ gs = cc in rw z h
+  members-given : Gives (Every (MemberNames (Spans S))) asMembers
+  members-given j h = if-then (PlacedFields (length S)) (Every (MemberNames (Spans S))) (asFields j) _ (as-fields j h) (each-field (MemberNames (Spans S)) asMember member-given)
 
-  as-names : (j : Json) → Placed (length S) j → (ns : List Name) → asNames j ≡ some ns → Every (Spans S) ns
-  as-names j h ns p = let z = bind-some (asItems j) names ns p in names-given (z .0) (as-items j h (z .0) (z .1)) ns (z .2)
+  pairs-given : Gives (Every (PairNames (Spans S))) asPairs
+  pairs-given j h = if-then (PlacedFields (length S)) (Every (PairNames (Spans S))) (asFields j) _ (as-fields j h) (each-field (PairNames (Spans S)) asPair pair-given)
 
-  as-members : (j : Json) → Placed (length S) j → (ms : List Member) → asMembers j ≡ some ms → Every (MemberNames (Spans S)) ms
-  as-members j h ms p = let z = bind-some (asFields j) members ms p in members-given (z .0) (as-fields j h (z .0) (z .1)) ms (z .2)
-
-  as-pairs : (j : Json) → Placed (length S) j → (ps : List Pair) → asPairs j ≡ some ps → Every (PairNames (Spans S)) ps
-  as-pairs j h ps p = let z = bind-some (asFields j) pairs ps p in pairs-given (z .0) (as-fields j h (z .0) (z .1)) ps (z .2)
-
-  as-struct : (j : Json) → Placed (length S) j → (d : Data) → asStructName j ≡ some d → DataNames (Spans S) d
-  as-struct j h d p = let z = bind-some (asName j) (λ n. some (named n)) d p in let y : d ≡ named (z .0) = cc (z .2) in rw y (name-given j h (z .0) (z .1))
-
-  inline-given : (j : Json) → Placed (length S) j → (d : Data) → (asMembers j >>= λ ms. some (inline ms)) ≡ some d → DataNames (Spans S) d
-  inline-given j h d p = let z = bind-some (asMembers j) (λ ms. some (inline ms)) d p in let y : d ≡ inline (z .0) = cc (z .2) in rw y (as-members j h (z .0) (z .1))
-
-  as-data : (j : Json) → Placed (length S) j → (d : Data) → asData j ≡ some d → DataNames (Spans S) d
-  as-data j h d p = go (sameKind (kindOf j) string) p
-    where
-      go : (b : Bool) → cond b (asStructName j) (asMembers j >>= λ ms. some (inline ms)) ≡ some d → DataNames (Spans S) d
-      go true q = as-struct j h d q
-      go false q = inline-given j h d q
+  data-given : Gives (DataNames (Spans S)) asData
+  data-given =
+      name-or (DataNames (Spans S)) named (λ j. asMembers j >>= λ ms. some (inline ms)) (λ n s. s)
+      (λ j h. if-then (Every (MemberNames (Spans S))) (DataNames (Spans S)) (asMembers j) _ (members-given j h) (λ ms p. p))
 
   -- the value under a key
-  value-there : (k : List ℕ) (fs : Fields) → PlacedFields (length S) fs → (j : Json) → valueAt k fs ≡ some j → Placed (length S) j
-  value-there k no-fields h j p = none-not-some p
-  value-there k (field a e key i fs) h j p = go (same key k) p (value-there k fs (h .3) j)
+  value-there : (k : List ℕ) (fs : Fields) → PlacedFields (length S) fs → IfThere (Placed (length S)) (valueAt k fs)
+  value-there k no-fields h = tt
+  value-there k (field a e key j fs) h = go (same key k) (value-there k fs (h .3))
     where
-      go : (b : Bool) → cond b (some i) (valueAt k fs) ≡ some j → (valueAt k fs ≡ some j → Placed (length S) j) → Placed (length S) j
-      go true q r = let z : j ≡ i = cc in rw z (h .2)
-      go false q r = r q
+      go : (b : Bool) → IfThere (Placed (length S)) (valueAt k fs) → IfThere (Placed (length S)) (cond b (some j) (valueAt k fs))
+      go true p = h .2
+      go false p = p
 
   module _ (fs : Fields) (h : PlacedFields (length S) fs) where
-    -- a shape of the value under a key hands on what it gives of every value that is placed
-    must-give : {A : Type 0} (P : A → Type 0) (shape : Json → Option A) → ((j : Json) → Placed (length S) j → (x : A) → shape j ≡ some x → P x)
-        → (k : List ℕ) (x : A) → must shape (valueAt k fs) ≡ some x → P x
-    must-give P shape f k x p = must-be P shape (valueAt k fs) x p (λ j e. f j (value-there k fs h j e) x)
+    abbrev Names : Body → Type 0
+    Names = BodyNames (Spans S)
 
-    may-give : {A : Type 0} (P : A → Type 0) (a : A) (shape : Json → Option A) → P a → ((j : Json) → Placed (length S) j → (x : A) → shape j ≡ some x → P x)
-        → (k : List ℕ) (x : A) → may a shape (valueAt k fs) ≡ some x → P x
-    may-give P a shape d f k x p = may-be P a shape (valueAt k fs) x p d (λ j e. f j (value-there k fs h j e) x)
+    must-give : {A B : Type 0} (P : A → Type 0) (Q : B → Type 0) (shape : Json → Option A) → Gives P shape → (k : List ℕ) (f : A → Option B) → ((x : A) → P x → IfThere Q (f x)) → IfThere Q (valueAt k fs >>= shape >>= f)
+    must-give P Q shape g k f = if-then P Q (valueAt k fs >>= shape) f (if-then (Placed (length S)) P (valueAt k fs) _ (value-there k fs h) g)
 
-    body-given : (b : Body) → HasBody fs b → BodyNames (Spans S) b
-    body-given b (an-enum p) = must-give (Every (Spans S)) asNames as-names (text "data") _ p
-    body-given b (a-struct p q) = (
-      may-give (DataNames (Spans S)) absent asStructName tt as-struct (text "base") _ q,
-      must-give (Every (MemberNames (Spans S))) asMembers as-members (text "data") _ p,
-    )
-    body-given b (a-union p q r) = (
-      must-give (DataNames (Spans S)) asData as-data (text "base") _ p,
-      must-give (Spans S) asName name-given (text "discriminator") _ q,
-      must-give (Every (PairNames (Spans S))) asPairs as-pairs (text "data") _ r,
-    )
-    body-given b (an-alternate p) = must-give (Every (PairNames (Spans S))) asPairs as-pairs (text "data") _ p
-    body-given b (a-command p q) = (
-      may-give (DataNames (Spans S)) absent asData tt as-data (text "data") _ p,
-      may-give (TypeNames (Spans S)) nothing asType tt type-given (text "returns") _ q,
-    )
+    may-give : {A B : Type 0} (P : A → Type 0) (Q : B → Type 0) (shape : Json → Option A) → Gives P shape → (k : List ℕ) (f : Option A → Option B) → ((x : Option A) → IfThere P x → IfThere Q (f x)) → IfThere Q (may shape (valueAt k fs) >>= f)
+    may-give P Q shape g k f = if-then (IfThere P) Q (may shape (valueAt k fs)) f (if-may (Placed (length S)) P shape (valueAt k fs) (value-there k fs h) g)
 
-    definition-given : (d : Definition) → Defines fs d → Spans S (d .name) × BodyNames (Spans S) (d .body)
-    definition-given d g = (name-given (g .value) (value-there (g .kind-key) fs h (g .value) (g .under)) (d .name) (g .names), body-given (d .body) (g .body-of))
+    enum-given : IfThere Names (enumBody fs)
+    enum-given = must-give (Every (Spans S)) Names asNames names-given (text "data") _ (λ vs p. p)
 
-  object-placed : (fs : Fields) (js : Items) → PlacedItems (length S) js → Among fs js → PlacedFields (length S) fs
-  object-placed fs (item j js) h (first p) = as-fields j (h .0) fs p
-  object-placed fs (item j js) h (later m) = object-placed fs js (h .1) m
+    struct-given : IfThere Names (structBody fs)
+    struct-given =
+        must-give (Every (MemberNames (Spans S))) Names asMembers members-given (text "data") _ (λ ms p.
+        may-give (Spans S) Names asName name-given (text "base") _ (λ b q. (q, p)))
+
+    union-given : IfThere Names (unionBody fs)
+    union-given =
+        must-give (DataNames (Spans S)) Names asData data-given (text "base") _ (λ b p.
+        must-give (Spans S) Names asName name-given (text "discriminator") _ (λ d q.
+        must-give (Every (PairNames (Spans S))) Names asPairs pairs-given (text "data") _ (λ bs r. (p, q, r))))
+
+    alternate-given : IfThere Names (alternateBody fs)
+    alternate-given = must-give (Every (PairNames (Spans S))) Names asPairs pairs-given (text "data") _ (λ alts p. p)
+
+    command-given : IfThere Names (commandBody fs)
+    command-given =
+        may-give (DataNames (Spans S)) Names asData data-given (text "data") _ (λ a p.
+        may-give (TypeNames (Spans S)) Names asType type-given (text "returns") _ (λ t q.
+        if-then (λ _. Unit {0}) Names (may asFlag (valueAt (text "allow-oob") fs)) _ (trivial (may asFlag (valueAt (text "allow-oob") fs))) (λ o r. (p, q))))
+
+    definition-given : IfThere (Both (Spans S) Names) (asDefinition fs)
+    definition-given =
+        if-definition fs (Spans S) Names (λ k. if-imply (Placed (length S)) (λ (j : Json). IfThere (Spans S) (asName j)) name-given (valueAt k fs) (value-there k fs h))
+        enum-given struct-given union-given alternate-given command-given
+
+  definitions-given : (js : Items) → PlacedItems (length S) js → IfThere (EveryName (Spans S)) (definitions js)
+  unfolding definitions
+  definitions-given =
+      each-item (Both (Spans S) (BodyNames (Spans S))) (λ j. asFields j >>= asDefinition)
+      (λ j h. if-then (PlacedFields (length S)) (Both (Spans S) (BodyNames (Spans S))) (asFields j) _ (as-fields j h) definition-given)
 
 -- every name of a schema's definitions stands behind a quote and within its bytes
 pub names-within : (S : List ℕ) (js : Items) (ds : List Definition) → SchemaText S js → definitions js ≡ some ds → EveryName (Spans S) ds
-names-within S js ds t p =
-    every-definition (λ (d : Definition). Spans S (d .name) × BodyNames (Spans S) (d .body)) js ds p
-    (λ fs d m. definition-given S fs (object-placed S fs js (schema-placed t) m) d)
+names-within S js ds t p = of-some (EveryName (Spans S)) (definitions js) (definitions-given S js (schema-placed t)) p

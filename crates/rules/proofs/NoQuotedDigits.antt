@@ -8,27 +8,21 @@ use mathlib.Core.Logic.{⊎-elim}
 use native.Mathlib.Omega.{arith}
 use lib.Dec.{eqb, leb}
 use borrow.Author.Tests.{eq-eqb, le-leb}
-use Rattle.grammar.specs.Limits.{first-row}
 use Rattle.grammar.specs.Notation.{within}
 use Rattle.grammar.specs.Tree.{Json, Items, Fields, Kind, kindOf}
 use Rattle.grammar.specs.Tree.Scalar.{num, str}
 use Rattle.grammar.specs.Tree.Json.{leaf, arr, obj}
 use Rattle.grammar.specs.Tree.Kind.{object, array, string, number, boolean, null-kind}
 use Rattle.rules.specs.Kinds.{enum-kind}
-use Rattle.rules.specs.Types.{any-type, takes}
+use Rattle.rules.specs.Types.{first-row, takes}
 use Rattle.rules.specs.Rows.{kind}
 use Rattle.rules.specs.Readings.{Typed, typed, Reads}
-use Rattle.rules.specs.Readings.Reads.{built-in, any-value, enum, struct, no-type, union, alternate, array as array-of}
+use Rattle.rules.specs.Readings.Reads.{built-in, enum, struct, no-type, union, alternate, array as array-of}
 use Rattle.rules.specs.Readings.ReadsItems.{no-item, one-item}
 use Rattle.rules.specs.Readings.ReadsFields.{no-field, one-field}
+use Rattle.rules.specs.Demands.{Unquoted}
 use Rattle.rules.proofs.Lists.{and-of, of-not}
 use Rattle.rules.proofs.Grid.{other-kind, grid-entry, takes-below, grid-takes}
-
--- a value and its type are not quoted digits at a number's, nor digits at a text's
-pub record Unquoted (T : List ℕ) (x : Typed) : Type 0 where
-  pub string-not-number : (a e : ℕ) (cs : List ℕ) → x .value ≡ leaf a e (str cs) → 2 ≤ x .ref → x .ref ≤ 12 → ⊥
-  pub number-not-string : (a e : ℕ) (i : Bool) (token : List ℕ) → x .value ≡ leaf a e (num i token) → x .ref ≡ 1 → ⊥
-  pub number-not-enum : (a e : ℕ) (i : Bool) (token : List ℕ) (r : ℕ) → x .value ≡ leaf a e (num i token) → x .ref ≡ first-row + r → kind T r ≡ enum-kind → ⊥
 
 -- the entries that must be empty: strings at 2 to 12, numbers at 1
 abbrev crossed : ℕ → Kind → Bool
@@ -46,7 +40,7 @@ grid-keeps-apart t k p q =
     of-not (takes t k && crossed t k) (grid-entry (λ u j. not (takes u j && crossed u j)) refl t k (takes-below t k p)) (and-of (takes t k) (crossed t k) p q)
 
 module _ (T : List ℕ) where
-  -- at a built-in, at a row, at any
+  -- at a built-in, at a row
   at-built-in : (j : Json) (t f : ℕ) → takes t (kindOf j) ≡ true → Unquoted T (typed j t f)
   at-built-in j t f h = record {
     string-not-number = λ a e cs p l m. grid-keeps-apart t string (taken (ap kindOf p)) (and-of (leb 2 t) (leb t 12) (le-leb 2 t l) (le-leb t 12 m));
@@ -62,13 +56,6 @@ module _ (T : List ℕ) where
     string-not-number = λ a e cs p (l : 2 ≤ t) (m : t ≤ 12). omega arith;
     number-not-string = λ a e i token p (l : t ≡ 1). omega arith;
     number-not-enum = λ a e i token r′ p (l : t ≡ first-row + r′) k. n (ap kindOf p) (let y : r′ ≡ r = omega arith in rw y at k);
-  }
-
-  at-any : (j : Json) → Unquoted T (typed j any-type 0)
-  at-any j = record {
-    string-not-number = λ a e cs p l m. omega arith;
-    number-not-string = λ a e i token p l. omega arith;
-    number-not-enum = λ a e i token r p l k. omega arith;
   }
 
   -- neither a string nor a number
@@ -101,8 +88,7 @@ module _ (T : List ℕ) where
 module _ (S T : List ℕ) where
   pub reads-unquoted : {passes : Bool} {j : Json} {t f : ℕ} {ts : List Typed} → Reads passes S T j t f ts → (x : Typed) → List·Memᴰ x ts → Unquoted T x
   reads-unquoted h = elim h as (λ j t f ts d. AllUnquoted T ts) (λ js t ts d. AllUnquoted T ts) (λ ms fs ts d. AllUnquoted T ts) [
-    | built-in {a} {e} {t} {v} h ↦ first-and T _ _ (at-built-in T (leaf a e v) t 0 (grid-takes t v h)) (none-of T)
-    | any-value {j} ↦ first-and T _ _ (at-any T j) (none-of T)
+    | built-in {j} {t} h ↦ first-and T _ _ (at-built-in T j t 0 (grid-takes t j h)) (none-of T)
     | enum {a} {e} {t} {cs = cs} r z k v n ↦ first-and T _ _ (at-row T (leaf a e (str cs)) t 0 r z (λ p _. other-kind string number refl p)) (none-of T)
     | struct {a} {e} {t} {fs} r z k g n (h → ih) ↦ first-and T _ _ (at-object T a e fs t) ih
     | no-type {a} {e} {fs} (h → ih) ↦ first-and T _ _ (at-object T a e fs 0) ih

@@ -1,27 +1,27 @@
--- A reading's values stand in order and nest: of two of them, the later starts no earlier, and comes after the earlier one's end or is inside it.
--- The idea: a message's values stand in order (grammar proofs/Order), and a reading takes them in that order, an outer one first.
-use Prim.Native.Nat.{ℕ, _≤_}
+-- A reading's values stand in order and nest: of two of them, the later starts no earlier, and comes after the earlier one's end or is inside it. Two for each level nest at most.
+-- The idea: a message's values stand in order (grammar proofs/Order), and a reading takes them in that order, an outer one first, with one record more at an alternate.
+use Prim.Native.Nat.{ℕ, suc, _+_, _*_, _≤_, _<_}
 use native.Mathlib.Omega.{arith}
-use mathlib.Core.Path.{_≡_, refl, sym, subst, ap, _∙_}
-use mathlib.Core.Bool.{Bool, true, false, cond}
+use mathlib.Core.Path.{_≡_, refl, sym, subst}
+use mathlib.Core.Bool.{Bool, true, false, cond, _&&_}
 use mathlib.Core.Logic.{_⊎_, inl, inr}
 use mathlib.Core.List.{List, [], _∷_, _++_}
-use mathlib.Core.Option.{Option, none, some}
-use Rattle.grammar.specs.Notation.{text, same, all}
+use lib.Dec.{ltb, leb}
+use borrow.Author.Tests.{ltb-true, ltb-false, le-ltb, lt-leb}
+use Rattle.grammar.specs.Limits.{message-levels}
 use Rattle.grammar.specs.Tree.Scalar.{str}
-use Rattle.grammar.specs.Tree.{Json, Json.leaf, Json.arr, Json.obj, Items, Items.no-items, Items.item, Fields, Fields.no-fields, Fields.field, startOf, endOf}
-use Rattle.grammar.specs.MessageText.{MessageText}
-use Rattle.grammar.proofs.Booleans.{none-not-some, some-is}
+use Rattle.grammar.specs.Tree.{Json, Json.leaf, Json.arr, Json.obj, Items, Fields, startOf, endOf}
 use Rattle.grammar.proofs.Order.{Inside, InsideItems, InsideFields, message-inside}
-use Rattle.grammar.specs.Keys.{keysOf}
-use Rattle.rules.specs.Values.{_>>=_, valueAt, asString, anyOf}
-use Rattle.rules.specs.Envelope.{Envelope, asArguments, asName, envelope, Asked, Asks, Asks.command}
-use Rattle.rules.specs.Readings.{Typed, typed, Reads, ReadsItems, ReadsFields}
-use Rattle.rules.specs.Readings.Reads.{built-in, any-value, enum, struct, no-type, union, alternate, array as array-of}
+use Rattle.rules.specs.Envelope.{Asked}
+use Rattle.rules.specs.Readings.{Typed, typed, Reads}
+use Rattle.rules.specs.Readings.Reads.{built-in, enum, struct, no-type, union, alternate, array as array-of}
 use Rattle.rules.specs.Readings.{ReadsItems.no-item, ReadsItems.one-item, ReadsFields.no-field, ReadsFields.one-field}
-use Rattle.rules.specs.Types.{any-type}
+use Rattle.rules.specs.Rows.{typeRef}
 use Rattle.rules.specs.MessageAnswers.{Readable}
-use Rattle.rules.specs.Order.{startsAt, endsAt, Before, Nested}
+use Rattle.rules.specs.Serving.Order.{startsAt, endsAt, Before, Nested, spanning}
+use Rattle.rules.proofs.SoundFacts.{SoundFacts, sound-facts}
+use Rattle.rules.proofs.ReadingParts.{extraRecord, extra-few, extra-alternate, extra-of-kind}
+use Rattle.rules.proofs.Arguments.{Below, asked-arguments, arguments-inside}
 
 -- all lie from p to q
 abbrev Between : ℕ → ℕ → List Typed → Type 0
@@ -53,131 +53,136 @@ in-turn : (p o q : ℕ) (us vs : List Typed) → Between p o us → Nested us �
 in-turn p o q [] vs a m b n = n
 in-turn p o q (u ∷ us) vs a m b n = (before-both u us vs (m .0) (after u o q vs (a .1) (a .2) b), in-turn p o q us vs (a .3) (m .1) b n)
 
--- a list of values in order
-pub record Ordered (p q : ℕ) (ts : List Typed) : Type 0 where
+-- how many span a place: each at most once, and those that all lie before it or after it not at all
+one-at-most : (t : Bool) → cond t 1 0 ≤ 1
+one-at-most true = omega arith
+one-at-most false = omega arith
+
+span-after : (place : ℕ) (t : Typed) → place < startsAt t → leb (startsAt t) place && ltb place (endsAt t) ≡ false
+span-after place t h = rw (lt-leb (startsAt t) place h)
+
+span-before : (place : ℕ) (t : Typed) → endsAt t ≤ place → leb (startsAt t) place && ltb place (endsAt t) ≡ false
+span-before place t h = rw (le-ltb place (endsAt t) h) (go (leb (startsAt t) place))
+  where
+    go : (b : Bool) → b && false ≡ false
+    go true = refl
+    go false = refl
+
+none-span : (place p q : ℕ) (ts : List Typed) → (place < p) ⊎ (q ≤ place) → Between p q ts → spanning place ts ≡ 0
+none-span place p q [] h b = refl
+none-span place p q (t ∷ ts) (inl h) b = rw (span-after place t (omega (arith, b .0))) (let z = none-span place p q ts (inl h) (b .3) in omega arith)
+none-span place p q (t ∷ ts) (inr h) b = rw (span-before place t (omega (arith, b .2))) (let z = none-span place p q ts (inr h) (b .3) in omega arith)
+
+spanning-both : (place : ℕ) (ts us : List Typed) → spanning place (ts ++ us) ≡ spanning place ts + spanning place us
+spanning-both place [] us = omega arith
+spanning-both place (t ∷ ts) us = let z = spanning-both place ts us in omega arith
+
+in-one : (place d p o q : ℕ) (ts us : List Typed) → Between p o ts → Between o q us → spanning place ts ≤ d → spanning place us ≤ d → spanning place (ts ++ us) ≤ d
+in-one place d p o q ts us a b h k = go (ltb place o) refl
+  where
+    go : (t : Bool) → ltb place o ≡ t → spanning place (ts ++ us) ≤ d
+    go true e = omega (arith, spanning-both place ts us, none-span place o q us (inl (ltb-true place o e)) b)
+    go false e = omega (arith, spanning-both place ts us, none-span place p o ts (inr (ltb-false place o e)) a)
+
+-- a list of values in order, at most d of which span any place
+pub record Ordered (d p q : ℕ) (ts : List Typed) : Type 0 where
   between : Between p q ts
   nested : Nested ts
+  shallow : (place : ℕ) → spanning place ts ≤ d
 
-one : (j : Json) {p q t f : ℕ} → p ≤ startOf j → startOf j ≤ endOf j → endOf j ≤ q → {ts : List Typed} → Ordered (startOf j) (endOf j) ts → Ordered p q (typed j t f ∷ ts)
-one j {p} {q} {t} {f} h i k {ts} o = record {
+up-to : (c d : ℕ) {p q : ℕ} {ts : List Typed} → c ≤ d → Ordered c p q ts → Ordered d p q ts
+up-to c d h o = record { between = o .between; nested = o .nested; shallow = λ place. omega (arith, o .shallow place) }
+
+one : (j : Json) {d p q t f : ℕ} → p ≤ startOf j → startOf j ≤ endOf j → endOf j ≤ q → {ts : List Typed} → Ordered d (startOf j) (endOf j) ts → Ordered (suc d) p q (typed j t f ∷ ts)
+one j {d} {p} {q} {t} {f} h i k {ts} o = record {
   between = (h, i, k, wider (startOf j) (endOf j) p q h k ts (o .between));
   nested = (around (typed j t f) ts (o .between), o .nested);
+  shallow = λ place. omega (arith, o .shallow place, one-at-most (leb (startOf j) place && ltb place (endOf j)));
 }
 
-empty : (p q : ℕ) → Ordered p q []
-empty p q = record { between = tt; nested = tt }
+empty : (d p q : ℕ) → Ordered d p q []
+empty d p q = record { between = tt; nested = tt; shallow = λ place. omega arith }
 
-joined : (p o q : ℕ) → p ≤ o → o ≤ q → {ts us vs : List Typed} → Ordered p o ts → Ordered o q us → vs ≡ ts ++ us → Ordered p q vs
-joined p o q h k {ts} {us} a b e = subst (Ordered p q) (sym e) (record {
+joined : (d p o q : ℕ) → p ≤ o → o ≤ q → {ts us vs : List Typed} → Ordered d p o ts → Ordered d o q us → vs ≡ ts ++ us → Ordered d p q vs
+joined d p o q h k {ts} {us} a b e = subst (Ordered d p q) (sym e) (record {
   between = between-both p q ts us (wider p o p q (omega arith) k ts (a .between)) (wider o q p q h (omega arith) us (b .between));
   nested = in-turn p o q ts us (a .between) (a .nested) (b .between) (b .nested);
+  shallow = λ place. in-one place d p o q ts us (a .between) (b .between) (a .shallow place) (b .shallow place);
 })
 
-start-in : (p q : ℕ) (j : Json) → Inside p q j → (p ≤ startOf j) × (startOf j ≤ endOf j) × (endOf j ≤ q)
-start-in p q (leaf a e v) i = i
-start-in p q (arr a e js) i = (i .0, i .1, i .2)
-start-in p q (obj a e fs) i = (i .0, i .1, i .2)
+start-in : (n p q : ℕ) (j : Json) → Inside n p q j → (p ≤ startOf j) × (startOf j ≤ endOf j) × (endOf j ≤ q)
+start-in n p q (leaf a e v) i = i
+start-in n p q (arr a e js) i = (i .0, i .1, i .2)
+start-in n p q (obj a e fs) i = (i .0, i .1, i .2)
 
-from-start : (p q : ℕ) (j : Json) → Inside p q j → Inside (startOf j) q j
-from-start p q (leaf a e v) i = (omega arith, i .1, i .2)
-from-start p q (arr a e js) i = (omega arith, i .1, i .2, i .3)
-from-start p q (obj a e fs) i = (omega arith, i .1, i .2, i .3)
-
-up-to : (p q : ℕ) (j : Json) → Inside p q j → Inside p (endOf j) j
-up-to p q (leaf a e v) i = (i .0, i .1, omega arith)
-up-to p q (arr a e js) i = (i .0, i .1, omega arith, i .3)
-up-to p q (obj a e fs) i = (i .0, i .1, omega arith, i .3)
-
--- what is read of a value, of items, of fields
-abbrev OfValue : Json → List Typed → Type 0
-OfValue j ts = (p q : ℕ) → Inside p q j → Ordered p q ts
-
-abbrev OfItems : Items → List Typed → Type 0
-OfItems js ts = (p q : ℕ) → p ≤ q → InsideItems p q js → Ordered p q ts
-
-abbrev OfFields : Fields → List Typed → Type 0
-OfFields fs ts = (p q : ℕ) → p ≤ q → InsideFields p q fs → Ordered p q ts
-
-alone : (j : Json) (t f : ℕ) → OfValue j (typed j t f ∷ [])
-alone j t f p q i = let s = start-in p q j i in one j (s .0) (s .1) (s .2) (empty (startOf j) (endOf j))
-
-by-alternative : (j : Json) (t : ℕ) {ts : List Typed} → OfValue j ts → OfValue j (typed j t 0 ∷ ts)
-by-alternative j t g p q i = let s = start-in p q j i in one j (s .0) (s .1) (s .2) (g (startOf j) (endOf j) (up-to (startOf j) q j (from-start p q j i)))
-
-of-object : (a e t : ℕ) (fs : Fields) {ts : List Typed} → OfFields fs ts → OfValue (obj a e fs) (typed (obj a e fs) t 0 ∷ ts)
-of-object a e t fs g p q i = one (obj a e fs) (i .0) (i .1) (i .2) (g a e (i .1) (i .3))
-
-of-array : (a e t : ℕ) (js : Items) {ts : List Typed} → OfItems js ts → OfValue (arr a e js) (typed (arr a e js) t 1 ∷ ts)
-of-array a e t js g p q i = one (arr a e js) (i .0) (i .1) (i .2) (g a e (i .1) (i .3))
-
--- a value, and then the others
-one-more : (j : Json) (p q : ℕ) {ts us vs : List Typed} → Inside p q j → OfValue j ts → (endOf j ≤ q → Ordered (endOf j) q us) → vs ≡ ts ++ us → Ordered p q vs
-one-more j p q i g k e =
-    let s = start-in p q j i in
-    joined p (endOf j) q (omega (arith, s .0, s .1)) (s .2) (g p (endOf j) (up-to p q j i)) (k (s .2)) e
+-- the same value, from its start or to its end
+narrower : (n p q p′ q′ : ℕ) (j : Json) → p′ ≤ startOf j → endOf j ≤ q′ → Inside n p q j → Inside n p′ q′ j
+narrower n p q p′ q′ (leaf a e v) h k i = (h, i .1, k)
+narrower n p q p′ q′ (arr a e js) h k i = (h, i .1, k, i .3, i .4, i .5)
+narrower n p q p′ q′ (obj a e fs) h k i = (h, i .1, k, i .3, i .4, i .5)
 
 module _ (S T : List ℕ) where
-  value-ordered : {passes : Bool} {j : Json} {t f : ℕ} {ts : List Typed} → Reads passes S T j t f ts → OfValue j ts
-  value-ordered h = elim h as (λ j t f ts d. OfValue j ts) (λ js t ts d. OfItems js ts) (λ ms fs ts d. OfFields fs ts) [
-    | built-in {a} {e} {t} {v} h ↦ alone (leaf a e v) t 0
-    | any-value {j} ↦ alone j any-type 0
-    | enum {a} {e} {t} {cs = cs} r z k v n ↦ alone (leaf a e (str cs)) t 0
-    | struct {a} {e} {t} {fs} r z k g n (h → ih) ↦ of-object a e t fs ih
-    | no-type {a} {e} {fs} (h → ih) ↦ of-object a e 0 fs ih
-    | union {a} {e} {t} {fs} r z k g b q n (h → ih) ↦ of-object a e t fs ih
-    | alternate {j} {t} r z k c (h → ih) ↦ by-alternative j t ih
-    | array-of {a} {e} {t} {js} (h → ih) ↦ of-array a e t js ih
-    | no-item ↦ λ p q h i. empty p q
-    | one-item {j = j} (h → ih) (g → ih′) e ↦ λ p q h i. one-more j p q (i .0) ih (λ s. ih′ (endOf j) q s (i .1)) e
-    | no-field ↦ λ p q h i. empty p q
-    | one-field {j = j} m n (h → ih) (g → ih′) e ↦ λ p q h i. one-more j p q (i .0) ih (λ s. ih′ (endOf j) q s (i .1)) e
-  ]
+  -- what is read of a value, of items, of fields
+  abbrev OfValue : Json → ℕ → List Typed → Type 0
+  OfValue j t ts = (n p q : ℕ) → Inside n p q j → Ordered (2 * n + 1 + extraRecord S T t) p q ts
 
--- the arguments of an envelope are a value of the message, or the empty object at 0, 0
-abbrev Placed : Json → Type 0
-Placed j = (p : ℕ) × (q : ℕ) × Inside p q j
+  abbrev OfItems : Items → List Typed → Type 0
+  OfItems js ts = (n p q : ℕ) → p ≤ q → InsideItems n p q js → Ordered (2 * n + 2) p q ts
 
-here-or-on : (t : Bool) (p q : ℕ) (v j : Json) (x : Option Json) → Inside p q v → (x ≡ some j → Placed j) → cond t (some v) x ≡ some j → Placed j
-here-or-on true p q v j x i f e = (p, q, subst (Inside p q) (some-is e) i)
-here-or-on false p q v j x i f e = f e
+  abbrev OfFields : Fields → List Typed → Type 0
+  OfFields fs ts = (n p q : ℕ) → p ≤ q → InsideFields n p q fs → Ordered (2 * n + 2) p q ts
 
-at-key : (k : List ℕ) (p q : ℕ) (fs : Fields) → InsideFields p q fs → (j : Json) → valueAt k fs ≡ some j → Placed j
-at-key k p q no-fields i j e = none-not-some e
-at-key k p q (field a b key v fs) i j e = here-or-on (same key k) p q v j (valueAt k fs) (i .0) (λ h. at-key k (endOf v) q fs (i .1) j h) e
+  alone : (j : Json) (t f : ℕ) → OfValue j t (typed j t f ∷ [])
+  alone j t f n p q i = let s = start-in n p q j i in up-to 1 (2 * n + 1 + extraRecord S T t) (omega arith) (one j (s .0) (s .1) (s .2) (empty 0 (startOf j) (endOf j)))
 
-said-by : (n : Option (List ℕ)) (a : Option Json) (f : Bool) (x : Envelope) → (n >>= λ name. a >>= λ y. some (record { name = name; outOfBand = f; arguments = y })) ≡ some x → a ≡ some (x .arguments)
-said-by none a f x e = none-not-some e
-said-by (some n) none f x e = none-not-some e
-said-by (some n) (some y) f x e = ap (λ (v : Envelope). some (v .arguments)) (some-is e)
+  by-alternative : (j : Json) (t u : ℕ) {ts : List Typed} → extraRecord S T t ≡ 1 → extraRecord S T u ≡ 0 → OfValue j u ts → OfValue j t (typed j t 0 ∷ ts)
+  by-alternative j t u x y g n p q i =
+      let s = start-in n p q j i in
+      up-to (suc (2 * n + 1 + extraRecord S T u)) (2 * n + 1 + extraRecord S T t) (omega arith)
+      (one j (s .0) (s .1) (s .2) (g n (startOf j) (endOf j) (narrower n p q (startOf j) (endOf j) j (omega arith) (omega arith) i)))
 
-as-placed : (a : Option Json) (y : Json) → ((j : Json) → a ≡ some j → Placed j) → asArguments a ≡ some y → Placed y
-as-placed none y f e = (0, 0, subst (Inside 0 0) (some-is e) (omega arith, omega arith, omega arith, tt))
-as-placed (some (leaf a e v)) y f h = none-not-some h
-as-placed (some (arr a e js)) y f h = none-not-some h
-as-placed (some (obj a e fs)) y f h = f y h
+  of-object : (a e t : ℕ) (fs : Fields) {ts : List Typed} → OfFields fs ts → OfValue (obj a e fs) t (typed (obj a e fs) t 0 ∷ ts)
+  of-object a e t fs g n p q i =
+      up-to (suc (2 * (i .3) + 2)) (2 * n + 1 + extraRecord S T t) (omega (arith, i .4)) (one (obj a e fs) (i .0) (i .1) (i .2) (g (i .3) a e (i .1) (i .5)))
 
-name-placed : (n o a : Option Json) (x : Envelope) → ((j : Json) → a ≡ some j → Placed j) → asName n o a ≡ some x → Placed (x .arguments)
-name-placed none none a x f e = none-not-some e
-name-placed (some j) none a x f e = as-placed a (x .arguments) f (said-by (asString j) (asArguments a) false x e)
-name-placed none (some j) a x f e = as-placed a (x .arguments) f (said-by (asString j) (asArguments a) true x e)
-name-placed (some j) (some k) a x f e = none-not-some e
+  of-array : (a e t : ℕ) (js : Items) {ts : List Typed} → OfItems js ts → OfValue (arr a e js) t (typed (arr a e js) t 1 ∷ ts)
+  of-array a e t js g n p q i =
+      up-to (suc (2 * (i .3) + 2)) (2 * n + 1 + extraRecord S T t) (omega (arith, i .4)) (one (arr a e js) (i .0) (i .1) (i .2) (g (i .3) a e (i .1) (i .5)))
 
-keys-placed : (t : Bool) (n o a : Option Json) (x : Envelope) → ((j : Json) → a ≡ some j → Placed j) → cond t (asName n o a) none ≡ some x → Placed (x .arguments)
-keys-placed true n o a x f e = name-placed n o a x f e
-keys-placed false n o a x f e = none-not-some e
+  -- a value, and then the others
+  one-more : (j : Json) (t n p q : ℕ) {ts us vs : List Typed} → Inside n p q j → OfValue j t ts → (endOf j ≤ q → Ordered (2 * n + 2) (endOf j) q us) → vs ≡ ts ++ us
+      → Ordered (2 * n + 2) p q vs
+  one-more j t n p q i g k e =
+      let s = start-in n p q j i in
+      let o = g n p (endOf j) (narrower n p q p (endOf j) j (s .0) (omega arith) i) in
+      joined (2 * n + 2) p (endOf j) q (omega (arith, s .0, s .1)) (s .2) (up-to (2 * n + 1 + extraRecord S T t) (2 * n + 2) (omega (arith, extra-few S T t)) o) (k (s .2)) e
 
-arguments-placed : (p q : ℕ) (v : Json) (x : Envelope) → Inside p q v → envelope v ≡ some x → Placed (x .arguments)
-unfolding envelope
-arguments-placed p q (leaf a e v) x i h = none-not-some h
-arguments-placed p q (arr a e js) x i h = none-not-some h
-arguments-placed p q (obj a e fs) x i h =
-    keys-placed (all (anyOf (text "execute" ∷ text "exec-oob" ∷ text "arguments" ∷ text "id" ∷ [])) (keysOf fs)) (valueAt (text "execute") fs) (valueAt (text "exec-oob") fs) (valueAt (text "arguments") fs) x
-    (λ j g. at-key (text "arguments") a e fs (i .3) j g) h
+  module _ (F : SoundFacts S T) where
+    value-ordered : {passes : Bool} {j : Json} {t f : ℕ} {ts : List Typed} → Reads passes S T j t f ts → OfValue j t ts
+    value-ordered h = elim h as (λ j t f ts d. OfValue j t ts) (λ js t ts d. OfItems js ts) (λ ms fs ts d. OfFields fs ts) [
+      | built-in {j} {t} h ↦ alone j t 0
+      | enum {a} {e} {t} {cs = cs} r z k v n ↦ alone (leaf a e (str cs)) t 0
+      | struct {a} {e} {t} {fs} r z k g n (h → ih) ↦ of-object a e t fs ih
+      | no-type {a} {e} {fs} (h → ih) ↦ of-object a e 0 fs ih
+      | union {a} {e} {t} {fs} r z k g b q n (h → ih) ↦ of-object a e t fs ih
+      | alternate {j} {t} {c} r z k m (h → ih) ↦ let o = F .has-kind r c k m in by-alternative j t (typeRef T c) (extra-alternate S T t r z k) (extra-of-kind S T (o .0) (typeRef T c) (o .1)) ih
+      | array-of {a} {e} {t} {js} (h → ih) ↦ of-array a e t js ih
+      | no-item ↦ λ n p q h i. empty (2 * n + 2) p q
+      | one-item {t} {j} (h → ih) (g → ih′) e ↦ λ n p q h i. one-more j t n p q (i .0) ih (λ s. ih′ n (endOf j) q s (i .1)) e
+      | no-field ↦ λ n p q h i. empty (2 * n + 2) p q
+      | one-field {m = m} {j = j} i o (h → ih) (g → ih′) e ↦ λ n p q h i. one-more j (typeRef T m) n p q (i .0) ih (λ s. ih′ n (endOf j) q s (i .1)) e
+    ]
 
-asked-placed : {S T : List ℕ} (p q : ℕ) (v : Json) {a : Asked} → Inside p q v → Asks S T v a → Placed (a .value)
-asked-placed p q v i (command {v = x} e n u z) = subst (λ (y : Asked). Placed (y .value)) (sym z) (arguments-placed p q v x i e)
+module _ {S T m : List ℕ} {a : Asked} {ts : List Typed} (r : Readable S T m a ts) where
+  below : Below message-levels (a .value)
+  below = arguments-inside message-levels 0 (endOf (r .value)) (omega arith) (message-inside (r .is-text)) (asked-arguments (r .asks))
 
-pub reading-nested : {S T m : List ℕ} {a : Asked} {ts : List Typed} → Readable S T m a ts → Nested ts
-reading-nested {S} {T} r =
-    let a = asked-placed 0 (endOf (r .value)) (r .value) (message-inside (r .is-text)) (r .asks) in
-    value-ordered S T (r .reads) (a .0) (a .1) (a .2) .nested
+  reading-ordered : Ordered (2 * (below .levels) + 1 + extraRecord S T (a .ref)) (below .from) (below .to) ts
+  reading-ordered = value-ordered S T (sound-facts S T (r .sound-table)) (r .reads) (below .levels) (below .from) (below .to) (below .inside)
+
+  pub reading-nested : Nested ts
+  reading-nested = reading-ordered .nested
+
+  -- at most two records for each level span any place
+  pub reading-shallow : (place : ℕ) → spanning place ts ≤ 2 * message-levels
+  reading-shallow place = omega (arith, reading-ordered .shallow place, below .fewer, extra-few S T (a .ref))

@@ -7,22 +7,29 @@ use mathlib.Core.List.{List, [], _∷_, _++_, List·Memᴰ}
 use mathlib.Core.Option.{Option, none, some}
 use native.Mathlib.Omega.{arith}
 use lib.Dec.{eqb, ltb, leb}
-use borrow.Author.Tests.{ne-eqb, eqb-true, lt-ltb, le-ltb, le-leb, ltb-false, leb-true}
-use Rattle.grammar.specs.Limits.{first-row, chain-structs}
-use Rattle.grammar.specs.Tree.{Scalar, Json, Fields, Kind, kindOf, scalarKind}
+use borrow.Author.Tests.{ne-eqb, eqb-true, le-ltb, le-leb, ltb-false, leb-true}
+use Rattle.grammar.specs.Limits.{chain-structs}
+use Rattle.grammar.specs.Tree.{Scalar, Json, Fields, Kind, kindOf}
 use Rattle.grammar.specs.Tree.Scalar.{null, bool, num, str}
+use Rattle.grammar.specs.Tree.Json.{leaf, arr, obj}
 use Rattle.grammar.specs.Tree.Kind.{object, string}
 use Rattle.rules.specs.Kinds.{enum-kind, struct-kind, union-kind, alternate-kind}
-use Rattle.rules.specs.Types.{any-type, builtInTakes}
+use Rattle.rules.specs.Types.{first-row, isBuiltIn, builtInTakes}
 use Rattle.rules.specs.Values.{valueAt, anyOf}
 use Rattle.rules.specs.Rows.{kind, isEnum, isStruct, isUnion, isAlternate, unionBase, discriminator, children, members, nameOf, typeKind}
 use Rattle.rules.specs.Rules.{namesOf}
-use Rattle.rules.specs.Readings.{Typed, Reads}
-use Rattle.rules.specs.Readings.Reads.{built-in, any-value, enum, struct, no-type, union, alternate}
-use Rattle.rules.specs.ReadingOf.{under, then, append, ofKind, fromAlternatives, found, scalarFits, chosen, membersAt, via}
-use Rattle.rules.specs.ReadingOf.Via.{direct, alternative}
+use Rattle.rules.specs.Readings.{Typed, typed, Reads}
+use Rattle.rules.specs.Readings.Reads.{built-in, enum, struct, no-type, union, alternate}
+use Rattle.rules.specs.Serving.ReadingOf.{under, then, append, ofKind, fromAlternatives, found, enumHas, chosen, membersAt, typeChoice, plainReading}
+use Rattle.rules.specs.Serving.ReadingOf.TypeChoice.{direct, alternative}
 use Rattle.rules.proofs.Lists.{clash, none-not-some, and-left, and-right, anyOf-true, of-map}
 use Rattle.rules.proofs.Grid.{grid-takes, built-in-kind, row-kind, takes-same}
+
+-- at a built-in a value of any shape is read by grid and range
+pub plain-built-in : (passes : Bool) (S T : List ℕ) (j : Json) (t f : ℕ) → eqb f 0 && isBuiltIn t ≡ true → plainReading passes S T j t f ≡ cond (builtInTakes t j) (some (typed j t f ∷ [])) none
+plain-built-in passes S T (leaf a e v) t f h = rw h
+plain-built-in passes S T (arr a e js) t f h = rw h
+plain-built-in passes S T (obj a e fs) t f h = rw h
 
 -- a piece that gives something
 pub cond-some : {A : Type 0} (b : Bool) (o : Option A) (y : A) → cond b o none ≡ some y → (b ≡ true) × (o ≡ some y)
@@ -49,34 +56,60 @@ found-some (suc m) o ts h = (m, refl, h)
 
 module _ (S T : List ℕ) where
   -- the type by which a value is read
-  via-direct : (k : Kind) (t f : ℕ) → (first-row ≤ t → kind T (t - first-row) ≡ alternate-kind → ⊥) → via S T k t f ≡ direct
-  unfolding via
-  via-direct k t f n = go (eqb f 0 && leb first-row t && isAlternate T (t - first-row)) refl
+  choice-direct : (k : Kind) (t f : ℕ) → (first-row ≤ t → kind T (t - first-row) ≡ alternate-kind → ⊥) → typeChoice S T k t f ≡ direct
+  unfolding typeChoice
+  choice-direct k t f n = go (eqb f 0 && leb first-row t && isAlternate T (t - first-row)) refl
     where
       go : (b : Bool) → eqb f 0 && leb first-row t && isAlternate T (t - first-row) ≡ b
           → cond b (fromAlternatives (ofKind T k (children T (t - first-row)))) direct ≡ direct
       go true e = absurd (n (leb-true first-row t (search (and-left, and-right))) (eqb-true (kind T (t - first-row)) alternate-kind (search (and-left, and-right))))
       go false e = refl
 
-  pub via-below : (k : Kind) (t f : ℕ) → t < first-row → via S T k t f ≡ direct
-  via-below k t f l = via-direct k t f (λ (m : first-row ≤ t) e. omega arith)
+  pub choice-below : (k : Kind) (t f : ℕ) → t < first-row → typeChoice S T k t f ≡ direct
+  choice-below k t f l = choice-direct k t f (λ (m : first-row ≤ t) e. omega arith)
 
-  pub via-row : (k : Kind) (t f r : ℕ) → t ≡ first-row + r → (kind T r ≡ alternate-kind → ⊥) → via S T k t f ≡ direct
-  via-row k t f r e n =
+  pub choice-row : (k : Kind) (t f r : ℕ) → t ≡ first-row + r → (kind T r ≡ alternate-kind → ⊥) → typeChoice S T k t f ≡ direct
+  choice-row k t f r e n =
       let z : t - first-row ≡ r = omega arith in
-      via-direct k t f (λ m q. n (subst (λ x. kind T x ≡ alternate-kind) z q))
+      choice-direct k t f (λ m q. n (subst (λ x. kind T x ≡ alternate-kind) z q))
 
-  pub via-alternate : (k : Kind) (t r : ℕ) → t ≡ first-row + r → kind T r ≡ alternate-kind → via S T k t 0 ≡ fromAlternatives (ofKind T k (children T r))
-  unfolding via
-  via-alternate k t r e q =
+  pub choice-alternate : (k : Kind) (t r : ℕ) → t ≡ first-row + r → kind T r ≡ alternate-kind → typeChoice S T k t 0 ≡ fromAlternatives (ofKind T k (children T r))
+  unfolding typeChoice
+  choice-alternate k t r e q =
       let z : t - first-row ≡ r = omega arith in
       rw (le-leb first-row t (omega arith), z, q)
 
   no-kind : (t r : ℕ) → t ≡ first-row + r → kind T r ≡ alternate-kind → typeKind T t ≡ none
   no-kind t r e q = row-kind T t r e ∙ rw q
 
-  pub via-of-kind : (k j : Kind) (t f : ℕ) → typeKind T t ≡ some j → via S T k t f ≡ direct
-  via-of-kind k j t f e = via-direct k t f (λ (l : first-row ≤ t) q. none-not-some (sym (no-kind t (t - first-row) (omega arith) q) ∙ e))
+  pub choice-of-kind : (k j : Kind) (t f : ℕ) → typeKind T t ≡ some j → typeChoice S T k t f ≡ direct
+  choice-of-kind k j t f e = choice-direct k t f (λ (l : first-row ≤ t) q. none-not-some (sym (no-kind t (t - first-row) (omega arith) q) ∙ e))
+
+  -- an alternate has a record beside its alternative's, and an alternative is no alternate
+  abbrev pub extraRecord : ℕ → ℕ
+  extraRecord t = cond (leb first-row t && isAlternate T (t - first-row)) 1 0
+
+  pub extra-few : (t : ℕ) → extraRecord t ≤ 1
+  extra-few t = go (leb first-row t && isAlternate T (t - first-row))
+    where
+      go : (b : Bool) → cond b 1 0 ≤ 1
+      go true = omega arith
+      go false = omega arith
+
+  pub extra-alternate : (t r : ℕ) → t ≡ first-row + r → kind T r ≡ alternate-kind → extraRecord t ≡ 1
+  extra-alternate t r e q =
+      let z : t - first-row ≡ r = omega arith in
+      rw (le-leb first-row t (omega arith), z, q)
+
+  pub extra-of-kind : (j : Kind) (t : ℕ) → typeKind T t ≡ some j → extraRecord t ≡ 0
+  extra-of-kind j t e = go (leb first-row t && isAlternate T (t - first-row)) refl
+    where
+      go : (b : Bool) → leb first-row t && isAlternate T (t - first-row) ≡ b → _≡_ {A = ℕ} (cond b 1 0) 0
+      go true h =
+          let l : first-row ≤ t = leb-true first-row t (and-left (leb first-row t) (isAlternate T (t - first-row)) h) in
+          let q : kind T (t - first-row) ≡ alternate-kind = eqb-true (kind T (t - first-row)) alternate-kind (and-right (leb first-row t) (isAlternate T (t - first-row)) h) in
+          absurd (none-not-some (sym (no-kind t (t - first-row) (omega arith) q) ∙ e))
+      go false h = refl
 
   -- what is said where it is an alternative
   pub record Alternative (k : Kind) (t f u : ℕ) : Type 0 where
@@ -85,9 +118,9 @@ module _ (S T : List ℕ) where
     pub to-alternate : kind T (t - first-row) ≡ alternate-kind
     pub first-of : ofKind T k (children T (t - first-row)) ≡ some u
 
-  pub via-alternative : (k : Kind) (t f u : ℕ) → via S T k t f ≡ alternative u → Alternative k t f u
-  unfolding via
-  via-alternative k t f u h = go (eqb f 0 && leb first-row t && isAlternate T (t - first-row)) refl h
+  pub choice-alternative : (k : Kind) (t f u : ℕ) → typeChoice S T k t f ≡ alternative u → Alternative k t f u
+  unfolding typeChoice
+  choice-alternative k t f u h = go (eqb f 0 && leb first-row t && isAlternate T (t - first-row)) refl h
     where
       of : (o : Option ℕ) → fromAlternatives o ≡ alternative u → o ≡ some u
       of none e = cc
@@ -103,39 +136,35 @@ module _ (S T : List ℕ) where
       }
       go false e h = absurd (let z : _≡_ {A = ℕ} 0 1 = cc in omega arith)
 
-  -- values without brackets
-  pub scalar-built-in : (t : ℕ) (v : Scalar) → t < first-row → scalarFits S T t v ≡ builtInTakes t v
-  unfolding scalarFits
-  scalar-built-in t v l = rw (lt-ltb t first-row l)
-
-  pub scalar-enum : (t r : ℕ) (cs : List ℕ) → t ≡ first-row + r → kind T r ≡ enum-kind → scalarFits S T t (str cs) ≡ anyOf (namesOf S T (children T r)) cs
-  unfolding scalarFits
-  scalar-enum t r cs e k =
+  -- values of enums: names of their children
+  pub enum-has : (t r : ℕ) (cs : List ℕ) → t ≡ first-row + r → kind T r ≡ enum-kind → enumHas S T t (str cs) ≡ anyOf (namesOf S T (children T r)) cs
+  unfolding enumHas
+  enum-has t r cs e k =
       let z : t - first-row ≡ r = omega arith in
-      rw (le-ltb t first-row (omega arith), z, k)
+      rw (le-leb first-row t (omega arith), z, k)
 
-  -- at a row only a string fits, one of an enum's names
   pub record EnumValue (t : ℕ) (v : Scalar) : Type 0 where
     pub codes : List ℕ
     pub is-string : v ≡ str codes
+    pub to-row : first-row ≤ t
     pub to-enum : kind T (t - first-row) ≡ enum-kind
     pub row : ℕ
     pub is-child : List·Memᴰ row (children T (t - first-row))
     pub is-name : nameOf S T row ≡ codes
 
-  pub scalar-row : (t : ℕ) (v : Scalar) → first-row ≤ t → scalarFits S T t v ≡ true → EnumValue t v
-  unfolding scalarFits
-  scalar-row t null l h = absurd (clash (and-right (isEnum T (t - first-row)) false (rw (le-ltb t first-row l) at h)) refl)
-  scalar-row t (bool b) l h = absurd (clash (and-right (isEnum T (t - first-row)) false (rw (le-ltb t first-row l) at h)) refl)
-  scalar-row t (num i token) l h = absurd (clash (and-right (isEnum T (t - first-row)) false (rw (le-ltb t first-row l) at h)) refl)
-  scalar-row t (str cs) l h =
+  pub enum-value : (t : ℕ) (v : Scalar) → enumHas S T t v ≡ true → EnumValue t v
+  unfolding enumHas
+  enum-value t null h = absurd (clash (and-right (leb first-row t && isEnum T (t - first-row)) false h) refl)
+  enum-value t (bool b) h = absurd (clash (and-right (leb first-row t && isEnum T (t - first-row)) false h) refl)
+  enum-value t (num i token) h = absurd (clash (and-right (leb first-row t && isEnum T (t - first-row)) false h) refl)
+  enum-value t (str cs) h =
       let names : List (List ℕ) = namesOf S T (children T (t - first-row)) in
-      let g : isEnum T (t - first-row) && anyOf names cs ≡ true = rw (le-ltb t first-row l) at h in
-      let m = of-map (nameOf S T) (children T (t - first-row)) cs (anyOf-true names cs (and-right (isEnum T (t - first-row)) (anyOf names cs) g)) in
+      let m = of-map (nameOf S T) (children T (t - first-row)) cs (anyOf-true names cs (search (and-left, and-right))) in
       record {
         codes = cs;
         is-string = refl;
-        to-enum = eqb-true (kind T (t - first-row)) enum-kind (and-left (isEnum T (t - first-row)) (anyOf names cs) g);
+        to-row = leb-true first-row t (search (and-left, and-right));
+        to-enum = eqb-true (kind T (t - first-row)) enum-kind (search (and-left, and-right));
         row = m .0;
         is-child = m .1;
         is-name = sym (m .2);
@@ -186,8 +215,7 @@ module _ (S T : List ℕ) where
 
   -- a value that is read at a type of one JSON kind has that kind
   pub reads-kind : {passes : Bool} {j : Json} {t : ℕ} {ts : List Typed} (k : Kind) → Reads passes S T j t 0 ts → typeKind T t ≡ some k → k ≡ kindOf j
-  reads-kind k (built-in {t = t} {v} h) p = takes-same T t k (scalarKind v) p (grid-takes t v h)
-  reads-kind k any-value p = absurd (none-not-some (sym (built-in-kind T any-type (omega arith)) ∙ p))
+  reads-kind k (built-in {j} {t} h) p = takes-same T t k (kindOf j) p (grid-takes t j h)
   reads-kind k (enum {t = t} r e q v n) p = let z : some string ≡ some k = sym (row-kind T t r e ∙ rw q) ∙ p in cc
   reads-kind k (struct {t = t} r e q g n h) p = let z : some object ≡ some k = sym (row-kind T t r e ∙ rw q) ∙ p in cc
   reads-kind k (no-type h) p = absurd (none-not-some (sym (built-in-kind T 0 (omega arith)) ∙ p))

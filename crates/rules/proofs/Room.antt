@@ -17,8 +17,8 @@ use Rattle.rules.specs.SchemaTable.{table}
 use Rattle.rules.specs.SchemaAnswers.{Says, SchemaApplies, SchemaOutcome}
 use Rattle.rules.specs.SchemaAnswers.SchemaOutcome.{accepted, refused}
 use Rattle.rules.specs.Readings.{Typed, recordsOf}
-use Rattle.rules.specs.Cells.{entries}
-use Rattle.rules.specs.Answers.{schemaResult, messageResult}
+use Rattle.rules.specs.Serving.Cells.{entries}
+use Rattle.rules.specs.Serving.Answers.{schemaResult, messageResult}
 use Rattle.rules.proofs.Cells.{table-words, length-words}
 use Rattle.rules.proofs.SchemaOutcome.{schema-outcome, schema-outcome-only}
 use Rattle.rules.proofs.Acceptance.{one-reading, accepted-gives, more-room}

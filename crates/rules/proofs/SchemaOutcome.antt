@@ -1,4 +1,4 @@
--- The schema answer as a function is the one outcome that the paper's table allows: each test says when its refusal applies, and the first that passes has the lowest rank.
+-- The schema answer as a function is the one outcome that the reference's table allows: each test says when its refusal applies, and the first that passes has the lowest rank.
 -- The idea: the bytes decide the text, the text the objects, these the definitions; so a statement on "the definitions of S" is one on the definitions computed.
 use Prim.Native.Nat.{ℕ, zero, suc, _/_, _<_}
 use native.Mathlib.Omega.{arith}
@@ -13,9 +13,9 @@ use Rattle.grammar.specs.Limits.{schema-bytes, table-rows, row-words}
 use Rattle.grammar.specs.Tree.{Items}
 use Rattle.grammar.specs.Keys.{keysOnceI}
 use Rattle.grammar.specs.SchemaText.{SchemaText}
-use Rattle.grammar.specs.Machine.{Out}
-use Rattle.grammar.specs.Machine.Out.{whole, fault, deep}
-use Rattle.grammar.specs.Machine.Schema.{readSchema}
+use Rattle.grammar.specs.Serving.Machine.{Out}
+use Rattle.grammar.specs.Serving.Machine.Out.{whole, fault, deep}
+use Rattle.grammar.specs.Serving.Machine.Schema.{readSchema}
 use Rattle.grammar.proofs.Texts.{schema-text}
 use Rattle.rules.specs.declared.SchemaRefusal.{SchemaRefusal}
 use Rattle.rules.specs.declared.SchemaRefusal.the-variants.{TooLong, NotText, RepeatedKey, NotDefinitions, BadName, RepeatedName, UnknownName, BadChain, BadUnion, BadAlternate, BadReturn, TooManyRows, NoRoom}
@@ -25,9 +25,9 @@ use Rattle.rules.specs.Definitions.{Definition, definitions}
 use Rattle.rules.specs.Rows.{rowCount}
 use Rattle.rules.specs.Rules.{is, goodNames, distinctNames, goodChains, goodUnions, goodAlternates, goodReturns}
 use Rattle.rules.specs.SchemaTable.{table, allRefer}
-use Rattle.rules.specs.SchemaAnswers.{schemaRefusals, Says, SchemaApplies, SchemaOutcome}
+use Rattle.rules.specs.SchemaAnswers.{schemaOrder, Says, SchemaApplies, SchemaOutcome}
 use Rattle.rules.specs.SchemaAnswers.SchemaOutcome.{accepted, refused}
-use Rattle.rules.specs.Answers.{SchemaResult, isNone, first, rank, objectsIn, schemaTest, tableIn, schemaAnswered, schemaResult}
+use Rattle.rules.specs.Serving.Answers.{SchemaResult, isNone, first, rank, objectsIn, schemaTest, tableIn, schemaAnswered, schemaResult}
 use Rattle.rules.proofs.Lists.{clash, is-true}
 pub use Rattle.rules.proofs.First.{nth}
 use Rattle.rules.proofs.First.{decided, drop-nth, first-none, none-first, first-of, of-first}
@@ -48,7 +48,7 @@ pub bind-some : {A B : Type 0} (o : Option A) (f : A → Option B) (b : B) → (
 bind-some none f b e = let z : _≡_ {A = ℕ} 0 1 = cc in absurd (omega arith)
 bind-some (some a) f b e = (a, refl, e)
 
-ranked : (x : SchemaRefusal) → getElem? schemaRefusals (rank x) ≡ some x
+ranked : (x : SchemaRefusal) → getElem? schemaOrder (rank x) ≡ some x
 unfolding rank
 ranked TooLong = refl
 ranked NotText = refl
@@ -64,12 +64,12 @@ ranked BadReturn = refl
 ranked TooManyRows = refl
 ranked NoRoom = refl
 
-listed : (x : SchemaRefusal) → List·Memᴰ x schemaRefusals
-listed x = nth schemaRefusals (rank x) x (ranked x)
+pub listed : (x : SchemaRefusal) → List·Memᴰ x schemaOrder
+listed x = nth schemaOrder (rank x) x (ranked x)
 
 -- the refusals from one on begin with it
-pub from-rank : (x : SchemaRefusal) → drop (rank x) schemaRefusals ≡ x ∷ drop (suc (rank x)) schemaRefusals
-from-rank x = drop-nth schemaRefusals (rank x) x (ranked x)
+pub from-rank : (x : SchemaRefusal) → drop (rank x) schemaOrder ≡ x ∷ drop (suc (rank x)) schemaOrder
+from-rank x = drop-nth schemaOrder (rank x) x (ranked x)
 
 module _ (S : List ℕ) (room : ℕ) where
   objects : Option Items
@@ -173,7 +173,7 @@ module _ (S : List ℕ) (room : ℕ) where
       some-of written (rw (js .1) at (h NotDefinitions))
 
   decided-by : Option SchemaRefusal
-  decided-by = first test schemaRefusals
+  decided-by = first test schemaOrder
 
   outcome : SchemaResult
   outcome = schemaAnswered S room (tableIn S room written) decided-by
@@ -187,24 +187,24 @@ module _ (S : List ℕ) (room : ℕ) where
   unfolding outcome decided-by
   allowed = go decided-by refl
     where
-      go : (o : Option SchemaRefusal) → first test schemaRefusals ≡ o → SchemaOutcome S room (schemaAnswered S room (tableIn S room written) o .answer) (schemaAnswered S room (tableIn S room written) o .words)
+      go : (o : Option SchemaRefusal) → first test schemaOrder ≡ o → SchemaOutcome S room (schemaAnswered S room (tableIn S room written) o .answer) (schemaAnswered S room (tableIn S room written) o .words)
       go none e =
-          let no-test : (x : SchemaRefusal) → test x ≡ false = λ x. first-none test schemaRefusals e x (listed x) in
+          let no-test : (x : SchemaRefusal) → test x ≡ false = λ x. first-none test schemaOrder e x (listed x) in
           let ds = there no-test in
           rw (ds .1) (accepted (said (ds .0) (ds .1)) (λ x a. clash (applies-test x a) (no-test x)) refl refl)
       go (some x) e =
-          refused (first-of test (λ y. SchemaApplies y S room) test-applies applies-test schemaRefusals e) refl refl
+          refused (first-of test (λ y. SchemaApplies y S room) test-applies applies-test schemaOrder e) refl refl
 
   -- and the only one
   only : (a : SchemaAnswer) (w : List ℕ) → SchemaOutcome S room a w → (a ≡ outcome .answer) × (w ≡ outcome .words)
   unfolding outcome decided-by
   only a w (accepted {ds} s h p q) =
       let d = says ds s in
-      let e : first test schemaRefusals ≡ none = none-first test schemaRefusals (λ x m. decided (test x) (λ t. h x (test-applies x t))) in
+      let e : first test schemaOrder ≡ none = none-first test schemaOrder (λ x m. decided (test x) (λ t. h x (test-applies x t))) in
       rw (e, d) (p, q)
-  only a w (refused {x} h p q) = let e : first test schemaRefusals ≡ some x = of-first test (λ y. SchemaApplies y S room) test-applies applies-test schemaRefusals h in rw e (p, q)
+  only a w (refused {x} h p q) = let e : first test schemaOrder ≡ some x = of-first test (λ y. SchemaApplies y S room) test-applies applies-test schemaOrder h in rw e (p, q)
 
-  -- The paper's table of schema answers: for every schema and room there is one outcome, the one that schemaResult gives.
+  -- The reference's table of schema answers: for every schema and room there is one outcome, the one that schemaResult gives.
   pub schema-outcome : SchemaOutcome S room (schemaResult S room .answer) (schemaResult S room .words)
   schema-outcome = rw result-is allowed
 

@@ -16,10 +16,10 @@ use Rattle.grammar.specs.Tree.{Kind}
 use Rattle.rules.specs.Kinds.{struct-kind, member-kind, union-kind, branch-kind, alternate-kind, command-kind}
 use Rattle.rules.specs.Types.{column, sameKind}
 use Rattle.rules.specs.Names.{clash}
-use Rattle.rules.specs.Rows.{upFrom, rowCount, kind, isEnum, isStruct, isUnion, isAlternate, isCommand, base, typeRef, unionBase, discriminator, branchStruct, arguments, allowOob, returns, returnsArray, next, unnamed, owns, children, members, after, typeKind, nameOf, ownerLink}
+use Rattle.rules.specs.Rows.{upFrom, rowCount, kind, isEnum, isStruct, isUnion, isAlternate, isCommand, base, typeRef, unionBase, discriminator, branchStruct, dataStruct, allowOob, returns, returnsArray, next, unnamed, owns, children, members, after, typeKind, nameOf, ownerLink}
 use Rattle.rules.specs.Rules.{everyRow, namesOf, is, sameKinds, kindsOf, noClash, those, isDefinition, definitionNames, distinctNames, goodChains, goodUnions, goodAlternates, chainFits, unionFits, alternateFits, discriminatorFits, branchFits}
 use Rattle.rules.specs.Envelope.{Names}
-use Rattle.rules.specs.Sound.{sound, restZero, referencesFit, isFlag, toStruct, toType}
+use Rattle.rules.specs.Sound.{sound, restZero, structLinked, unionLinked, dataLinked, commandLinked, referencesFit, toStruct}
 use Rattle.rules.proofs.Lists.{none-not-some, and-left, and-right, and-of, or-cases, or-right, or-implies, not-of, all-true, is-true, is-at, in-those, in-upFrom, in-map, apart-only, apart-injective}
 use Rattle.rules.proofs.Clashes.{apart-same, apart-append}
 use Rattle.rules.proofs.TableRows.{no-children, unnamed-struct, owned-struct, fit-child, laid-fit, members-agree}
@@ -36,7 +36,7 @@ pub record SoundFacts (S T : List ℕ) : Type 0 where
   -- links
   pub base-link : (r : ℕ) → kind T r ≡ struct-kind → StructLink T (base T r)
   pub union-link : (r : ℕ) → kind T r ≡ union-kind → StructLink T (unionBase T r)
-  pub command-link : (r : ℕ) → kind T r ≡ command-kind → StructLink T (arguments T r)
+  pub command-link : (r : ℕ) → kind T r ≡ command-kind → StructLink T (dataStruct T r)
   pub branch-link : (r b : ℕ) → kind T r ≡ union-kind → List·Memᴰ b (children T r) → StructLink T (branchStruct T b)
   pub discriminator-link : (r : ℕ) → kind T r ≡ union-kind → (d : ℕ) × (discriminator T r ≡ suc d)
   -- names that one object may have as keys, and names of one list
@@ -75,10 +75,8 @@ module _ (T : List ℕ) where
 
   pub base-refers : (r : ℕ) → referencesFit T r ≡ true → kind T r ≡ struct-kind → StructLink T (base T r)
   base-refers r f k s p =
-      ⊎-elim
-      (λ e. let z : base T r ≡ 0 = eqb-true (base T r) 0 (or-implies (isStruct T r) (eqb (base T r) 0) e (eq-eqb (kind T r) struct-kind k)) in absurd (omega arith))
-      (λ e. to-struct (base T r) e s p)
-      (or-cases (not (isStruct T r) || eqb (base T r) 0) (toStruct T (base T r)) (search (and-left, and-right)))
+      ⊎-elim (λ e. let z : base T r ≡ 0 = eqb-true (base T r) 0 e in absurd (omega arith)) (λ e. to-struct (base T r) e s p)
+      (or-cases (eqb (base T r) 0) (toStruct T (base T r)) (or-implies (isStruct T r) (structLinked T r) (search (and-left, and-right)) (eq-eqb (kind T r) struct-kind k)))
 
 module _ (S T : List ℕ) (h : sound S T ≡ true) where
   past-end : (r : ℕ) → rowCount T ≤ r → kind T r ≡ 0
@@ -111,37 +109,35 @@ module _ (S T : List ℕ) (h : sound S T ≡ true) where
   base-to r k = base-refers T r (refers r (omega arith)) k
 
   -- what a union refers to
-  abbrev unionRefers : ℕ → Bool
-  unionRefers r = (owns T r || toStruct T (unionBase T r)) && ltb 0 (discriminator T r) && eqb (kind T (discriminator T r - 1)) member-kind
-
-  union-refers : (r : ℕ) → kind T r ≡ union-kind → unionRefers r ≡ true
+  union-refers : (r : ℕ) → kind T r ≡ union-kind → unionLinked T r ≡ true
   union-refers r k =
       let f : referencesFit T r ≡ true = refers r (omega arith) in
-      or-implies (isUnion T r) (unionRefers r) (search (and-left, and-right)) (eq-eqb (kind T r) union-kind k)
+      or-implies (isUnion T r) (unionLinked T r) (search (and-left, and-right)) (eq-eqb (kind T r) union-kind k)
 
   union-to : (r : ℕ) → kind T r ≡ union-kind → StructLink T (unionBase T r)
+  unfolding unionLinked
   union-to r k =
-      let f : unionRefers r ≡ true = union-refers r k in
+      let f : unionLinked T r ≡ true = union-refers r k in
       ⊎-elim (to-owned T r) (to-struct T (unionBase T r))
       (or-cases (owns T r) (toStruct T (unionBase T r)) (search (and-left, and-right)))
 
   -- what a command refers to
-  command-to : (r : ℕ) → kind T r ≡ command-kind → StructLink T (arguments T r)
+  command-to : (r : ℕ) → kind T r ≡ command-kind → StructLink T (dataStruct T r)
+  unfolding commandLinked dataLinked
   command-to r k =
       let f : referencesFit T r ≡ true = refers r (omega arith) in
-      let g : (eqb (arguments T r) 0 || owns T r || toStruct T (arguments T r)) && isFlag T (allowOob T r)
-      && (eqb (returns T r) 0 && eqb (returnsArray T r) 0 || toType T (returns T r) && isFlag T (returnsArray T r)) ≡ true =
-      or-implies (isCommand T r) _ (search (and-left, and-right)) (eq-eqb (kind T r) command-kind k) in
-      ⊎-elim (λ o. ⊎-elim (λ (z : eqb (arguments T r) 0 ≡ true) s e. let y : arguments T r ≡ 0 = eqb-true (arguments T r) 0 z in absurd (omega arith)) (to-owned T r) (or-cases (eqb (arguments T r) 0) (owns T r) o))
-      (to-struct T (arguments T r)) (or-cases (eqb (arguments T r) 0 || owns T r) (toStruct T (arguments T r)) (search (and-left, and-right)))
+      let g : commandLinked T r ≡ true = or-implies (isCommand T r) (commandLinked T r) (search (and-left, and-right)) (eq-eqb (kind T r) command-kind k) in
+      ⊎-elim (λ o. ⊎-elim (λ (z : eqb (dataStruct T r) 0 ≡ true) s e. let y : dataStruct T r ≡ 0 = eqb-true (dataStruct T r) 0 z in absurd (omega arith)) (to-owned T r) (or-cases (eqb (dataStruct T r) 0) (owns T r) o))
+      (to-struct T (dataStruct T r)) (or-cases (eqb (dataStruct T r) 0 || owns T r) (toStruct T (dataStruct T r)) (search (and-left, and-right)))
 
   few : rowCount T ≤ table-rows
   unfolding sound
   few = leb-true (rowCount T) table-rows (search (and-left, and-right) depth 14)
 
   discriminator-to : (r : ℕ) → kind T r ≡ union-kind → (d : ℕ) × (discriminator T r ≡ suc d)
+  unfolding unionLinked
   discriminator-to r k =
-      let f : unionRefers r ≡ true = union-refers r k in
+      let f : unionLinked T r ≡ true = union-refers r k in
       let z : 0 < discriminator T r = ltb-true 0 (discriminator T r) (search (and-left, and-right)) in
       (discriminator T r - 1, omega arith)
 

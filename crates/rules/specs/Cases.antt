@@ -1,4 +1,4 @@
--- 01, Lots on either side of the line: the P table, P1 to P12. The rows and records of P1 are the paper's.
+-- Reference, Cases: the P table, P1 to P12.
 -- A case is a schema with the words lent for its rows and its answer, then messages to its table, each with the words lent and its answer.
 use Prim.Native.Nat.{ℕ}
 use Prim.Native.String.{String}

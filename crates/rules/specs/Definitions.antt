@@ -1,4 +1,4 @@
--- 01, Schema text and Schema answers 4: definitions out of trees, by the table of keys.
+-- Reference, Definitions: definitions out of trees, by the table of keys.
 use Prim.Native.Nat.{ℕ, _+_, _-_}
 use Prim.Native.Char.{code}
 use mathlib.Core.Bool.{Bool, true, false, cond}
@@ -12,26 +12,25 @@ use Rattle.grammar.specs.Tree.Fields.{no-fields, field}
 use Rattle.grammar.specs.Tree.Kind.{string}
 use Rattle.grammar.specs.Keys.{keysOf}
 use Rattle.rules.specs.Types.{sameKind}
-use Rattle.rules.specs.Values.{_>>=_, asItems, asFields, asFlag, valueAt, anyOf}
+use Rattle.rules.specs.Values.{_>>=_, ifAbsent, asItems, asFields, asFlag, valueAt, anyOf}
 
 -- a name where it stands in the schema: its first byte and how many bytes it has
 pub record Name : Type 0 where
   pub start : ℕ
   pub size : ℕ
 
--- a type is a name, or a list of one name and nothing else; a command may return nothing
-pub data TypeText : Type 0 where
-  nothing : TypeText
-  one listOf : Name → TypeText
+-- a type is a name, or a list of one name and nothing else: its name, and whether it is a list
+pub record TypeText : Type 0 where
+  pub name : Name
+  pub list : Bool
 
 pub record Member : Type 0 where
   pub name : Name
   pub optional : Bool
   pub type : TypeText
 
--- a base or a command's data: members written out, or a struct's name
+-- a union's base or a command's data: members written out, or a struct's name
 pub data Data : Type 0 where
-  absent : Data
   inline : List Member → Data
   named : Name → Data
 
@@ -40,12 +39,18 @@ pub record Pair : Type 0 where
   pub name : Name
   pub type : Name
 
+-- What the keys of each kind say. Only what may be absent is an option, and so a schema gives each of these.
 pub data Body : Type 0 where
+  -- its values
   enum : List Name → Body
-  struct : Data → List Member → Body
+  -- its base and its members
+  struct : Option Name → List Member → Body
+  -- its base, its discriminator and its branches
   union : Data → Name → List Pair → Body
+  -- its alternatives
   alternate : List Pair → Body
-  command : Data → TypeText → Bool → Body
+  -- its data, what it returns, and whether it allows out-of-band execution
+  command : Option Data → Option TypeText → Bool → Body
 
 pub record Definition : Type 0 where
   pub name : Name
@@ -55,76 +60,71 @@ pub record Definition : Type 0 where
 abbrev pub quoted : ℕ → ℕ → Name
 quoted a e = record { start = a + 1; size = e - a - 2 }
 
+-- a string gives what its name gives; any other value is of another shape
+abbrev pub nameOr : {A : Type 0} → (Name → A) → (Json → Option A) → Json → Option A
+nameOr f other j = cond (sameKind (kindOf j) string) (some (f (quoted (startOf j) (endOf j)))) (other j)
+
 abbrev pub asName : Json → Option Name
-asName j = cond (sameKind (kindOf j) string) (some (quoted (startOf j) (endOf j))) none
+asName = nameOr (λ n. n) (λ _. none)
 
 abbrev pub listType : Items → Option TypeText
 listType no-items = none
-listType (item j no-items) = asName j >>= λ n. some (listOf n)
+listType (item j no-items) = asName j >>= λ n. some (record { name = n; list = true })
 listType (item j (item k js)) = none
 
 abbrev pub asType : Json → Option TypeText
-asType j =
-    cond (sameKind (kindOf j) string) (some (one (quoted (startOf j) (endOf j)))) do
-      js ← asItems j
-      listType js
+asType = nameOr (λ n. record { name = n; list = false }) (λ j. asItems j >>= listType)
 
-abbrev pub names : Items → Option (List Name)
-names no-items = some []
-names (item j js) = do
-  n ← asName j
-  ns ← names js
-  some (n ∷ ns)
-
--- a member's key from place a to e: a `*` in front makes it optional and is no part of its name
+-- a field, whose key stands from place a to e. A member's: a `*` in front makes it optional and is no part of its name
 abbrev pub starred : List ℕ → Bool
 starred [] = false
 starred (c ∷ cs) = eqb c (code "*")
 
-abbrev pub memberOf : ℕ → ℕ → Bool → TypeText → Member
-memberOf a e true t = record { name = quoted (a + 1) e; optional = true; type = t }
-memberOf a e false t = record { name = quoted a e; optional = false; type = t }
+abbrev pub keyedMember : ℕ → ℕ → Bool → TypeText → Member
+keyedMember a e true t = record { name = quoted (a + 1) e; optional = true; type = t }
+keyedMember a e false t = record { name = quoted a e; optional = false; type = t }
 
-abbrev pub members : Fields → Option (List Member)
-members no-fields = some []
-members (field a e key j fs) = do
-  t ← asType j
-  ms ← members fs
-  some (memberOf a e (starred key) t ∷ ms)
+abbrev pub asMember : ℕ → ℕ → List ℕ → Json → Option Member
+asMember a e key j = asType j >>= λ t. some (keyedMember a e (starred key) t)
 
-abbrev pub pairs : Fields → Option (List Pair)
-pairs no-fields = some []
-pairs (field a e key j fs) = do
-  t ← asName j
-  ps ← pairs fs
-  some (record { name = quoted a e; type = t } ∷ ps)
+-- a branch's or an alternative's
+abbrev pub asPair : ℕ → ℕ → List ℕ → Json → Option Pair
+asPair a e key j = asName j >>= λ t. some (record { name = quoted a e; type = t })
+
+-- every element of an array, every field of an object
+abbrev pub eachItem : {A : Type 0} → (Json → Option A) → Items → Option (List A)
+eachItem shape no-items = some []
+eachItem shape (item j js) = do
+  x ← shape j
+  xs ← eachItem shape js
+  some (x ∷ xs)
+
+abbrev pub eachField : {A : Type 0} → (ℕ → ℕ → List ℕ → Json → Option A) → Fields → Option (List A)
+eachField shape no-fields = some []
+eachField shape (field a e key j fs) = do
+  x ← shape a e key j
+  xs ← eachField shape fs
+  some (x ∷ xs)
 
 abbrev pub asNames : Json → Option (List Name)
-asNames j = asItems j >>= names
+asNames j = asItems j >>= eachItem asName
 
 abbrev pub asMembers : Json → Option (List Member)
-asMembers j = asFields j >>= members
+asMembers j = asFields j >>= eachField asMember
 
 abbrev pub asPairs : Json → Option (List Pair)
-asPairs j = asFields j >>= pairs
-
-abbrev pub asStructName : Json → Option Data
-asStructName j = asName j >>= λ n. some (named n)
+asPairs j = asFields j >>= eachField asPair
 
 abbrev pub asData : Json → Option Data
-asData j =
-    cond (sameKind (kindOf j) string) (asStructName j) do
-      ms ← asMembers j
-      some (inline ms)
+asData = nameOr named (λ j. asMembers j >>= λ ms. some (inline ms))
 
 -- the shape of a value that must be there, and of one that may be absent
 abbrev pub must : {A : Type 0} → (Json → Option A) → Option Json → Option A
-must shape none = none
-must shape (some j) = shape j
+must shape o = o >>= shape
 
-abbrev pub may : {A : Type 0} → A → (Json → Option A) → Option Json → Option A
-may default shape none = some default
-may default shape (some j) = shape j
+abbrev pub may : {A : Type 0} → (Json → Option A) → Option Json → Option (Option A)
+may shape none = some none
+may shape (some j) = shape j >>= λ a. some (some a)
 
 -- the definition, if there is no key but these
 abbrev pub only : List (List ℕ) → Fields → Name → Option Body → Option Definition
@@ -138,7 +138,7 @@ enumBody fs = must asNames (valueAt (text "data") fs) >>= λ values. some (enum 
 abbrev pub structBody : Fields → Option Body
 structBody fs = do
   ms ← must asMembers (valueAt (text "data") fs)
-  base ← may absent asStructName (valueAt (text "base") fs)
+  base ← may asName (valueAt (text "base") fs)
   some (struct base ms)
 
 abbrev pub unionBody : Fields → Option Body
@@ -153,10 +153,10 @@ alternateBody fs = must asPairs (valueAt (text "data") fs) >>= λ alternatives. 
 
 abbrev pub commandBody : Fields → Option Body
 commandBody fs = do
-  arguments ← may absent asData (valueAt (text "data") fs)
-  returns ← may nothing asType (valueAt (text "returns") fs)
-  oob ← may false asFlag (valueAt (text "allow-oob") fs)
-  some (command arguments returns oob)
+  arguments ← may asData (valueAt (text "data") fs)
+  returns ← may asType (valueAt (text "returns") fs)
+  oob ← may asFlag (valueAt (text "allow-oob") fs)
+  some (command arguments returns (ifAbsent false (λ b. b) oob))
 
 -- Its kind is the kind key that it has. With two of them one is outside the other's keys.
 abbrev pub kindKey : List ℕ → Fields → List (List ℕ) → Option Body → Option Definition → Option Definition
@@ -178,9 +178,4 @@ asDefinition fs =
 
 -- Schema answers 4: the definitions of a schema's top-level objects, if every one keeps the table of keys
 unfoldable pub definitions : Items → Option (List Definition)
-definitions no-items = some []
-definitions (item j js) = do
-  fs ← asFields j
-  d ← asDefinition fs
-  ds ← definitions js
-  some (d ∷ ds)
+definitions = eachItem (λ j. asFields j >>= asDefinition)

@@ -1,4 +1,4 @@
--- 01, Message text and Message answers 26 to 28: the envelope, the command that it names, whether it may use it, and what it then asks to have read.
+-- Reference, Envelope: the envelope, the command that it names, whether it may use it, and what it then asks to have read.
 use Prim.Native.Nat.{ℕ, _<_}
 use mathlib.Core.Bool.{Bool, true, false, cond}
 use mathlib.Core.List.{List, [], _∷_}
@@ -12,7 +12,7 @@ use Rattle.grammar.specs.Tree.Fields.{no-fields}
 use Rattle.grammar.specs.Keys.{keysOf}
 use Rattle.rules.specs.Kinds.{command-kind}
 use Rattle.rules.specs.Values.{_>>=_, asFields, asString, valueAt, anyOf}
-use Rattle.rules.specs.Rows.{rowCount, kind, arguments, allowOob, nameOf, linkRef}
+use Rattle.rules.specs.Rows.{rowCount, kind, dataStruct, allowOob, nameOf, linkRef}
 
 -- what an envelope says: the string under execute or exec-oob, which of the two, and the arguments
 pub record Envelope : Type 0 where
@@ -28,24 +28,24 @@ asArguments (some j) = do
   some j
 
 -- exactly one of execute and exec-oob, a string
-abbrev pub asName : Option Json → Option Json → Option Json → Option Envelope
-asName none none args = none
-asName (some j) none args = do
+abbrev pub asCall : Option Json → Option Json → Option Json → Option Envelope
+asCall none none args = none
+asCall (some j) none args = do
   name ← asString j
   a ← asArguments args
   some (record { name = name; outOfBand = false; arguments = a })
-asName none (some j) args = do
+asCall none (some j) args = do
   name ← asString j
   a ← asArguments args
   some (record { name = name; outOfBand = true; arguments = a })
-asName (some j) (some k) args = none
+asCall (some j) (some k) args = none
 
 -- an object with no key but execute, exec-oob, arguments and id
 unfoldable pub envelope : Json → Option Envelope
 envelope j = do
   fs ← asFields j
   cond (all (anyOf (text "execute" ∷ text "exec-oob" ∷ text "arguments" ∷ text "id" ∷ [])) (keysOf fs))
-      (asName (valueAt (text "execute") fs) (valueAt (text "exec-oob") fs) (valueAt (text "arguments") fs))
+      (asCall (valueAt (text "execute") fs) (valueAt (text "exec-oob") fs) (valueAt (text "arguments") fs))
       none
 
 -- row c is the command of that name
@@ -68,7 +68,7 @@ pub record Asked : Type 0 where
 
 -- the arguments of the command at row c, at its data; reference 0 if it has none
 abbrev pub argumentsOf : List ℕ → Envelope → ℕ → Asked
-argumentsOf T v c = record { value = v .arguments; ref = linkRef (arguments T c); array = 0; second = c }
+argumentsOf T v c = record { value = v .arguments; ref = linkRef (dataStruct T c); array = 0; second = c }
 
 -- the message that is the value j has a proper envelope, names the command at row c and may use it
 pub data Asks (S T : List ℕ) (j : Json) (a : Asked) : Type 0 where

@@ -1,4 +1,4 @@
--- 01, Rows: the kinds of rows. The kind of a row's children is the one after its own.
+-- Reference, Rows: the kinds of rows. The kind of a row's children is the one after its own.
 use Prim.Native.Nat.{ℕ}
 
 abbrev pub enum-kind : ℕ

@@ -1,4 +1,4 @@
--- What a reader must believe, in the paper's order. RawTable, Cells, ReadingOf, Answers and Order serve proofs only.
+-- What a reader must believe of schemas and messages, in the order of the reference. Serving has what only contracts and proofs cite.
 pub mod Types
 pub mod Values
 pub mod Definitions
@@ -13,9 +13,7 @@ pub mod SchemaAnswers
 pub mod Envelope
 pub mod Readings
 pub mod MessageAnswers
+pub mod Demands
+pub mod Room
 pub mod Cases
-pub mod RawTable
-pub mod Cells
-pub mod ReadingOf
-pub mod Answers
-pub mod Order
+pub mod Serving

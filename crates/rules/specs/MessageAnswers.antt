@@ -1,4 +1,4 @@
--- 01, Message answers: when each number applies, and the whole outcome: the lowest that applies, the command's row, the count, and every lent word.
+-- Reference, Message answers: when each refusal applies, in which order they are judged, and the whole outcome: the first that applies, the command's row, the count, and every lent word.
 use Prim.Native.Nat.{ℕ, _-_, _/_, _≤_, _<_}
 use mathlib.Core.Path.{_≡_}
 use mathlib.Core.Bool.{true, false}
@@ -19,7 +19,7 @@ use Rattle.rules.specs.Envelope.{Envelope, envelope, Names, mayUse, Aske
 use Rattle.rules.specs.Readings.{Typed, strict, Reads, recordsOf}
 use Rattle.rules.specs.Refusals.{FirstOf}
 
--- the paper's numbers
+-- the numbers, as they are shown
 abbrev pub refusalNumber : MessageRefusal → ℕ
 refusalNumber M.UnsoundTable = 21
 refusalNumber M.TooLong = 22
@@ -32,7 +32,7 @@ refusalNumber M.NotOutOfBand = 28
 refusalNumber M.NoReading = 29
 refusalNumber M.NoRoom = 30
 
--- The order in which refusals are judged: of those that apply the first is given.
+-- the order in which a message is judged
 abbrev pub messageOrder : List MessageRefusal
 messageOrder =
     M.UnsoundTable ∷ M.TooLong ∷ M.NotText ∷ M.TooDeep ∷ M.RepeatedKey ∷ M.NotEnvelope ∷ M.UnknownCommand ∷ M.NotOutOfBand ∷ M.NoReading
@@ -71,7 +71,7 @@ ReadsAsked S T a ts = Reads strict S T (a .value) (a .ref) (a .array) ts
 abbrev pub OneTooMany : List ℕ → Type 0
 OneTooMany m = (e : ℕ) × TooDeep message-lexis message-levels m e
 
--- When each number applies to the table T over the schema S, the message m and a room of so many words, by the paper's table.
+-- When each number applies to the table T over the schema S, the message m and a room of so many words: the reference's table, row by row.
 abbrev pub MessageApplies : MessageRefusal → List ℕ → List ℕ → List ℕ → ℕ → Type 0
 MessageApplies M.UnsoundTable S T m room = sound S T ≡ false
 MessageApplies M.TooLong S T m room = message-bytes < length m

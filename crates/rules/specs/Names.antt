@@ -1,4 +1,4 @@
--- 01, Schema text and Schema answers 5 and 6: good names, the same name, names that clash.
+-- Reference, Names: good names, the same name, names that clash.
 use Prim.Native.Nat.{ℕ}
 use Prim.Native.Char.{code}
 use mathlib.Core.Bool.{Bool, false, not, _&&_, _||_}
@@ -6,19 +6,16 @@ use mathlib.Core.List.{List, [], _∷_}
 use lib.Dec.{leb, eqb}
 use lib.ListN.{length, take}
 use Rattle.grammar.specs.Limits.{name-bytes}
-use Rattle.grammar.specs.Notation.{text, within, same, all}
+use Rattle.grammar.specs.Notation.{text, within, digit, same, all}
 
 abbrev pub letter : ℕ → Bool
 letter b = within (code "A") (code "Z") b || within (code "a") (code "z") b
-
-abbrev pub digit : ℕ → Bool
-digit b = within (code "0") (code "9") b
 
 -- a letter, a digit, - or _
 abbrev pub nameByte : ℕ → Bool
 nameByte b = letter b || digit b || eqb b (code "-") || eqb b (code "_")
 
--- Schema answers 5: 1 to 63 name bytes, the first a letter, or a digit where `digits` says so (an enum value, a branch), and no q_ in front
+-- Rule 5 asks for it: 1 to 63 name bytes, the first a letter, or a digit where `digits` says so (an enum value, a branch), and no q_ in front
 abbrev pub goodName : Bool → List ℕ → Bool
 goodName digits [] = false
 goodName digits (b ∷ bs) =
@@ -28,6 +25,6 @@ goodName digits (b ∷ bs) =
 abbrev pub sameName : List ℕ → List ℕ → Bool
 sameName = same
 
--- Schema answers 6, 8 and 9: what two names of one list must not do: be equal. proofs/Clashes has all that is used of it.
+-- Rules 6, 8 and 9: what two names of one list must not do: be equal. proofs/Clashes has all that is used of it.
 unfoldable pub clash : List ℕ → List ℕ → Bool
 clash x y = same x y

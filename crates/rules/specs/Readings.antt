@@ -1,18 +1,17 @@
--- 01, Readings and records: the rules by which values have types. One rule of the paper, one constructor.
+-- Reference, Readings and records: the rules by which values have types. One rule of the reference, one constructor.
 use Prim.Native.Nat.{ℕ, suc, _+_}
 use mathlib.Core.Path.{_≡_}
 use mathlib.Core.Bool.{Bool, true, false}
 use mathlib.Core.List.{List, [], _∷_, _++_, List·Memᴰ}
 use mathlib.Core.Option.{some}
-use Rattle.grammar.specs.Limits.{first-row, chain-structs}
+use Rattle.grammar.specs.Limits.{chain-structs}
 use Rattle.grammar.specs.Tree.{Json, Items, Fields, startOf, endOf}
 use Rattle.grammar.specs.Tree.Scalar.{str}
 use Rattle.grammar.specs.Tree.Json.{leaf, arr, obj}
 use Rattle.grammar.specs.Tree.Items.{no-items, item}
 use Rattle.grammar.specs.Tree.Fields.{no-fields, field}
-use Rattle.grammar.specs.Tree.{Scalar}
 use Rattle.rules.specs.Kinds.{enum-kind, struct-kind, union-kind, alternate-kind}
-use Rattle.rules.specs.Types.{any-type, builtInTakes}
+use Rattle.rules.specs.Types.{first-row, builtInTakes}
 use Rattle.rules.specs.Values.{valueAt}
 use Rattle.rules.specs.Rows.{kind, typeRef, arrayMark, optional, unionBase, discriminator, branchStruct, children, members, nameOf}
 
@@ -53,10 +52,8 @@ module _ (passes : Bool) (S T : List ℕ) where
   mutual
     -- Reads j t f ts: at the type reference t, as an array of it where f is 1, the value j has the reading ts
     pub data Reads : Json → ℕ → ℕ → List Typed → Type 0 where
-      -- Built-in: grid and range
-      built-in : {a e t : ℕ} {v : Scalar} → builtInTakes t v ≡ true → Reads (leaf a e v) t 0 (typed (leaf a e v) t 0 ∷ [])
-      -- any takes anything and has no records inside
-      any-value : {j : Json} → Reads j any-type 0 (typed j any-type 0 ∷ [])
+      -- Built-in: grid and range, whatever the value's JSON kind; no records inside
+      built-in : {j : Json} {t : ℕ} → builtInTakes t j ≡ true → Reads j t 0 (typed j t 0 ∷ [])
       -- Enum: a string equal to a value
       enum : {a e t v : ℕ} {cs : List ℕ} (r : ℕ) → t ≡ first-row + r → kind T r ≡ enum-kind → List·Memᴰ v (children T r) → nameOf S T v ≡ cs
           → Reads (leaf a e (str cs)) t 0 (typed (leaf a e (str cs)) t 0 ∷ [])

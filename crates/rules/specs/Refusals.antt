@@ -1,4 +1,4 @@
--- Refusals in the order in which they are judged: of those that apply, the first is given.
+-- Reference, Order of refusals: of those that apply, the first in the order in which they are judged is given.
 use mathlib.Core.Path.{_≡_}
 use mathlib.Core.Logic.{_⊎_}
 use mathlib.Core.List.{List, [], _∷_}

@@ -1,15 +1,16 @@
--- 01, Rows: what the words of a table say. Everything here is total: past the end every word is 0.
-use Prim.Native.Nat.{ℕ, zero, suc, _+_, _-_, _*_, _/_}
-use mathlib.Core.Bool.{Bool, false, cond, _&&_, _||_}
+-- Reference, Rows: what the words of a table say. Everything here is total: past the end every word is 0.
+use Prim.Native.Nat.{ℕ, zero, suc, _+_, _-_, _/_}
+use mathlib.Core.Bool.{Bool, cond, _&&_, _||_}
 use mathlib.Core.List.{List, [], _∷_, _++_}
 use mathlib.Core.Option.{Option, none, some}
 use lib.Dec.{eqb, ltb}
 use lib.ListN.{getD, length, take, drop}
-use Rattle.grammar.specs.Limits.{row-words, first-row}
+use Rattle.grammar.specs.Limits.{row-words}
+use Rattle.grammar.specs.Notation.{wordOf}
 use Rattle.grammar.specs.Tree.{Kind}
 use Rattle.grammar.specs.Tree.Kind.{object, string}
 use Rattle.rules.specs.Kinds.{enum-kind, struct-kind, union-kind, alternate-kind, command-kind}
-use Rattle.rules.specs.Types.{built-in-kinds}
+use Rattle.rules.specs.Types.{first-row, built-in-kinds}
 
 -- n numbers from a on
 abbrev pub upFrom : ℕ → ℕ → List ℕ
@@ -20,6 +21,10 @@ upFrom a (suc n) = a ∷ upFrom (suc a) n
 abbrev pub after : Option (List ℕ) → List ℕ → Option (List ℕ)
 after none own = none
 after (some inherited) own = some (inherited ++ own)
+
+-- a link to row r is its number plus 1; 0 links to nothing
+abbrev pub link : ℕ → ℕ
+link r = suc r
 
 -- the type reference to a link's row, 0 for no link
 abbrev pub linkRef : ℕ → ℕ
@@ -32,7 +37,7 @@ module _ (T : List ℕ) where
 
   -- word i of row r, both counted from 0
   abbrev pub word : ℕ → ℕ → ℕ
-  word r i = getD T (row-words * r + i) 0
+  word r i = wordOf row-words T r i
 
   -- words 0 to 2 of every row: its kind, and where its name stands in the schema
   abbrev pub kind : ℕ → ℕ
@@ -95,9 +100,9 @@ module _ (T : List ℕ) where
   abbrev pub ownerLink : ℕ → ℕ
   ownerLink r = word r 3
 
-  -- a command's argument struct link, 1 if allow-oob, return type reference or 0, 1 if the return is an array
-  abbrev pub arguments : ℕ → ℕ
-  arguments r = word r 3
+  -- a command's data struct link, 1 if allow-oob, return type reference or 0, 1 if the return is an array
+  abbrev pub dataStruct : ℕ → ℕ
+  dataStruct r = word r 3
 
   abbrev pub allowOob : ℕ → ℕ
   allowOob r = word r 4
@@ -126,7 +131,7 @@ module _ (T : List ℕ) where
   unnamed r = isStruct r && eqb (start r) 0 && eqb (size r) 0 && eqb (base r) 0
 
   unfoldable pub owns : ℕ → Bool
-  owns r = (isUnion r || isCommand r) && eqb (ownerLink r) (suc (next r)) && unnamed (next r)
+  owns r = (isUnion r || isCommand r) && eqb (ownerLink r) (link (next r)) && unnamed (next r)
 
   -- the children of row r, past its inline struct and that one's: values, members, branches or alternatives
   unfoldable pub firstChild : ℕ → ℕ
@@ -142,7 +147,7 @@ module _ (T : List ℕ) where
   unfoldable pub pastChildren : ℕ → ℕ
   pastChildren r = past (firstChild r) (childCount r)
 
-  -- A struct's members: its base's, found by going up the chain, then its own. By a link, with at most n structs on the chain; link 0 has none.
+  -- A struct's members: its base's, found by going up the chain, then its own. By the link of a struct's row r, with at most n structs on the chain; link 0 has none.
   unfoldable pub members : ℕ → ℕ → Option (List ℕ)
   members zero zero = some []
   members zero (suc r) = none

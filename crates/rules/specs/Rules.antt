@@ -1,16 +1,16 @@
--- 01, Schema answers 5, 6 and 8 to 11, said of the rows of a table T over the schema bytes S.
-use Prim.Native.Nat.{ℕ, suc, _-_}
+-- Reference, Rules 5 to 11, but for 7: said of the rows of a table T over the schema bytes S.
+use Prim.Native.Nat.{ℕ, _-_}
 use mathlib.Core.Bool.{Bool, true, false, not, cond, _&&_, _||_}
 use mathlib.Core.List.{List, [], _∷_, map}
 use mathlib.Core.Option.{Option, none, some}
 use lib.Dec.{eqb, ltb, leb}
-use Rattle.grammar.specs.Limits.{chain-structs, first-row}
+use Rattle.grammar.specs.Limits.{chain-structs}
 use Rattle.grammar.specs.Notation.{all, apart}
 use Rattle.grammar.specs.Tree.{Kind}
 use Rattle.rules.specs.Kinds.{value-kind, branch-kind}
-use Rattle.rules.specs.Types.{built-ins, sameKind}
+use Rattle.rules.specs.Types.{first-row, built-ins, sameKind}
 use Rattle.rules.specs.Names.{goodName, sameName, clash}
-use Rattle.rules.specs.Rows.{upFrom, rowCount, kind, isEnum, isStruct, isUnion, isAlternate, isCommand, count, base, typeRef, arrayMark, optional, unionBase, branchCount, discriminator, branchStruct, returns, unnamed, children, members, typeKind, nameOf}
+use Rattle.rules.specs.Rows.{link, upFrom, rowCount, kind, isEnum, isStruct, isUnion, isAlternate, isCommand, count, base, typeRef, arrayMark, optional, unionBase, branchCount, discriminator, branchStruct, returns, unnamed, children, members, typeKind, nameOf}
 
 -- some element has the property
 abbrev pub any : {A : Type 0} → (A → Bool) → List A → Bool
@@ -68,7 +68,11 @@ module _ (S T : List ℕ) where
   goodChains = everyRow T (λ r. not (isStruct T r) || chainFits r)
 
 module _ (T : List ℕ) where
-  -- 9: the discriminator is a mandatory member of the base, no array, of an enum type
+  -- 9, the first of four: a union has a branch
+  abbrev pub hasBranch : ℕ → Bool
+  hasBranch r = ltb 0 (branchCount T r)
+
+  -- the second: its discriminator is a member of the base, ms, mandatory, no array, of an enum type
   abbrev pub discriminatorRow : ℕ → ℕ
   discriminatorRow r = discriminator T r - 1
 
@@ -77,18 +81,23 @@ module _ (T : List ℕ) where
 
   abbrev pub discriminatorFits : ℕ → List ℕ → Bool
   discriminatorFits r ms =
-      any (λ m. eqb (discriminator T r) (suc m)) ms && eqb (optional T (discriminatorRow r)) 0 && eqb (arrayMark T (discriminatorRow r)) 0
+      any (λ m. eqb (discriminator T r) (link m)) ms && eqb (optional T (discriminatorRow r)) 0 && eqb (arrayMark T (discriminatorRow r)) 0
       && leb first-row (typeRef T (discriminatorRow r)) && isEnum T (discriminatorEnum r)
 
 module _ (S T : List ℕ) where
-  -- a branch is named by a value of that enum, and its struct repeats no member of the base
+  -- the third: a branch is named by a value of that enum
+  abbrev pub namedByValue : ℕ → ℕ → Bool
+  namedByValue r b = any (sameName (nameOf S T b)) (namesOf S T (children T (discriminatorEnum T r)))
+
+  -- the fourth: a branch's struct, inherited members included, repeats no member of the base
+  abbrev pub repeatsNone : List ℕ → ℕ → Bool
+  repeatsNone ms b = is (members T chain-structs (branchStruct T b)) (λ bs. noClash (namesOf S T ms) (namesOf S T bs))
+
   abbrev pub branchFits : ℕ → List ℕ → ℕ → Bool
-  branchFits r ms b =
-      any (sameName (nameOf S T b)) (namesOf S T (children T (discriminatorEnum T r)))
-      && is (members T chain-structs (branchStruct T b)) (λ bs. noClash (namesOf S T ms) (namesOf S T bs))
+  branchFits r ms b = namedByValue r b && repeatsNone ms b
 
   abbrev pub unionFits : ℕ → Bool
-  unionFits r = ltb 0 (branchCount T r) && is (members T chain-structs (unionBase T r)) (λ ms. discriminatorFits T r ms && all (branchFits r ms) (children T r))
+  unionFits r = hasBranch T r && is (members T chain-structs (unionBase T r)) (λ ms. discriminatorFits T r ms && all (branchFits r ms) (children T r))
 
   unfoldable pub goodUnions : Bool
   goodUnions = everyRow T (λ r. not (isUnion T r) || unionFits r)

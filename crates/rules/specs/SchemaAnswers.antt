@@ -1,4 +1,4 @@
--- 01, Schema answers: when each refusal applies, in which order they are judged, and the whole outcome: the first that applies, the count, and every lent word.
+-- Reference, Schema answers: when each refusal applies, in which order they are judged, and the whole outcome: the first that applies, the count, and every lent word.
 use Prim.Native.Nat.{ℕ, _-_, _/_, _<_}
 use mathlib.Core.Path.{_≡_}
 use mathlib.Core.Bool.{Bool, false}
@@ -19,7 +19,7 @@ use Rattle.rules.specs.Rules.{goodNames, distinctNames, goodChains, good
 use Rattle.rules.specs.SchemaTable.{table, allRefer}
 use Rattle.rules.specs.Refusals.{FirstOf}
 
--- the paper's numbers, as they are shown
+-- the numbers, as they are shown
 abbrev pub refusalNumber : SchemaRefusal → ℕ
 refusalNumber TooLong = 1
 refusalNumber NotText = 2
@@ -36,8 +36,8 @@ refusalNumber TooManyRows = 12
 refusalNumber NoRoom = 13
 
 -- the order in which a schema is judged
-abbrev pub schemaRefusals : List SchemaRefusal
-schemaRefusals =
+abbrev pub schemaOrder : List SchemaRefusal
+schemaOrder =
     TooLong ∷ NotText ∷ RepeatedKey ∷ NotDefinitions ∷ BadName ∷ RepeatedName ∷ UnknownName ∷ BadChain ∷ BadUnion ∷ BadAlternate ∷ BadReturn ∷ TooManyRows ∷ NoRoom ∷ []
 
 -- the two numbers of an answer: accepted 0 and the row count, refused the number and 0
@@ -59,7 +59,7 @@ pub record Says (S : List ℕ) (ds : List Definition) : Type 0 where
 abbrev pub Breaks : (List ℕ → List ℕ → Bool) → List ℕ → Type 0
 Breaks rule S = (ds : List Definition) × Says S ds × (rule S (table S ds) ≡ false)
 
--- When each number applies to the schema S and a room of so many words, by the paper's table.
+-- When each number applies to the schema S and a room of so many words: the reference's table, row by row.
 abbrev pub SchemaApplies : SchemaRefusal → List ℕ → ℕ → Type 0
 SchemaApplies TooLong S room = schema-bytes < length S
 SchemaApplies NotText S room = (objects : Items) → SchemaText S objects → ⊥
@@ -79,5 +79,5 @@ SchemaApplies NoRoom S room = (ds : List Definition) × Says S ds × (room / row
 pub data SchemaOutcome (S : List ℕ) (room : ℕ) (answer : SchemaAnswer) (words : List ℕ) : Type 0 where
   accepted : {ds : List Definition} → Says S ds → ((x : SchemaRefusal) → SchemaApplies x S room → ⊥) → answer ≡ Accepted (rowCount (table S ds))
       → words ≡ table S ds ++ replicate (room - length (table S ds)) 0 → SchemaOutcome S room answer words
-  refused : {x : SchemaRefusal} → FirstOf (λ y. SchemaApplies y S room) schemaRefusals x → answer ≡ Refused x
+  refused : {x : SchemaRefusal} → FirstOf (λ y. SchemaApplies y S room) schemaOrder x → answer ≡ Refused x
       → words ≡ replicate room 0 → SchemaOutcome S room answer words

@@ -1,13 +1,14 @@
--- 01, Rows: when a table, any words, is sound over schema bytes, any bytes.
+-- Reference, Sound tables: when a table, any words, is sound over schema bytes, any bytes.
 use Prim.Native.Nat.{ℕ, zero, suc, _+_, _-_, _%_}
 use mathlib.Core.Bool.{Bool, not, _&&_, _||_}
 use mathlib.Core.List.{List, [], _∷_}
 use lib.Dec.{eqb, ltb, leb}
 use lib.ListN.{getD, length}
-use Rattle.grammar.specs.Limits.{row-words, first-row, table-rows, schema-bytes}
-use Rattle.grammar.specs.Notation.{within, all}
+use Rattle.grammar.specs.Limits.{row-words, table-rows, schema-bytes}
+use Rattle.grammar.specs.Notation.{all}
+use Rattle.rules.specs.Types.{first-row, isBuiltIn}
 use Rattle.rules.specs.Kinds.{member-kind, branch-kind, alternative-kind}
-use Rattle.rules.specs.Rows.{upFrom, rowCount, word, kind, start, size, isEnum, isStruct, isUnion, isAlternate, isCommand, base, typeRef, arrayMark, optional, unionBase, discriminator, branchStruct, arguments, allowOob, returns, returnsArray, next, unnamed, owns, children, pastChildren}
+use Rattle.rules.specs.Rows.{upFrom, rowCount, word, kind, start, size, isEnum, isStruct, isUnion, isAlternate, isCommand, base, typeRef, arrayMark, optional, unionBase, discriminator, branchStruct, dataStruct, allowOob, returns, returnsArray, next, unnamed, owns, children, pastChildren}
 use Rattle.rules.specs.Rules.{everyRow, isDefinition, goodNames, distinctNames, goodChains, goodUnions, goodAlternates, goodReturns}
 
 module _ (T : List ℕ) where
@@ -45,20 +46,32 @@ module _ (T : List ℕ) where
   -- a reference to a built-in, or to the row of a type that has a name
   abbrev pub toType : ℕ → Bool
   toType t =
-      within 1 15 t
+      isBuiltIn t
       || leb first-row t && (isEnum T (t - first-row) || isStruct T (t - first-row) || isUnion T (t - first-row) || isAlternate T (t - first-row)) && not (unnamed T (t - first-row))
 
-  -- every reference of row r is to a row of a fitting kind, 0 only for a struct's base, a command's data or its return; flags are 0 or 1
+  -- Every reference is to a row of a fitting kind, 0 only for a struct's base, a command's data or its return; flags are 0 or 1. Kind by kind:
+  abbrev pub structLinked : ℕ → Bool
+  structLinked r = eqb (base T r) 0 || toStruct (base T r)
+
+  unfoldable pub memberLinked : ℕ → Bool
+  memberLinked r = toType (typeRef T r) && isFlag (arrayMark T r) && isFlag (optional T r)
+
+  unfoldable pub unionLinked : ℕ → Bool
+  unionLinked r = (owns T r || toStruct (unionBase T r)) && ltb 0 (discriminator T r) && eqb (kind T (discriminator T r - 1)) member-kind
+
+  unfoldable pub dataLinked : ℕ → Bool
+  dataLinked r = eqb (dataStruct T r) 0 || owns T r || toStruct (dataStruct T r)
+
+  unfoldable pub commandLinked : ℕ → Bool
+  commandLinked r =
+      dataLinked r && isFlag (allowOob T r)
+      && (eqb (returns T r) 0 && eqb (returnsArray T r) 0 || toType (returns T r) && isFlag (returnsArray T r))
+
   abbrev pub referencesFit : ℕ → Bool
   referencesFit r =
-      (not (isStruct T r) || eqb (base T r) 0 || toStruct (base T r))
-      && (not (eqb (kind T r) member-kind) || toType (typeRef T r) && isFlag (arrayMark T r) && isFlag (optional T r))
-      && (not (isUnion T r) || (owns T r || toStruct (unionBase T r)) && ltb 0 (discriminator T r) && eqb (kind T (discriminator T r - 1)) member-kind)
-      && (not (eqb (kind T r) branch-kind) || toStruct (branchStruct T r))
-      && (not (eqb (kind T r) alternative-kind) || toType (typeRef T r))
-      && (not (isCommand T r)
-      || (eqb (arguments T r) 0 || owns T r || toStruct (arguments T r)) && isFlag (allowOob T r)
-      && (eqb (returns T r) 0 && eqb (returnsArray T r) 0 || toType (returns T r) && isFlag (returnsArray T r)))
+      (not (isStruct T r) || structLinked r) && (not (eqb (kind T r) member-kind) || memberLinked r) && (not (isUnion T r) || unionLinked r)
+      && (not (eqb (kind T r) branch-kind) || toStruct (branchStruct T r)) && (not (eqb (kind T r) alternative-kind) || toType (typeRef T r))
+      && (not (isCommand T r) || commandLinked r)
 
 -- The words are whole rows, not too many; names lie within the schema, which is not too long; the rows are laid out and refer as they should, and the rules of numbers 5 to 11 hold of them.
 unfoldable pub sound : List ℕ → List ℕ → Bool

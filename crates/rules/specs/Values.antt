@@ -1,4 +1,4 @@
--- Taking trees apart: notation for the rules on schemas and messages. No rule of the paper stands here.
+-- Taking trees apart: notation for the rules on schemas and messages. No rule of the reference stands here.
 use Prim.Native.Nat.{ℕ}
 use mathlib.Core.Bool.{Bool, false, cond, _||_}
 use mathlib.Core.List.{List, [], _∷_}
@@ -14,6 +14,11 @@ infixl 20 _>>=_
 abbrev pub _>>=_ : {A B : Type 0} → Option A → (A → Option B) → Option B
 _>>=_ none f = none
 _>>=_ (some a) f = f a
+
+-- what a value gives, or the default if it is absent
+abbrev pub ifAbsent : {A B : Type 0} → B → (A → B) → Option A → B
+ifAbsent default f none = default
+ifAbsent default f (some a) = f a
 
 -- a value of one shape: an array, an object, a flag, a string
 abbrev pub asItems : Json → Option Items

@@ -1,8 +1,8 @@
-// The paper's answers, the words of rows and the limits as values with names; their meaning stands in specs/. It has no code of its own.
+// The answers, the words of rows and the limits as values with names; their meaning stands in specs/. It has no code of its own.
 pub mod kind;
 pub mod row;
 
-// Why a schema is refused, in the order of the paper's table (1 to 13).
+// Why a schema is refused, in the order of the reference's table (Schema answers, 1 to 13).
 pub enum SchemaRefusal {
     TooLong,
     NotText,
@@ -25,7 +25,7 @@ pub enum SchemaAnswer {
     Refused(SchemaRefusal),
 }
 
-// Why a message is refused, in the order of the paper's table (21 to 30).
+// Why a message is refused, in the order of the reference's table (Message answers, 21 to 30).
 pub enum MessageRefusal {
     UnsoundTable,
     TooLong,
@@ -45,7 +45,7 @@ pub enum MessageAnswer {
     Refused(MessageRefusal),
 }
 
-// The limits and widths of the paper, as grammar's specs/Limits has them.
+// The limits and widths, as grammar's specs/Limits has them.
 pub const SCHEMA_BYTES: usize = grammar::SCHEMA_BYTES;
 
 pub const MESSAGE_BYTES: usize = grammar::MESSAGE_BYTES;
@@ -59,6 +59,3 @@ pub const TABLE_ROWS: usize = 1024;
 pub const ROW_WORDS: usize = 8;
 
 pub const RECORD_WORDS: usize = 4;
-
-// A type reference from here on is to a row.
-pub const FIRST_ROW: usize = 16;

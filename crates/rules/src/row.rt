@@ -28,8 +28,8 @@ pub const DISCRIMINATOR: usize = 5;
 // A branch's struct link.
 pub const BRANCH_STRUCT: usize = 3;
 
-// A command's argument struct link, 1 if allow-oob, its return type reference, 1 if that is an array.
-pub const ARGUMENTS: usize = 3;
+// A command's data struct link, 1 if allow-oob, its return type reference, 1 if that is an array.
+pub const DATA_STRUCT: usize = 3;
 
 pub const ALLOW_OOB: usize = 4;
 

@@ -1,4 +1,4 @@
--- Demand 2 of the running call: whatever comes as schema S and lent words `old`, of the answer r and the words `new` that `compile_schema` gives.
+-- Demand 2 (`rules` Demands) of the running call: of the answer r and the words `new` that `compile_schema` gives, whatever comes.
 -- The contract of the call is the answer's definition; of that the rules crate has proved each part.
 use Prim.Native.Nat.{ℕ, _*_}
 use mathlib.Core.Path.{_≡_, ap, _∙_, subst, subst₂}
@@ -7,21 +7,15 @@ use mathlib.Core.List.{List}
 use lib.ListN.{length, take}
 use Rattle.grammar.specs.Limits.{row-words}
 use Rattle.rules.specs.declared.SchemaAnswer.{SchemaAnswer}
-use Rattle.rules.specs.declared.SchemaAnswer.the-variants.{Accepted}
 use Rattle.rules.specs.Sound.{sound}
 use Rattle.rules.specs.SchemaAnswers.{SchemaOutcome}
-use Rattle.rules.specs.Answers.{SchemaResult}
+use Rattle.rules.specs.Demands.{Demand2}
+use Rattle.rules.specs.Serving.Answers.{SchemaResult}
 use Rattle.rules.proofs.SchemaOutcome.{schema-outcome}
 use Rattle.rules.proofs.AcceptedSound.{accepted-rows}
 use Rattle.schema.specs.Stages.{Compiles}
 
-pub record Demand2 (S old new : List ℕ) (r : SchemaAnswer) : Type 0 where
-  -- the paper's table of answers: the lowest number that applies and all words 0; or no number applies, and the words are the table, row for row, and 0 after it
-  pub outcome : SchemaOutcome S (length old) r new
-  -- the rows of an acceptance are a sound table
-  pub sound-rows : (n : ℕ) → r ≡ Accepted n → sound S (take (row-words * n) new) ≡ true
-
-pub demand-2 : {S old new : List ℕ} {r : SchemaAnswer} → Compiles S old new r → Demand2 S old new r
+pub demand-2 : {S old new : List ℕ} {r : SchemaAnswer} → Compiles S old new r → Demand2 S (length old) r new
 demand-2 {S} {old} {new} {r} a =
     let p = ap (λ (x : SchemaResult). x .answer) (a .told) in
     let q = ap (λ (x : SchemaResult). x .words) (a .told) in

@@ -4,7 +4,7 @@ use Prim.Native.Nat.{ℕ, zero, suc, _-_, _/_, _≤_, _<_}
 use native.Mathlib.Omega.{arith}
 use mathlib.Core.Path.{_≡_, refl, sym, ap, _∙_, subst}
 use mathlib.Core.Bool.{Bool, true, false, not}
-use mathlib.Core.List.{List, [], _∷_, _++_}
+use mathlib.Core.List.{List, [], _++_}
 use lib.Dec.{ltb}
 use lib.ListN.{length, drop, replicate}
 use borrow.Author.Tests.{lt-ltb, le-ltb}
@@ -16,9 +16,9 @@ use Rattle.rules.specs.declared.SchemaAnswer.the-variants.{Accepted, Refused}
 use Rattle.rules.specs.Rows.{rowCount}
 use Rattle.rules.specs.Rules.{is}
 use Rattle.rules.specs.SchemaTable.{table}
-use Rattle.rules.specs.SchemaAnswers.{schemaRefusals}
-use Rattle.rules.specs.Answers.{rank}
-use Rattle.rules.specs.Answers.{schemaTest}
+use Rattle.rules.specs.SchemaAnswers.{schemaOrder}
+use Rattle.rules.specs.Serving.Answers.{rank}
+use Rattle.rules.specs.Serving.Answers.{schemaTest}
 use Rattle.rules.proofs.SchemaOutcome.{from-rank}
 use Rattle.schema.specs.Stages.{objects, written, resultBy, Answered, Zero, IsTable, Refers}
 
@@ -47,7 +47,7 @@ module _ {S old : List ℕ} where
 
   -- it fails, and the outcome is that by the refusals after it
   past : {new : List ℕ} {r : SchemaAnswer} (x : SchemaRefusal) → test S (length old) x ≡ false
-      → resultBy S (length old) (drop (suc (rank x)) schemaRefusals) ≡ record { answer = r; words = new } → Answered S x old new r
+      → resultBy S (length old) (drop (suc (rank x)) schemaOrder) ≡ record { answer = r; words = new } → Answered S x old new r
   unfolding resultBy
   past x t e = record { told = rw (from-rank x) (rw t e) }
 

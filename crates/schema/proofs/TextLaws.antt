@@ -12,23 +12,26 @@ use Rattle.grammar.specs.Limits.{schema-bytes, row-words}
 use Rattle.text.specs.Nodes.{node-words}
 use Rattle.grammar.specs.Tree.{Items}
 use Rattle.grammar.specs.SchemaText.{SchemaText}
-use Rattle.grammar.specs.Machine.Out.{whole}
-use Rattle.grammar.specs.Machine.Schema.{schema}
+use Rattle.grammar.specs.Serving.Machine.Out.{whole}
+use Rattle.grammar.specs.Serving.Machine.Schema.{schema}
 use Rattle.grammar.proofs.Texts.{schema-complete, schema-broken, schema-too-deep}
 use Rattle.rules.specs.declared.SchemaRefusal.the-variants.{TooLong, NotText, RepeatedKey, NotDefinitions, BadName}
 use Rattle.rules.specs.declared.SchemaAnswer.{SchemaAnswer}
 use Rattle.rules.specs.declared.SchemaAnswer.the-variants.{Refused}
 use Rattle.rules.specs.Definitions.{Definition, definitions}
 use Rattle.rules.specs.SchemaTable.{table, allRefer}
-use Rattle.rules.specs.RawTable.{rawFrom}
-use Rattle.rules.specs.Answers.{rank}
-use Rattle.rules.specs.Answers.{schemaResult}
+use Rattle.rules.specs.Serving.RawTable.{rawFrom}
+use Rattle.rules.specs.Serving.Answers.{rank}
+use Rattle.rules.specs.Serving.Answers.{schemaResult}
 use Rattle.rules.proofs.NameSpans.{names-within}
-use Rattle.rules.proofs.CellBases.{named-bases}
 use Rattle.definitions.specs.declared.writing.Put.{Put}
 use Rattle.definitions.specs.declared.writing.Put.the-variants.{Rows, Refused as NoRows}
 use Rattle.definitions.specs.Puts.{RowsPut, PutTold, PutsDefinitions}
+use Rattle.table.specs.Definitions.{DefinitionIndex, DefinitionLinks}
+use Rattle.table.proofs.DistinctLaws.{index-links}
 use Rattle.references.specs.Resolves.{Resolves}
+use Rattle.references.proofs.RawWords.{all-behind}
+use Rattle.references.proofs.SameDefinitions.{table-links}
 use Rattle.text.specs.Keys.{KeysOnce}
 use Rattle.text.specs.Texts.{SchemaTold, ReadsSchema}
 use Rattle.text.specs.declared.texts.Text.{Text}
@@ -107,7 +110,11 @@ module _ {S : List ℕ} where
 -- resolved rows are the table
 module _ {S raw new : List ℕ} {found : Bool} (w : RawRows S raw) (r : Resolves S raw new found) where
   resolved : (new ≡ table S (w .ds)) × (found ≡ allRefer S (w .ds))
-  resolved = r .told (w .ds) (w .short) (names-within S (w .js) (w .ds) (w .text) (w .are)) (named-bases (w .js) (w .ds) (w .are)) (w .rows)
+  resolved = r .told (w .ds) (w .short) (names-within S (w .js) (w .ds) (w .text) (w .are)) (w .rows)
+
+  pub still-links : {heads links : List ℕ} → DefinitionIndex S raw heads links → DefinitionLinks S new links
+  still-links k =
+      table-links (w .ds) (all-behind S (w .ds) (w .short) (names-within S (w .js) (w .ds) (w .text) (w .are))) (w .rows) (resolved .0) (index-links k)
 
   pub is-table : IsTable S new
   is-table =

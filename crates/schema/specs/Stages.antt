@@ -8,16 +8,16 @@ use lib.ListN.{length, drop, replicate}
 use Rattle.grammar.specs.Limits.{schema-bytes, schema-levels, row-words}
 use Rattle.grammar.specs.Tree.{Items}
 use Rattle.grammar.specs.SchemaText.{SchemaText}
-use Rattle.grammar.specs.Machine.Schema.{schema, readSchema}
+use Rattle.grammar.specs.Serving.Machine.Schema.{schema, readSchema}
 use Rattle.rules.specs.declared.SchemaRefusal.{SchemaRefusal}
 use Rattle.rules.specs.declared.SchemaAnswer.{SchemaAnswer}
 use Rattle.rules.specs.Values.{_>>=_}
 use Rattle.rules.specs.Definitions.{Definition, definitions}
 use Rattle.rules.specs.SchemaTable.{table, allRefer}
-use Rattle.rules.specs.RawTable.{rawFrom}
-use Rattle.rules.specs.SchemaAnswers.{schemaRefusals}
-use Rattle.rules.specs.Answers.{rank}
-use Rattle.rules.specs.Answers.{SchemaResult, first, objectsIn, schemaTest, tableIn, schemaAnswered, schemaResult}
+use Rattle.rules.specs.Serving.RawTable.{rawFrom}
+use Rattle.rules.specs.SchemaAnswers.{schemaOrder}
+use Rattle.rules.specs.Serving.Answers.{rank}
+use Rattle.rules.specs.Serving.Answers.{SchemaResult, first, objectsIn, schemaTest, tableIn, schemaAnswered, schemaResult}
 use Rattle.text.specs.Nodes.{HoldsItems}
 
 -- A node takes at least two bytes of the schema, and a row a node of its own.
@@ -40,7 +40,7 @@ resultBy S room xs = schemaAnswered S room (tableIn S room (written S)) (first (
 
 -- the answer and the lent words are the outcome by the refusals from x on
 pub record Answered (S : List ℕ) (x : SchemaRefusal) (old new : List ℕ) (r : SchemaAnswer) : Type 0 where
-  pub told : resultBy S (length old) (drop (rank x) schemaRefusals) ≡ record { answer = r; words = new }
+  pub told : resultBy S (length old) (drop (rank x) schemaOrder) ≡ record { answer = r; words = new }
 
 -- words that are all zero
 pub record Zero (w : List ℕ) : Type 0 where

@@ -1,5 +1,6 @@
 // The compile call, from the bytes to the table; then the stages from the table on.
 use crate::stages::judge_names;
+use buckets::BUCKETS;
 use definitions::definitions::put_definitions;
 use definitions::writing::Put;
 use references::resolve;
@@ -8,6 +9,7 @@ use rules::SCHEMA_BYTES;
 use rules::SchemaAnswer;
 use rules::SchemaRefusal;
 use strings::dialects::Dialect;
+use table::names::index_definitions;
 use text::keys::keys_once;
 use text::nodes::NODE_WORDS;
 use text::texts::Text;
@@ -33,8 +35,10 @@ fn judge_table(schema: &[u8], table: &mut [u32], rows: &mut [u32]) -> SchemaAnsw
     requires { ⌜ RawRows (now schema) (now table) × Zero (now rows) ⌝ }
     ensures { λ r. ⌜ Answered (now (schema .entry)) BadName (now (rows .entry)) (now (rows .exit)) r ⌝ }
 {
+    let mut heads = [0u32; BUCKETS];
     let mut links = [0u32; MOST_ROWS];
-    let found = resolve(schema, table, &mut links);
+    index_definitions(schema, table, &mut heads, &mut links);
+    let found = resolve(schema, table, &heads, &links);
     let mut hashes = [0u32; MOST_ROWS];
     let n = table.len() / ROW_WORDS;
     judge_names(schema, table, &mut hashes[..n], &mut links, found, rows)

@@ -4,16 +4,14 @@ use rules::ROW_WORDS;
 use rules::SchemaAnswer;
 use rules::SchemaRefusal;
 use rules::TABLE_ROWS;
-use table::alternates::good_alternates;
-use table::chains::good_chains;
 use table::names::distinct_names;
 use table::names::good_names;
-use table::returns::good_returns;
-use table::unions::good_unions;
+use table::rule::Rule;
+use table::rule::every_row_fits;
 use words::copy;
-ghost use Prim.Native.Nat.{_*_, _≤_, _<_, _^_};
+ghost use Prim.Native.Nat.{_<_, _^_};
 ghost use lib.ListN.{length};
-ghost use Rattle.grammar.specs.Limits.{row-words};
+ghost use Rattle.table.specs.Definitions.{DefinitionLinks};
 ghost use Rattle.rows.specs.Hashes.{Hashes};
 ghost use Rattle.rules.specs.declared.SchemaRefusal.the-variants.{BadName, BadChain, TooManyRows};
 ghost use Rattle.schema.specs.Stages.{Answered, Zero, IsTable, Refers};
@@ -39,22 +37,22 @@ fn judge_definitions(schema: &[u8], table: &[u32], hashes: &[u32], rows: &mut [u
     requires { ⌜ (length (now table) < 2 ^ 32) × Zero (now rows) × IsTable (now schema) (now table) × Hashes (now schema) (now table) (now hashes) ⌝ }
     ensures { λ r. ⌜ Answered (now (schema .entry)) BadChain (now (rows .entry)) (now (rows .exit)) r ⌝ }
 {
-    if !good_chains(schema, table, hashes) {
+    if !every_row_fits(Rule::Chains, schema, table, hashes) {
         return SchemaAnswer::Refused(SchemaRefusal::BadChain);
     }
-    if !good_unions(schema, table, hashes) {
+    if !every_row_fits(Rule::Unions, schema, table, hashes) {
         return SchemaAnswer::Refused(SchemaRefusal::BadUnion);
     }
-    if !good_alternates(schema, table) {
+    if !every_row_fits(Rule::Alternates, schema, table, hashes) {
         return SchemaAnswer::Refused(SchemaRefusal::BadAlternate);
     }
-    if !good_returns(schema, table) {
+    if !every_row_fits(Rule::Returns, schema, table, hashes) {
         return SchemaAnswer::Refused(SchemaRefusal::BadReturn);
     }
     judge_room(table, rows, schema)
 }
 
-// The rules on names: good, distinct, and known, which `found` tells of those that refer. The hashes and the links lend a word for each row.
+// The rules on names: good, distinct, and known, which `found` tells of those that refer. The hashes lend a word for each row, the links are those of the definitions' index.
 pub fn judge_names(
     schema: &[u8],
     table: &[u32],
@@ -63,7 +61,7 @@ pub fn judge_names(
     found: bool,
     rows: &mut [u32],
 ) -> SchemaAnswer
-    requires { ⌜ (length (now table) < 2 ^ 32) × (length (now table) ≤ row-words * length (now links)) × (length (now links) < 2 ^ 32) × Zero (now rows) × IsTable (now schema) (now table) × Refers (now schema) found ⌝ }
+    requires { ⌜ (length (now table) < 2 ^ 32) × DefinitionLinks (now schema) (now table) (now links) × (length (now links) < 2 ^ 32) × Zero (now rows) × IsTable (now schema) (now table) × Refers (now schema) found ⌝ }
     ensures { λ r. ⌜ Answered (now (schema .entry)) BadName (now (rows .entry)) (now (rows .exit)) r ⌝ }
 {
     if !good_names(schema, table) {

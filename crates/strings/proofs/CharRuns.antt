@@ -10,10 +10,10 @@ use mathlib.Core.Bool.{true, false}
 use mathlib.Core.List.{List, [], _∷_}
 use lib.ListN.{length, getD, drop, drop-of-length-le}
 use lib.Seq.{drop-cons}
-use Rattle.grammar.specs.Machine.{Dialect, CharStep, Stack, StringRole, inChar, scan}
-use Rattle.grammar.specs.Machine.CharStep.{stay, char, bad}
-use Rattle.grammar.specs.Machine.Control.{InString, InChar}
-use Rattle.grammar.specs.Machine.Out.{fault}
+use Rattle.grammar.specs.Serving.Machine.{Dialect, CharStep, Stack, StringRole, inChar, scan}
+use Rattle.grammar.specs.Serving.Machine.CharStep.{stay, char, bad}
+use Rattle.grammar.specs.Serving.Machine.Control.{InString, InChar}
+use Rattle.grammar.specs.Serving.Machine.Out.{fault}
 use Rattle.grammar.proofs.Booleans.{by}
 use Rattle.grammar.proofs.TokenRuns.{CharRun, CharRun.char-whole, CharRun.char-on, CharStarts, CharStarts.char-starts, TokensSound, TokensComplete}
 use Rattle.grammar.proofs.Steps.{goes-on, scan-cons}

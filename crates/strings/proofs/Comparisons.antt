@@ -9,7 +9,7 @@ use mathlib.Core.List.{List, [], _∷_}
 use lib.ListN.{length, getD, take, drop}
 use lib.Seq.{drop-cons}
 use Rattle.grammar.specs.Notation.{same}
-use Rattle.grammar.specs.Machine.{Dialect}
+use Rattle.grammar.specs.Serving.Machine.{Dialect}
 use Rattle.strings.specs.declared.dialects.Dialect as Dialects
 use Rattle.strings.specs.declared.chars.Char.the-variants.{Code}
 use Rattle.strings.specs.Chars.{charAt}

@@ -13,11 +13,11 @@ use lib.ListN.{length, getD}
 use borrow.Author.Tests.{lt-ltb, le-ltb, ltb-true, le-leb, lt-leb, eq-eqb, ne-eqb}
 use Rattle.grammar.specs.Notation.{within}
 use Rattle.grammar.specs.MessageText.{hexDigit, Escape}
-use Rattle.grammar.specs.Machine.{CharStep}
-use Rattle.grammar.specs.Machine.CharStep.{stay, char, bad}
-use Rattle.grammar.specs.Machine.Message.{message, CharState, charStart, charStep, escapeOf, withHex, unit, Want, lowest, highest}
-use Rattle.grammar.specs.Machine.Message.CharState.{hex0, hex1, hex2, hex3, low-backslash, low-u, low0, low1, low2, low3, utf8}
-use Rattle.grammar.proofs.Booleans.{within-is, within-below, within-above, Outside, Outside.below, Outside.above}
+use Rattle.grammar.specs.Serving.Machine.{CharStep}
+use Rattle.grammar.specs.Serving.Machine.CharStep.{stay, char, bad}
+use Rattle.grammar.specs.Serving.Machine.Message.{message, CharState, charStart, charStep, escapeOf, withHex, unit, Want, lowest, highest}
+use Rattle.grammar.specs.Serving.Machine.Message.CharState.{hex0, hex1, hex2, hex3, low-backslash, low-u, low0, low1, low2, low3, utf8}
+use Rattle.grammar.proofs.Booleans.{within-is, within-below, within-above, within-out, Outside, Outside.below, Outside.above}
 use Rattle.grammar.proofs.Strings.{hex-low}
 use Rattle.grammar.proofs.StringsComplete.{step-low-backslash, step-low-u, step-backslash, step-u, step-escape, lead-one}
 use Rattle.strings.specs.declared.chars.Char.{Char}
@@ -25,10 +25,6 @@ use Rattle.strings.specs.declared.chars.Char.the-variants.{Code, Fault}
 use Rattle.strings.specs.Chars.{restAt, nextAt, charAt, hexOr, hexAt, TwoDigits, TwoDigits.no-first, TwoDigits.no-second, TwoDigits.two-digits, utf8At}
 use Rattle.strings.proofs.Utf8.{more, utf8-at}
 use Rattle.strings.proofs.CharRuns.{stay-at, char-at, bad-at, at-end, at-step, at-bad, at-char, at-stay, starts-at}
-
-outside : (a e b : ℕ) → Outside a e b → within a e b ≡ false
-outside a e b (below h) = within-below a e b h
-outside a e b (above h) = within-above a e b h
 
 -- a hexadecimal digit
 digit-09 : (b : ℕ) → 48 ≤ b → b ≤ 57 → hexDigit b ≡ some (b - 48)
@@ -45,7 +41,7 @@ digit-af b h g = simp (within-above 48 57 b (omega arith), within-above 65 70 b 
 
 digit-none : (b : ℕ) → Outside 48 57 b → Outside 65 70 b → Outside 97 102 b → hexDigit b ≡ none
 unfolding hexDigit
-digit-none b x y z = simp (outside 48 57 b x, outside 65 70 b y, outside 97 102 b z)
+digit-none b x y z = simp (within-out 48 57 b x, within-out 65 70 b y, within-out 97 102 b z)
 
 module _ (s : List ℕ) (i : ℕ) where
   pub hex-end : length s ≤ i → 16 ≡ hexAt s i
@@ -292,7 +288,7 @@ unfolding charStart
 start-none b n x (below h) =
     simp (
       ne-eqb b (code "\\") n,
-      outside 0x20 0x7F b x,
+      within-out 0x20 0x7F b x,
       within-below 0xC2 0xDF b h,
       ne-eqb b 0xE0 (omega arith),
       ne-eqb b 0xED (omega arith),
@@ -304,7 +300,7 @@ start-none b n x (below h) =
 start-none b n x (above h) =
     simp (
       ne-eqb b (code "\\") n,
-      outside 0x20 0x7F b x,
+      within-out 0x20 0x7F b x,
       within-above 0xC2 0xDF b (omega arith),
       ne-eqb b 0xE0 (omega arith),
       ne-eqb b 0xED (omega arith),

@@ -13,14 +13,14 @@ use borrow.Author.Tests.{leb-true, leb-false, eqb-true, eqb-false, eq-eqb, ne-eq
 use Rattle.grammar.specs.Notation.{within}
 use Rattle.grammar.specs.Lexis.{blank}
 use Rattle.grammar.specs.SchemaText as SchemaText
-use Rattle.grammar.specs.Machine.Schema.{schema}
-use Rattle.grammar.specs.Machine.Message.{message}
+use Rattle.grammar.specs.Serving.Machine.Schema.{schema}
+use Rattle.grammar.specs.Serving.Machine.Message.{message}
 use Rattle.grammar.proofs.Booleans.{clash, by, either, both, within-true, within-is, within-below, within-above}
 use Rattle.grammar.proofs.SchemaDialect.{schema-tokens-sound}
 use Rattle.strings.specs.declared.dialects.Dialect.{Dialect}
 use Rattle.strings.specs.declared.dialects.Dialect.the-variants.{Schema, Message}
 use Rattle.strings.specs.declared.chars.Char.the-variants.{Code}
-use Rattle.strings.specs.Classes.{named, classOf}
+use Rattle.strings.specs.Classes.{named, classOf, first-plain-class}
 use Rattle.strings.specs.Chars.{charAt}
 use Rattle.strings.specs.Strings.{grammarOf, plainByte}
 use Rattle.strings.proofs.CharRuns.{standing, fault-not-code, char-there, none-at-quote}
@@ -45,8 +45,8 @@ plain-true b t =
     let g = within-true 0x20 0x7F b (h .0) in
     (g .0, g .1, λ e. clash (h .1) (ap not (eq-eqb b (code "\\") e)))
 
--- classes from 5 on are those bytes
-pub class-itself : (b : ℕ) → 5 ≤ classOf b → Itself b
+-- the classes of plain bytes are those bytes
+pub class-itself : (b : ℕ) → first-plain-class ≤ classOf b → Itself b
 unfolding classOf
 class-itself b =
     by P (eqb b (code " ")) (λ t _. let e = eqb-true b (code " ") t in record { from = omega arith; upto = omega arith; no-quote = omega arith; no-backslash = omega arith })
@@ -58,7 +58,7 @@ class-itself b =
     (λ r _. record { from = leb-false b 0x1F f; upto = omega (arith, leb-false 0x80 b g); no-quote = eqb-false b _ q; no-backslash = eqb-false b _ r }))))))
   where
     P : ℕ → Type 0
-    P n = 5 ≤ n → Itself b
+    P n = first-plain-class ≤ n → Itself b
 
 below-plain : (b : ℕ) → b < 0x20 → plainByte b ≡ false
 below-plain b h = simp (within-below 0x20 0x7F b h)
@@ -73,7 +73,7 @@ blank-coded b f =
     (λ t. let e = eqb-true b (code "\r") t in below-plain b (omega arith))
 
 -- of the others only the quotation mark is plain
-pub class-coded : (b : ℕ) → classOf b < 5 → (b ≡ code "\"" → ⊥) → plainByte b ≡ false
+pub class-coded : (b : ℕ) → classOf b < first-plain-class → (b ≡ code "\"" → ⊥) → plainByte b ≡ false
 unfolding classOf
 class-coded b =
     by P (eqb b (code " ")) (λ _ h. absurd (omega arith))
@@ -85,7 +85,7 @@ class-coded b =
     (λ _. by P (within (code "0") (code "9") b) (λ _ h. absurd (omega arith)) (λ _. by P (named b) (λ _ h. absurd (omega arith)) (λ _ h. absurd (omega arith)))))))))
   where
     P : ℕ → Type 0
-    P n = n < 5 → (b ≡ code "\"" → ⊥) → plainByte b ≡ false
+    P n = n < first-plain-class → (b ≡ code "\"" → ⊥) → plainByte b ≡ false
 
 -- a plain byte is its own code point
 pub record Alone (s : List ℕ) (i c e : ℕ) : Type 0 where
@@ -112,12 +112,12 @@ pub data SchemaCode (s : List ℕ) (i c e : ℕ) : Type 0 where
   plain-byte : c ≡ getD s i 0 → e ≡ i + 1 → plainByte (getD s i 0) ≡ true → (c ≡ code "\\" → ⊥) → SchemaCode s i c e
   backslashes : getD s i 0 ≡ code "\\" → c ≡ code "\\" → SchemaCode s i c e
 
-schema-shape : (s : List ℕ) {i c e : ℕ} {l r : List ℕ} → SchemaText.Char i l e r c → drop i s ≡ l → SchemaCode s i c e
-schema-shape s (SchemaText.Char.plain {p = i} {b = b} w q n) d =
+schema-shape : (s : List ℕ) {i c e : ℕ} {l r : List ℕ} → SchemaText.SchemaChar i l e r c → drop i s ≡ l → SchemaCode s i c e
+schema-shape s (SchemaText.SchemaChar.plain {p = i} {b = b} w q n) d =
     let k = standing s i d in
     let h = within-true 0x20 0x7E b w in
     plain-byte (sym (k .byte)) (sym (add-one i)) (rw (k .byte) (plain-is b (h .0) (omega arith) n)) n
-schema-shape s (SchemaText.Char.backslash {p = i}) d = backslashes (standing s i d .byte) refl
+schema-shape s (SchemaText.SchemaChar.backslash {p = i}) d = backslashes (standing s i d .byte) refl
 
 pub schema-code : (s : List ℕ) {i c e : ℕ} → charAt schema s i ≡ Code c e → SchemaCode s i c e
 schema-code s {i} {c} {e} h = schema-shape s (char-there schema schema-tokens-sound s i c e h .char) refl

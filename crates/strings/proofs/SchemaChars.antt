@@ -7,8 +7,8 @@ use mathlib.Core.Path.{_≡_, refl, sym, ap, _∙_}
 use mathlib.Core.List.{List}
 use lib.ListN.{length, getD}
 use borrow.Author.Tests.{eq-eqb, ne-eqb}
-use Rattle.grammar.specs.Machine.CharStep.{stay, char, bad}
-use Rattle.grammar.specs.Machine.Schema.{schema, charStart, charStep, CharState.escape}
+use Rattle.grammar.specs.Serving.Machine.CharStep.{stay, char, bad}
+use Rattle.grammar.specs.Serving.Machine.Schema.{schema, charStart, charStep, CharState.escape}
 use Rattle.grammar.proofs.Booleans.{within-is, within-below, within-above, Outside, Outside.below, Outside.above}
 use Rattle.strings.specs.declared.chars.Char.the-variants.{Code, Fault}
 use Rattle.strings.specs.Chars.{restAt, charAt}

@@ -11,8 +11,8 @@ use mathlib.Core.List.{List}
 use lib.ListN.{length, getD}
 use borrow.Author.Count.{below-more}
 use borrow.Author.Tests.{eq-eqb, ne-eqb}
-use Rattle.grammar.specs.Machine.Schema.{schema}
-use Rattle.grammar.specs.Machine.Message.{message}
+use Rattle.grammar.specs.Serving.Machine.Schema.{schema}
+use Rattle.grammar.specs.Serving.Machine.Message.{message}
 use Rattle.grammar.proofs.Booleans.{clash}
 use Rattle.grammar.proofs.SchemaDialect.{schema-tokens-sound, schema-tokens-complete}
 use Rattle.grammar.proofs.MessageDialect.{message-tokens-sound, message-tokens-complete}
@@ -21,7 +21,7 @@ use Rattle.strings.specs.declared.dialects.Dialect.the-variants.{Schema,
 use Rattle.strings.specs.declared.chars.Char.{Char}
 use Rattle.strings.specs.declared.chars.Char.the-variants.{Code, Fault}
 use Rattle.strings.specs.declared.strings.StringRead.the-variants as Answer
-use Rattle.strings.specs.Classes.{classOf}
+use Rattle.strings.specs.Classes.{classOf, first-plain-class}
 use Rattle.strings.specs.Chars.{charAt}
 use Rattle.strings.specs.Strings.{grammarOf, plainByte, PlainEnd, ReadsString}
 use Rattle.strings.proofs.CharRuns.{char-there}
@@ -40,21 +40,21 @@ moves b s i {c} {e} f q = let t = char-there (grammarOf b) (agrees b .sound) s i
 pub record PlainTo (s : List ℕ) (from i : ℕ) : Type 0 where
   pub on : from ≤ i
   pub within : from ≤ length s → i ≤ length s
-  pub plain : (k : ℕ) → from ≤ k → k < i → 5 ≤ classOf (getD s k 0)
+  pub plain : (k : ℕ) → from ≤ k → k < i → first-plain-class ≤ classOf (getD s k 0)
 
 pub plain-none : (s : List ℕ) (from : ℕ) → PlainTo s from from
 plain-none s from = record { on = omega arith; within = λ h. h; plain = λ k h g. absurd (omega arith) }
 
 module _ {s : List ℕ} {from i : ℕ} (p : PlainTo s from i) where
-  pub plain-more : {c : ℕ} → i < length s → c ≡ classOf (getD s i 0) → 5 ≤ c → PlainTo s from (i + 1)
+  pub plain-more : {c : ℕ} → i < length s → c ≡ classOf (getD s i 0) → first-plain-class ≤ c → PlainTo s from (i + 1)
   plain-more h e g =
       record {
         on = omega arith;
         within = λ _. omega arith;
-        plain = λ k x y. below-more (λ k. from ≤ k → 5 ≤ classOf (getD s k 0)) i (λ k l m. p .plain k m l) (λ _. rw (← e) g) k y x;
+        plain = λ k x y. below-more (λ k. from ≤ k → first-plain-class ≤ classOf (getD s k 0)) i (λ k l m. p .plain k m l) (λ _. rw (← e) g) k y x;
       }
 
-  pub plain-stops : {c : ℕ} → c ≡ classOf (getD s i 0) → c < 5 → PlainEnd s from i
+  pub plain-stops : {c : ℕ} → c ≡ classOf (getD s i 0) → c < first-plain-class → PlainEnd s from i
   plain-stops e g = record { on = p .on; within = p .within; plain = p .plain; ends = λ _. omega arith }
 
   pub plain-ends : length s ≤ i → PlainEnd s from i

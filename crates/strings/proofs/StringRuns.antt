@@ -9,8 +9,8 @@ use mathlib.Core.List.{List, [], _∷_}
 use lib.ListN.{length, getD, drop, length-take}
 use lib.Seq.{drop-cons}
 use Rattle.grammar.specs.Grammar.{Chars}
-use Rattle.grammar.specs.Machine.{Dialect, StringRole}
-use Rattle.grammar.specs.Machine.Control.{InString}
+use Rattle.grammar.specs.Serving.Machine.{Dialect, StringRole}
+use Rattle.grammar.specs.Serving.Machine.Control.{InString}
 use Rattle.grammar.proofs.Booleans.{clash}
 use Rattle.grammar.proofs.Lists.{all-at, all-of-at}
 use Rattle.grammar.proofs.TokenRuns.{TokensSound, TokensComplete}

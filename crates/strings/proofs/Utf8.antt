@@ -10,10 +10,10 @@ use lib.ListN.{length, getD, drop, drop-of-length-le}
 use lib.Seq.{drop-cons}
 use Rattle.grammar.specs.Notation.{within}
 use Rattle.grammar.specs.MessageText.{join}
-use Rattle.grammar.specs.Machine.CharStep.{bad}
-use Rattle.grammar.specs.Machine.Message.{message, Want, lowest, highest, wanted, charStep}
-use Rattle.grammar.specs.Machine.Message.CharState.{utf8}
-use Rattle.grammar.specs.Machine.Message.Want.{one, two, two-E0, two-ED, three, three-F0, three-F4}
+use Rattle.grammar.specs.Serving.Machine.CharStep.{bad}
+use Rattle.grammar.specs.Serving.Machine.Message.{message, Want, lowest, highest, wanted, charStep}
+use Rattle.grammar.specs.Serving.Machine.Message.CharState.{utf8}
+use Rattle.grammar.specs.Serving.Machine.Message.Want.{one, two, two-E0, two-ED, three, three-F0, three-F4}
 use Rattle.grammar.proofs.Booleans.{within-true, within-is, within-below, within-above}
 use Rattle.strings.specs.declared.chars.Char.{Char}
 use Rattle.strings.specs.declared.chars.Char.the-variants.{Code, Fault}

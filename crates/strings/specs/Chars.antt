@@ -8,8 +8,8 @@ use lib.Dec.{ltb}
 use lib.ListN.{length, getD, drop}
 use Rattle.grammar.specs.Notation.{within}
 use Rattle.grammar.specs.MessageText.{hexDigit, join}
-use Rattle.grammar.specs.Machine.{Dialect, CharStep}
-use Rattle.grammar.specs.Machine.CharStep.{stay, char, bad}
+use Rattle.grammar.specs.Serving.Machine.{Dialect, CharStep}
+use Rattle.grammar.specs.Serving.Machine.CharStep.{stay, char, bad}
 use Rattle.strings.specs.declared.chars.Char.{Char}
 use Rattle.strings.specs.declared.chars.Char.the-variants.{Code, Fault}
 
@@ -19,7 +19,7 @@ module _ (D : Dialect) where
   charRest t p [] = Fault p
   charRest t p (b ∷ l) = elim (D .charStep t b) [ stay u ↦ charRest u (suc p) l | char c ↦ Code c (suc p) | bad ↦ Fault p ]
 
-  -- the same after a step by the byte at place p
+  -- a character after a step by the byte at place p, where l is left behind it
   abbrev pub charNext : CharStep (D .CharState) → ℕ → List ℕ → Char
   charNext (stay t) p l = charRest t (suc p) l
   charNext (char c) p l = Code c (suc p)
@@ -66,6 +66,6 @@ utf8Rest zero low high v p l = Code v p
 utf8Rest (suc n) low high v p [] = Fault p
 utf8Rest (suc n) low high v p (b ∷ l) = elim (within low high b) [ true ↦ utf8Rest n 0x80 0xBF (join v b) (suc p) l | false ↦ Fault p ]
 
--- the same at place i of the text s
+-- n tail bytes at place i of the text s
 unfoldable pub utf8At : ℕ → ℕ → ℕ → ℕ → List ℕ → ℕ → Char
 utf8At n low high v s i = utf8Rest n low high v i (drop i s)

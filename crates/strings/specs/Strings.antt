@@ -8,12 +8,12 @@ use lib.Dec.{eqb}
 use lib.ListN.{length, getD, take, drop}
 use Rattle.grammar.specs.Notation.{within, all}
 use Rattle.grammar.specs.Grammar.{Chars}
-use Rattle.grammar.specs.Machine.{Dialect, Stack, StringRole, Control, scan}
-use Rattle.grammar.specs.Machine.Control.{InString}
-use Rattle.grammar.specs.Machine.Out.{fault}
-use Rattle.grammar.specs.Machine.Schema.{schema}
-use Rattle.grammar.specs.Machine.Message.{message}
-use Rattle.strings.specs.Classes.{classOf}
+use Rattle.grammar.specs.Serving.Machine.{Dialect, Stack, StringRole, Control, scan}
+use Rattle.grammar.specs.Serving.Machine.Control.{InString}
+use Rattle.grammar.specs.Serving.Machine.Out.{fault}
+use Rattle.grammar.specs.Serving.Machine.Schema.{schema}
+use Rattle.grammar.specs.Serving.Machine.Message.{message}
+use Rattle.strings.specs.Classes.{classOf, first-plain-class}
 use Rattle.strings.specs.declared.dialects.Dialect as Dialects
 use Rattle.strings.specs.declared.dialects.Dialect.the-variants.{Schema, Message}
 use Rattle.strings.specs.declared.strings.StringRead.{StringRead}
@@ -56,5 +56,5 @@ pub record ReadsString (D : Dialect) (s : List ℕ) (a : ℕ) (r : StringRead) :
 pub record PlainEnd (s : List ℕ) (i e : ℕ) : Type 0 where
   pub on : i ≤ e
   pub within : i ≤ length s → e ≤ length s
-  pub plain : (k : ℕ) → i ≤ k → k < e → 5 ≤ classOf (getD s k 0)
-  pub ends : e < length s → classOf (getD s e 0) < 5
+  pub plain : (k : ℕ) → i ≤ k → k < e → first-plain-class ≤ classOf (getD s k 0)
+  pub ends : e < length s → classOf (getD s e 0) < first-plain-class

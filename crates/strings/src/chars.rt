@@ -4,9 +4,9 @@ ghost use mathlib.Core.Path.{_≡_};
 ghost use Prim.Native.Nat.{_≤_, _<_};
 ghost use lib.ListN.{length};
 ghost use Rattle.grammar.specs.Notation.{within as between};
-ghost use Rattle.grammar.specs.Machine.Schema.{schema as schemaDialect};
-ghost use Rattle.grammar.specs.Machine.Message.{message, charStart};
-ghost use Rattle.grammar.specs.Machine.Message.{CharState as State};
+ghost use Rattle.grammar.specs.Serving.Machine.Schema.{schema as schemaDialect};
+ghost use Rattle.grammar.specs.Serving.Machine.Message.{message, charStart};
+ghost use Rattle.grammar.specs.Serving.Machine.Message.{CharState as State};
 ghost use Rattle.strings.specs.Chars.{restAt, nextAt, charAt, hexAt, TwoDigits, TailByte, utf8At};
 ghost use Rattle.strings.specs.Strings.{grammarOf};
 

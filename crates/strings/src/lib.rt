@@ -1,5 +1,6 @@
 // Strings in either dialect: classes of bytes, characters, whole strings, and what they mean.
 pub mod chars;
+pub mod class;
 pub mod classes;
 pub mod dialects;
 pub mod hashes;

@@ -2,6 +2,7 @@
 use crate::chars::Char;
 use crate::chars::message_char;
 use crate::chars::schema_char;
+use crate::class;
 use crate::classes::class_in;
 use crate::dialects::Dialect;
 ghost use mathlib.Core.Path.{_≡_};
@@ -9,8 +10,8 @@ ghost use Prim.Native.Nat.{_<_};
 ghost use lib.ListN.{length};
 ghost use Rattle.strings.specs.Classes.{classOf, tabulate};
 ghost use Rattle.strings.specs.Strings.{grammarOf, PlainEnd, ReadsString};
-ghost use Rattle.grammar.specs.Machine.Schema.{schema as schemaDialect};
-ghost use Rattle.grammar.specs.Machine.Message.{message};
+ghost use Rattle.grammar.specs.Serving.Machine.Schema.{schema as schemaDialect};
+ghost use Rattle.grammar.specs.Serving.Machine.Message.{message};
 
 // The place past the closing quote, of a string whose bytes are its code points or of any other; or the place of the first byte that no string could have there.
 pub enum StringRead {
@@ -26,7 +27,7 @@ fn plain_end(s: &[u8], classes: &[u8; 256], from: usize) -> usize
 {
     let mut i = from;
     while i < s.len() {
-        if class_in(classes, s[i]) < 5 {
+        if class_in(classes, s[i]) < class::FIRST_PLAIN {
             return i;
         }
         i += 1;

@@ -1,30 +1,30 @@
 -- Laws of rule 6: definitions come into an index from the last to the first, and the children of each row are runs.
--- The idea: the index has the definitions after a row, so a name that is looked up in it is compared with theirs.
+-- The idea: a definition's link leads to those after it, so a name that is looked up along it is compared with theirs.
 use Prim.{tt}
 use Prim.Native.Nat.{ℕ, zero, suc, _+_, _-_, _≤_, _<_}
-use mathlib.Core.Path.{_≡_, refl, sym, ap, _∙_, subst}
+use mathlib.Core.Path.{_≡_, refl, sym, ap, _∙_, subst, subst₂}
 use mathlib.Core.Bool.{Bool, true, false, not, cond, _&&_, _||_, and-false}
 use mathlib.Core.List.{List, [], _∷_}
 use native.Mathlib.Nat.{sub-zero}
 use native.Mathlib.Omega.{arith}
-use lib.ListN.{length, replicate}
+use lib.ListN.{length, getD, replicate}
 use Rattle.grammar.specs.Notation.{apart}
-use Rattle.grammar.proofs.Booleans.{clash as contradiction}
-use Rattle.buckets.specs.Buckets.{buckets, Added, Free}
+use Rattle.buckets.specs.Buckets.{buckets, bucketOf, Added, Free, Chain, inBucket, Linked}
+use Rattle.buckets.proofs.BucketLaws.{index-linked}
 use Rattle.rules.specs.Types.{built-ins}
 use Rattle.rules.specs.Names.{clash}
 use Rattle.rules.specs.Rows.{upFrom, rowCount, walk, children, nameOf}
 use Rattle.rules.specs.Rules.{those, isDefinition, namesOf, noClash, distinctNames}
 use Rattle.rules.specs.SchemaTable.{placeIn}
 use Rattle.rows.specs.Hashes.{hashOf, freshIn}
-use Rattle.rows.specs.Index.{itself, RowIndex, Entered}
-use Rattle.table.specs.Definitions.{definitionRows, withRow, DefinitionIndex, RowEntered, clearIn, DefinitionEntered, definitionsClear, childrenApart}
-use Rattle.rows.proofs.Walks.{upFrom-on, upFrom-end, upTo, upTo-of, upTo-back, upTo-none, upTo-miss}
+use Rattle.rows.specs.Index.{itself, rowHash, RowIndex, Unlisted}
+use Rattle.table.specs.Definitions.{definitionRows, withRow, DefinitionIndex, DefinitionLinks, RowEntered, clearIn, DefinitionApart, definitionsClear, childrenApart}
+use Rattle.rows.proofs.Walks.{upFrom-on, upFrom-end}
 use Rattle.rows.specs.Rows.{First, Counted}
 use Rattle.rows.proofs.ChildLaws.{children-walk}
 use Rattle.rules.proofs.Clashes.{fresh}
 use Rattle.table.proofs.DefinitionFacts.{taken-by-place, new-by-place}
-use Rattle.rows.proofs.IndexLaws.{index-none, index-more}
+use Rattle.rows.proofs.IndexLaws.{index-none, index-more, of-bucket}
 
 -- rows that pass a test
 few : (f : ℕ → Bool) (n a : ℕ) → length (those f (upFrom a n)) ≤ n
@@ -108,20 +108,26 @@ module _ {S T heads links : List ℕ} (r : ℕ) {d : Bool} (p : d ≡ isDefiniti
   pub row-left : d ≡ false → RowEntered S T heads links r heads links
   row-left t = record { told = λ rs k f. rw (sym p ∙ t) k }
 
-  pub not-entered : d ≡ false → DefinitionEntered S T heads links r heads links true
-  not-entered t = record { told = λ rs k f h. (rw (sym p ∙ t), λ e. rw (sym p ∙ t) k) }
+-- the links of an index, and one definition that is looked up along its own
+pub index-links : {S T heads links : List ℕ} → DefinitionIndex S T heads links → DefinitionLinks S T links
+index-links {S} {T} k = record { room = k .room; linked = index-linked itself (rowHash S T) (k .rows .chains) }
+
+module _ {S T links : List ℕ} (r : ℕ) {d : Bool} (p : d ≡ isDefinition T r) where
+  pub no-definition : d ≡ false → DefinitionApart S T links r true
+  no-definition t = record { told = λ rs l h. rw (sym p ∙ t) }
 
   module _ (t : d ≡ true) {x : List ℕ} {i : ℕ} (n : x ≡ nameOf S T r) (q : i ≡ placeIn built-ins x) where
-    pub named-built-in : (i ≡ 0 → ⊥) → DefinitionEntered S T heads links r heads links false
-    named-built-in z = record {
-      told = λ rs k f h. (rw (sym p ∙ t, taken-by-place (nameOf S T r) (λ e. z (q ∙ ap (placeIn built-ins) n ∙ e))), λ e. contradiction e refl);
-    }
+    pub named-built-in : (i ≡ 0 → ⊥) → DefinitionApart S T links r false
+    named-built-in z = record { told = λ rs l h. rw (sym p ∙ t, taken-by-place (nameOf S T r) (λ e. z (q ∙ ap (placeIn built-ins) n ∙ e))) }
 
-    pub named-new : i ≡ 0 → {heads′ links′ : List ℕ} {b : Bool} → Entered S T heads links r heads′ links′ b → DefinitionEntered S T heads links r heads′ links′ b
-    named-new z g = record {
-      told = λ rs k f h.
-          let u = g .told rs k f h in
-          (rw (sym p ∙ t, new-by-place (nameOf S T r) (sym (q ∙ ap (placeIn built-ins) n) ∙ z)) (u .0), λ e. rw (sym p ∙ t) (u .1 e));
+    pub named-new : i ≡ 0 → {m head : ℕ} {b : Bool} → m ≡ hashOf x → head ≡ getD links r 0 → Unlisted S T links head x b → DefinitionApart S T links r b
+    named-new z {m} {head} e g u = record {
+      told = λ rs l h.
+          let k : Linked itself (rowHash S T) links (r ∷ rs) = subst (λ (c : Bool). Linked itself (rowHash S T) links (cond c (r ∷ rs) rs)) (sym p ∙ t) l in
+          let y : bucketOf (rowHash S T r) ≡ bucketOf m = ap bucketOf (sym (e ∙ ap hashOf n)) in
+          let c : Chain itself links head (inBucket (rowHash S T) (bucketOf m) rs) =
+          subst₂ (λ (j w : ℕ). Chain itself links j (inBucket (rowHash S T) w rs)) (sym g) y (k .0) in
+          rw (sym p ∙ t, new-by-place (nameOf S T r) (sym (q ∙ ap (placeIn built-ins) n) ∙ z)) (of-bucket e u rs c h ∙ ap (λ w. freshIn S T w rs) n);
     }
 
 -- rule 6 of the definitions, row by row
@@ -146,43 +152,41 @@ module _ (S T : List ℕ) where
       go true rs = regroup (freshIn S T (nameOf S T r) rs) (apart clash (namesOf S T rs)) (fresh (nameOf S T r) built-ins) (noClash (namesOf S T rs) built-ins)
       go false rs = refl
 
-  clear-upTo : definitionsClear S T ≡ upTo definitionClear 0 (rowCount T)
+  -- the links lead to the definitions from row r on, and `whole` is true where these are clear
+  pub record ClearFrom (whole : Bool) (links : List ℕ) (r : ℕ) : Type 0 where
+    pub linked : Linked itself (rowHash S T) links (definitionsFrom T r)
+    pub left : whole ≡ clear (namesOf S T (definitionsFrom T r))
+
+  pub clear-start : {links : List ℕ} → DefinitionLinks S T links → ClearFrom (definitionsClear S T) links 0
   unfolding definitionRows
-  clear-upTo =
-      ap (λ rs. clear (namesOf S T rs)) (sym (from-first T))
-      ∙ upTo-of definitionClear (rowCount T) (λ r. clear (namesOf S T (definitionsFrom T r))) clear-on (λ r h. ap (λ rs. clear (namesOf S T rs)) (from-end T r h)) 0
+  clear-start {links} k = record {
+    linked = subst (Linked itself (rowHash S T) links) (sym (from-first T)) (k .linked);
+    left = ap (λ rs. clear (namesOf S T rs)) (sym (from-first T));
+  }
 
-  -- the definitions from row r on are in the index, and clear
-  pub record ClearFrom (heads links : List ℕ) (r : ℕ) : Type 0 where
-    pub index : IndexFrom S T heads links r
-    pub so-far : upTo definitionClear r (rowCount T) ≡ true
+  pub clear-end : {whole : Bool} {links : List ℕ} {r : ℕ} → ClearFrom whole links r → rowCount T ≤ r → true ≡ whole
+  clear-end {r = r} v h = sym (v .left ∙ ap (λ rs. clear (namesOf S T rs)) (from-end T r h))
 
-  pub clear-start : {heads : List ℕ} (links : List ℕ) → heads ≡ replicate buckets 0 → ClearFrom heads links (rowCount T)
-  clear-start links z = record { index = index-start S T links z; so-far = upTo-none definitionClear (rowCount T) (rowCount T) (omega arith) }
+  module _ {whole : Bool} {links : List ℕ} {r : ℕ} {b : Bool} (v : ClearFrom whole links r) (more : r < rowCount T) (room : rowCount T ≤ length links)
+      (q : DefinitionApart S T links r b) where
+    after : Linked itself (rowHash S T) links (withRow T r (definitionsFrom T (r + 1)))
+    after = subst (Linked itself (rowHash S T) links) (from-on T r more) (v .linked)
 
-  pub clear-end : {heads links : List ℕ} {r : ℕ} → ClearFrom heads links r → r ≤ 0 → true ≡ definitionsClear S T
-  clear-end {r = r} v h = let z : 0 ≡ r = omega arith in sym (clear-upTo ∙ ap (λ k. upTo definitionClear k (rowCount T)) z ∙ v .so-far)
+    clear-here : b ≡ definitionClear r
+    clear-here = q .told (definitionsFrom T (r + 1)) after (omega (arith, few-from T (r + 1)))
 
-  module _ {heads links heads′ links′ : List ℕ} {r : ℕ} {b : Bool} (v : ClearFrom heads links r) (low : 0 < r) (room : rowCount T ≤ length links)
-      (q : DefinitionEntered S T heads links (r - 1) heads′ links′ b) where
-    s : r - 1 + 1 ≡ r
-    s = omega arith
+    pub clear-hit : b ≡ false → false ≡ whole
+    clear-hit t = sym (v .left ∙ clear-on r more ∙ ap (λ (c : Bool). c && clear (namesOf S T (definitionsFrom T (r + 1)))) (sym clear-here ∙ t))
 
-    here : (b ≡ clearIn S T (r - 1) (definitionsFrom T r)) × (b ≡ true → RowIndex S T heads′ links′ (withRow T (r - 1) (definitionsFrom T r)))
-    here = q .told (definitionsFrom T r) (v .index .rows) (free-before T (r - 1) r (omega arith)) (omega (arith, few-from T r))
-
-    clear-here : b ≡ definitionClear (r - 1)
-    clear-here = here .0 ∙ ap (λ k. clearIn S T (r - 1) (definitionsFrom T k)) (sym s)
-
-    pub clear-hit : b ≡ false → false ≡ definitionsClear S T
-    clear-hit t = sym (clear-upTo ∙ upTo-miss definitionClear (rowCount T) (r - 1) 0 (omega arith) (omega (arith, v .index .high)) (sym clear-here ∙ t))
-
-    pub clear-next : b ≡ true → ClearFrom heads′ links′ (r - 1)
+    pub clear-next : b ≡ true → ClearFrom whole links (r + 1)
     clear-next t = record {
-      index = index-before S T (v .index) low (here .1 t);
-      so-far = upTo-back definitionClear (rowCount T) (r - 1) (omega (arith, v .index .high)) (sym clear-here ∙ t)
-          (ap (λ k. upTo definitionClear k (rowCount T)) s ∙ v .so-far);
+      linked = go (isDefinition T r) after;
+      left = v .left ∙ clear-on r more ∙ ap (λ (c : Bool). c && clear (namesOf S T (definitionsFrom T (r + 1)))) (sym clear-here ∙ t);
     }
+      where
+        go : (c : Bool) → Linked itself (rowHash S T) links (cond c (r ∷ definitionsFrom T (r + 1)) (definitionsFrom T (r + 1))) → Linked itself (rowHash S T) links (definitionsFrom T (r + 1))
+        go true l = l .1
+        go false l = l
 
   -- rule 6 of children, and in two parts
   pub apart-children : {r a n : ℕ} {b : Bool} → First T r a → Counted T r n → b ≡ apart clash (namesOf S T (walk T a n)) → b ≡ apart clash (namesOf S T (children T r))

@@ -1,78 +1,63 @@
 -- Rules 10 and 11 of a row: JSON kinds as columns of the grid, alternatives that are apart, and what a command may return.
--- A built-in's column is one computed test over a run of built-ins; alternatives are taken off the front of their list.
-use Prim.Native.Nat.{ℕ, _+_, _-_, _≤_, _<_}
+-- Alternatives are taken off the front of their list.
+use Prim.Native.Nat.{ℕ, _-_, _≤_, _<_}
 use mathlib.Core.Path.{_≡_, refl, sym, ap, _∙_}
 use mathlib.Core.Bool.{Bool, true, false, not, _&&_, _||_, and-assoc, and-comm}
 use mathlib.Core.List.{List, _∷_}
 use mathlib.Core.Option.{Option, none, some}
 use native.Mathlib.Omega.{arith}
 use lib.Dec.{eqb}
-use lib.ListN.{getD}
-use borrow.Author.Tests.{lt-ltb, le-leb, lt-leb, eq-eqb, ne-eqb, eqb-true}
-use Rattle.grammar.specs.Limits.{first-row}
+use borrow.Author.Tests.{lt-ltb, le-leb, lt-leb, eq-eqb, ne-eqb}
 use Rattle.grammar.specs.Notation.{all, apart}
 use Rattle.grammar.specs.Tree.{Kind}
-use Rattle.grammar.specs.Tree.Kind.{object, array, string, number, boolean, null-kind}
-use Rattle.rules.specs.Kinds.{struct-kind, union-kind, branch-kind}
-use Rattle.rules.specs.Types.{built-in-kinds, column}
-use Rattle.rules.specs.Rows.{upFrom, kind, count, typeRef, returns, walk, children, typeKind}
+use Rattle.rules.specs.Kinds.{struct-kind, union-kind}
+use Rattle.rules.specs.Types.{first-row, column}
+use Rattle.rules.specs.Rows.{kind, count, typeRef, walk, children, typeKind}
 use Rattle.rules.specs.Rules.{is, sameKinds, kindsOf, alternateFits, returnFits}
-use Rattle.rules.proofs.Lists.{all-true, in-upFrom}
 use Rattle.rules.proofs.Grid.{built-in-kind, row-kind}
-use Rattle.table.specs.RuleParts.{columnOr6, rowColumn, kindNew, kindsFit}
+use Rattle.builtins.specs.Kinds.{no-column, kindColumn, builtInKind}
+use Rattle.builtins.proofs.KindLaws.{column-small}
+use Rattle.table.specs.RuleParts.{rowColumn, kindNew, kindsFit}
 use Rattle.rows.proofs.ListLaws.{all-map, all-same, eqb-sym}
 use Rattle.rows.specs.Rows.{Follows}
 use Rattle.rows.proofs.LoopLaws.{WalkLeft, left-at, left-hit, left-ends}
 
 -- the column of a type
 module _ (T : List ℕ) where
-  -- of the n built-ins from a on, all of the column k
-  pub built-in-column : (a n k : ℕ) → all (λ t. eqb (columnOr6 (getD (none ∷ built-in-kinds) t none)) k) (upFrom a n) ≡ true → a + n ≤ first-row
-      → {t : ℕ} → a ≤ t → t < a + n → k ≡ columnOr6 (typeKind T t)
-  built-in-column a n k e h {t} l u =
-      sym (ap columnOr6 (built-in-kind T t (omega arith))
-      ∙ eqb-true (columnOr6 (getD (none ∷ built-in-kinds) t none)) k
-      (all-true (λ t. eqb (columnOr6 (getD (none ∷ built-in-kinds) t none)) k) (upFrom a n) e t (in-upFrom n a t l u)))
+  pub built-in-column : {t c : ℕ} → t < first-row → c ≡ kindColumn (builtInKind t) → c ≡ kindColumn (typeKind T t)
+  built-in-column {t} h p = p ∙ sym (ap kindColumn (built-in-kind T t h))
 
-  pub row-column : {t k c : ℕ} → first-row ≤ t → k ≡ kind T (t - first-row) → c ≡ rowColumn k → c ≡ columnOr6 (typeKind T t)
-  row-column {t} {k} h p q = q ∙ ap rowColumn p ∙ sym (ap columnOr6 (row-kind T t (t - first-row) (omega arith)))
+  pub row-column : {t k c : ℕ} → first-row ≤ t → k ≡ kind T (t - first-row) → c ≡ rowColumn k → c ≡ kindColumn (typeKind T t)
+  row-column {t} {k} h p q = q ∙ ap rowColumn p ∙ sym (ap kindColumn (row-kind T t (t - first-row) (omega arith)))
 
-  pub column-at : (r : ℕ) {t k : ℕ} → k ≡ columnOr6 (typeKind T t) → t ≡ typeRef T r → k ≡ columnOr6 (typeKind T (typeRef T r))
+  pub column-at : (r : ℕ) {t k : ℕ} → k ≡ kindColumn (typeKind T t) → t ≡ typeRef T r → k ≡ kindColumn (typeKind T (typeRef T r))
   column-at r e p = rw p at e
-
-column-small : (j : Kind) → column j < 6
-column-small object = omega arith
-column-small array = omega arith
-column-small string = omega arith
-column-small number = omega arith
-column-small boolean = omega arith
-column-small null-kind = omega arith
 
 -- alternatives
 module _ (T : List ℕ) where
   abbrev kindOf : ℕ → Option Kind
   kindOf r = typeKind T (typeRef T r)
 
-  same-column : (j : Kind) (o : Option Kind) → not (sameKinds (some j) o) ≡ not (eqb (columnOr6 o) (column j))
-  same-column j none = rw (ne-eqb 6 (column j) (omega (arith, column-small j)))
+  same-column : (j : Kind) (o : Option Kind) → not (sameKinds (some j) o) ≡ not (eqb (kindColumn o) (column j))
+  same-column j none = rw (ne-eqb no-column (column j) (omega (arith, column-small j)))
   same-column j (some i) = rw (eqb-sym (column j) (column i))
 
   new-kinds : (j : Kind) (l : List ℕ) → all (λ y. not (sameKinds (some j) y)) (kindsOf T l) ≡ kindNew T (column j) l
   unfolding kindNew
   new-kinds j l =
       all-map kindOf (λ y. not (sameKinds (some j) y)) l
-      ∙ all-same (λ r. not (sameKinds (some j) (kindOf r))) (λ r. not (eqb (columnOr6 (kindOf r)) (column j))) l (λ r. same-column j (kindOf r))
+      ∙ all-same (λ r. not (sameKinds (some j) (kindOf r))) (λ r. not (eqb (kindColumn (kindOf r)) (column j))) l (λ r. same-column j (kindOf r))
 
-  module _ (r : ℕ) (l : List ℕ) {k : ℕ} (e : k ≡ columnOr6 (kindOf r)) where
-    kinds-none : k ≡ branch-kind → kindsFit T (r ∷ l) ≡ false
+  module _ (r : ℕ) (l : List ℕ) {k : ℕ} (e : k ≡ kindColumn (kindOf r)) where
+    kinds-none : k ≡ no-column → kindsFit T (r ∷ l) ≡ false
     unfolding kindsFit
     kinds-none z = go (kindOf r) refl
       where
         go : (o : Option Kind) → kindOf r ≡ o → kindsFit T (r ∷ l) ≡ false
         go none q = rw q
-        go (some j) q = let c : columnOr6 (kindOf r) ≡ column j = ap columnOr6 q in absurd (omega (arith, column-small j))
+        go (some j) q = let c : kindColumn (kindOf r) ≡ column j = ap kindColumn q in absurd (omega (arith, column-small j))
 
-    kinds-more : (k ≡ branch-kind → ⊥) → kindsFit T (r ∷ l) ≡ kindNew T k l && kindsFit T l
+    kinds-more : (k ≡ no-column → ⊥) → kindsFit T (r ∷ l) ≡ kindNew T k l && kindsFit T l
     unfolding kindsFit
     kinds-more n = go (kindOf r) refl
       where
@@ -87,8 +72,8 @@ module _ (T : List ℕ) where
         in-front new = sym (and-assoc kinds new others) ∙ ap (λ (t : Bool). t && others) (and-comm kinds new) ∙ and-assoc new kinds others
 
         go : (o : Option Kind) → kindOf r ≡ o → kindsFit T (r ∷ l) ≡ kindNew T k l && kindsFit T l
-        go none q = absurd (n (e ∙ ap columnOr6 q))
-        go (some j) q = let c : k ≡ column j = e ∙ ap columnOr6 q in rw (q, new-kinds j l, c) (in-front (kindNew T (column j) l))
+        go none q = absurd (n (e ∙ ap kindColumn q))
+        go (some j) q = let c : k ≡ column j = e ∙ ap kindColumn q in rw (q, new-kinds j l, c) (in-front (kindNew T (column j) l))
 
 -- a column against k
 module _ {x y k : ℕ} (p : x ≡ y) where
@@ -104,11 +89,11 @@ module _ {T : List ℕ} {whole : Bool} {c n : ℕ} (l : WalkLeft (kindsFit T) T 
   unfolding kindsFit
   kinds-end h = left-ends l h
 
-  module _ (h : 0 < n) {k : ℕ} (p : k ≡ columnOr6 (typeKind T (typeRef T c))) where
-    pub kinds-fail : k ≡ branch-kind → false ≡ whole
+  module _ (h : 0 < n) {k : ℕ} (p : k ≡ kindColumn (typeKind T (typeRef T c))) where
+    pub kinds-fail : k ≡ no-column → false ≡ whole
     kinds-fail z = left-hit l h (λ rs. kinds-none T c rs p z)
 
-    module _ (m : k ≡ branch-kind → ⊥) {c′ : ℕ} (f : Follows T c c′) where
+    module _ (m : k ≡ no-column → ⊥) {c′ : ℕ} (f : Follows T c c′) where
       pub kinds-clash : kindNew T k (walk T c′ (n - 1)) ≡ false → false ≡ whole
       kinds-clash e = sym (left-at l h (f .is) ∙ kinds-more T c (walk T c′ (n - 1)) p m ∙ rw e)
 
@@ -125,17 +110,14 @@ module _ (T : List ℕ) (r : ℕ) {n : ℕ} (p : n ≡ count T r) where
   alternate-is h f = rw (← p, lt-ltb 0 n (omega arith)) f
 
 -- a return: nothing, or a struct or a union
-pub return-at : (T : List ℕ) (r : ℕ) {t : ℕ} {b : Bool} → t ≡ returns T r → returnFits T t ≡ b → returnFits T (returns T r) ≡ b
-return-at T r p e = rw p at e
-
 module _ (T : List ℕ) {t : ℕ} where
   pub return-nothing : t ≡ 0 → true ≡ returnFits T t
   return-nothing z = rw z
 
   module _ (n : t ≡ 0 → ⊥) where
-    pub return-built-in : t < 16 → false ≡ returnFits T t
-    return-built-in h = rw (ne-eqb t 0 n, lt-leb 16 t h)
+    pub return-built-in : t < first-row → false ≡ returnFits T t
+    return-built-in h = rw (ne-eqb t 0 n, lt-leb first-row t h)
 
-    module _ (h : 16 ≤ t) {k : ℕ} (p : k ≡ kind T (t - 16)) where
+    module _ (h : first-row ≤ t) {k : ℕ} (p : k ≡ kind T (t - first-row)) where
       pub return-is : (b : Bool) → eqb k struct-kind || eqb k union-kind ≡ b → b ≡ returnFits T t
-      return-is b e = rw (ne-eqb t 0 n, le-leb 16 t h, ← p, e)
+      return-is b e = rw (ne-eqb t 0 n, le-leb first-row t h, ← p, e)

@@ -6,4 +6,5 @@ pub mod ReferenceLaws
 pub mod ChainLaws
 pub mod UnionLaws
 pub mod KindLaws
+pub mod RuleLaws
 pub mod SoundLaws

@@ -8,8 +8,9 @@ use mathlib.Core.Option.{some}
 use native.Mathlib.Omega.{arith}
 use lib.Dec.{eqb, ltb, eqb·zero-suc, eqb·suc-suc}
 use borrow.Author.Tests.{lt-ltb, le-leb, lt-leb, eq-eqb, ne-eqb, ltb-true, leb-true}
-use Rattle.grammar.specs.Limits.{chain-structs, first-row}
+use Rattle.grammar.specs.Limits.{chain-structs}
 use Rattle.grammar.specs.Notation.{all}
+use Rattle.rules.specs.Types.{first-row}
 use Rattle.rules.specs.Rows.{kind, typeRef, arrayMark, optional, unionBase, branchCount, discriminator, branchStruct, children, members, nameOf}
 use Rattle.rules.specs.Rules.{any, is, namesOf, noClash, discriminatorRow, discriminatorEnum, discriminatorFits, branchFits, unionFits}
 use Rattle.rules.proofs.Lists.{and-left, and-right}
@@ -31,13 +32,13 @@ module _ (T : List ℕ) (d : ℕ) {o : ℕ} (p : o ≡ optional T d) where
     array-fails n = rw (← p, eq-eqb o 0 z, ← q, ne-eqb a 0 n)
 
     module _ (y : a ≡ 0) {t : ℕ} (u : t ≡ typeRef T d) where
-      pub built-in-fails : t < 16 → false ≡ canDiscriminate T d
+      pub built-in-fails : t < first-row → false ≡ canDiscriminate T d
       unfolding canDiscriminate
-      built-in-fails h = rw (← p, eq-eqb o 0 z, ← q, eq-eqb a 0 y, ← u, lt-leb 16 t h)
+      built-in-fails h = rw (← p, eq-eqb o 0 z, ← q, eq-eqb a 0 y, ← u, lt-leb first-row t h)
 
-      pub enum-discriminates : 16 ≤ t → {k : ℕ} → k ≡ kind T (t - 16) → eqb k 1 ≡ canDiscriminate T d
+      pub enum-discriminates : first-row ≤ t → {k : ℕ} → k ≡ kind T (t - first-row) → eqb k 1 ≡ canDiscriminate T d
       unfolding canDiscriminate
-      enum-discriminates h k = rw (← p, eq-eqb o 0 z, ← q, eq-eqb a 0 y, ← u, le-leb 16 t h, k)
+      enum-discriminates h k = rw (← p, eq-eqb o 0 z, ← q, eq-eqb a 0 y, ← u, le-leb first-row t h, k)
 
 -- the discriminator of a union: one that can discriminate, and a member of the base
 module _ (T : List ℕ) (r : ℕ) {d : ℕ} (p : d ≡ discriminator T r) where
@@ -59,7 +60,7 @@ module _ (T : List ℕ) (r : ℕ) where
   unfolding discriminates
   discriminator-linked e = ltb-true 0 (discriminator T r) (search (and-left, and-right))
 
-  pub discriminator-type : {d t : ℕ} → d ≡ discriminator T r → t ≡ typeRef T (d - 1) → discriminates T r ≡ true → 16 ≤ t
+  pub discriminator-type : {d t : ℕ} → d ≡ discriminator T r → t ≡ typeRef T (d - 1) → discriminates T r ≡ true → first-row ≤ t
   unfolding discriminates canDiscriminate
   discriminator-type {d} {t} p q e =
       let h : first-row ≤ typeRef T (discriminatorRow T r) = leb-true first-row (typeRef T (discriminatorRow T r)) (search (and-left, and-right)) in
@@ -129,5 +130,5 @@ module _ (S T : List ℕ) where
       union-undiscriminated e t = sym (some-branch ∙ rw (e, t))
 
       pub union-is : chainEnds T chain-structs base ≡ true → discriminates T r ≡ true → {d t : ℕ} → d ≡ discriminator T r → t ≡ typeRef T (d - 1)
-          → {b : Bool} → b ≡ all (branchNew S T (t - 16) base) (children T r) → b ≡ unionFits S T r
+          → {b : Bool} → b ≡ all (branchNew S T (t - first-row) base) (children T r) → b ≡ unionFits S T r
       union-is e t {d} u v f = f ∙ sym (some-branch ∙ rw (e, t, ← u, ← v))

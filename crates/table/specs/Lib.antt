@@ -2,3 +2,4 @@
 pub mod Definitions
 pub mod Chains
 pub mod RuleParts
+pub mod Kept

@@ -9,15 +9,11 @@ use rows::rows::next_row;
 use rows::rows::wide;
 use rows::rows::word;
 use rules::CHAIN_STRUCTS;
-use rules::ROW_WORDS;
-use rules::kind;
 use rules::row;
 ghost use mathlib.Core.Path.{_≡_};
-ghost use Prim.Native.Nat.{_<_, _^_};
 ghost use lib.Dec.{eqb};
-ghost use lib.ListN.{length};
 ghost use Rattle.rules.specs.Rows.{children, nameOf};
-ghost use Rattle.rules.specs.Rules.{any, chainFits, goodChains};
+ghost use Rattle.rules.specs.Rules.{any, chainFits};
 ghost use Rattle.rows.specs.Rows.{Near};
 ghost use Rattle.rows.specs.Hashes.{Hashes};
 ghost use Rattle.table.specs.Chains.{chainEnds, hasChild, isMember, listsApart, numberOf, membersApart};
@@ -147,7 +143,7 @@ pub fn members_apart(
 }
 
 // Whether the chain of struct r fits, and it repeats no inherited member.
-fn chain_fits(schema: &[u8], rows: &[u32], hashes: &[u32], r: usize) -> bool
+pub fn chain_fits(schema: &[u8], rows: &[u32], hashes: &[u32], r: usize) -> bool
     requires { ⌜ Near r × Hashes (now schema) (now rows) (now hashes) ⌝ }
     ensures { λ b. ⌜ b ≡ chainFits (now (schema .entry)) (now (rows .entry)) r ⌝ }
 {
@@ -157,21 +153,4 @@ fn chain_fits(schema: &[u8], rows: &[u32], hashes: &[u32], r: usize) -> bool
     }
     let own = Against::Children(r);
     members_apart(schema, rows, hashes, base, BASE_STRUCTS, own)
-}
-
-pub fn good_chains(schema: &[u8], rows: &[u32], hashes: &[u32]) -> bool
-    requires { ⌜ (length (now rows) < 2 ^ 32) × Hashes (now schema) (now rows) (now hashes) ⌝ }
-    ensures { λ b. ⌜ b ≡ goodChains (now (schema .entry)) (now (rows .entry)) ⌝ }
-{
-    let n = rows.len() / ROW_WORDS;
-    let mut r = 0;
-    while r < n {
-        if word(rows, r, row::KIND) == kind::STRUCT {
-            if !chain_fits(schema, rows, hashes, r) {
-                return false;
-            }
-        }
-        r += 1;
-    }
-    true
 }

@@ -5,5 +5,6 @@ pub mod layout;
 pub mod links;
 pub mod names;
 pub mod returns;
+pub mod rule;
 pub mod sound;
 pub mod unions;

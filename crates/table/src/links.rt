@@ -1,18 +1,17 @@
 // References: every link and every type reference is to a row of a fitting kind, and flags are 0 or 1.
+use builtins::FIRST_ROW;
 use rows::rows::is_unnamed;
 use rows::rows::owns_struct;
 use rows::rows::wide;
 use rows::rows::word;
-use rules::FIRST_ROW;
 use rules::kind;
 use rules::row;
 ghost use mathlib.Core.Path.{_≡_};
 ghost use mathlib.Core.Bool.{_||_};
-ghost use Prim.Native.Nat.{_<_, _^_};
+ghost use Prim.Native.Nat.{_<_};
 ghost use Rattle.rules.specs.Rows.{owns};
-ghost use Rattle.rules.specs.Sound.{toStruct, toType, referencesFit};
+ghost use Rattle.rules.specs.Sound.{toStruct, toType, referencesFit, memberLinked, unionLinked, dataLinked, commandLinked};
 ghost use Rattle.rows.specs.Rows.{Near};
-ghost use Rattle.table.specs.RuleParts.{memberRefers, unionRefers, argumentsRefer, commandRefers};
 
 // A link to a struct that has a name.
 pub fn to_struct(rows: &[u32], link: usize) -> bool
@@ -58,7 +57,7 @@ pub fn to_type(rows: &[u32], t: usize) -> bool
 }
 
 fn member_fits(rows: &[u32], r: usize) -> bool
-    ensures { λ b. ⌜ b ≡ memberRefers (now (rows .entry)) r ⌝ }
+    ensures { λ b. ⌜ b ≡ memberLinked (now (rows .entry)) r ⌝ }
 {
     if !to_type(rows, wide(word(rows, r, row::TYPE_REF))) {
         return false;
@@ -71,7 +70,7 @@ fn member_fits(rows: &[u32], r: usize) -> bool
 
 fn union_fits(rows: &[u32], r: usize) -> bool
     requires { ⌜ Near r ⌝ }
-    ensures { λ b. ⌜ b ≡ unionRefers (now (rows .entry)) r ⌝ }
+    ensures { λ b. ⌜ b ≡ unionLinked (now (rows .entry)) r ⌝ }
 {
     if !to_own_or_struct(rows, r, wide(word(rows, r, row::UNION_BASE))) {
         return false;
@@ -86,9 +85,9 @@ fn union_fits(rows: &[u32], r: usize) -> bool
 // The argument link of command r.
 fn arguments_fit(rows: &[u32], r: usize) -> bool
     requires { ⌜ Near r ⌝ }
-    ensures { λ b. ⌜ b ≡ argumentsRefer (now (rows .entry)) r ⌝ }
+    ensures { λ b. ⌜ b ≡ dataLinked (now (rows .entry)) r ⌝ }
 {
-    let link = wide(word(rows, r, row::ARGUMENTS));
+    let link = wide(word(rows, r, row::DATA_STRUCT));
     if link == 0 {
         return true;
     }
@@ -97,7 +96,7 @@ fn arguments_fit(rows: &[u32], r: usize) -> bool
 
 fn command_fits(rows: &[u32], r: usize) -> bool
     requires { ⌜ Near r ⌝ }
-    ensures { λ b. ⌜ b ≡ commandRefers (now (rows .entry)) r ⌝ }
+    ensures { λ b. ⌜ b ≡ commandLinked (now (rows .entry)) r ⌝ }
 {
     if !arguments_fit(rows, r) {
         return false;

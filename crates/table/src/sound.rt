@@ -1,13 +1,13 @@
 // Whether a table is sound: any words, over any schema bytes.
-use crate::alternates::good_alternates;
-use crate::chains::good_chains;
 use crate::layout::is_laid_out;
 use crate::layout::rest_zero;
 use crate::links::references_fit;
 use crate::names::distinct_names;
 use crate::names::good_names;
-use crate::returns::good_returns;
-use crate::unions::good_unions;
+use crate::names::index_definitions;
+use crate::rule::Rule;
+use crate::rule::every_row_fits;
+use buckets::BUCKETS;
 use rows::hashes::put_hashes;
 use rows::rows::wide;
 use rows::rows::word;
@@ -79,16 +79,16 @@ fn definitions_fit(schema: &[u8], rows: &[u32], hashes: &[u32]) -> bool
     requires { ⌜ (length (now rows) < 2 ^ 32) × Hashes (now schema) (now rows) (now hashes) ⌝ }
     ensures { λ b. ⌜ b ≡ definitionsFit (now (schema .entry)) (now (rows .entry)) ⌝ }
 {
-    if !good_chains(schema, rows, hashes) {
+    if !every_row_fits(Rule::Chains, schema, rows, hashes) {
         return false;
     }
-    if !good_unions(schema, rows, hashes) {
+    if !every_row_fits(Rule::Unions, schema, rows, hashes) {
         return false;
     }
-    if !good_alternates(schema, rows) {
+    if !every_row_fits(Rule::Alternates, schema, rows, hashes) {
         return false;
     }
-    good_returns(schema, rows)
+    every_row_fits(Rule::Returns, schema, rows, hashes)
 }
 
 // Rules 5 to 11, of which 7 is that references fit; with room for a hash and a link of each row lent.
@@ -100,6 +100,8 @@ fn keeps_rules(schema: &[u8], rows: &[u32], hashes: &mut [u32], links: &mut [u32
         return false;
     }
     put_hashes(schema, rows, hashes);
+    let mut heads = [0u32; BUCKETS];
+    index_definitions(schema, rows, &mut heads, links);
     if !distinct_names(schema, rows, hashes, links) {
         return false;
     }

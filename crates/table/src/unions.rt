@@ -4,22 +4,19 @@ use crate::chains::chain_ends;
 use crate::chains::has_child;
 use crate::chains::is_member;
 use crate::chains::members_apart;
+use builtins::FIRST_ROW;
 use rows::rows::child_count;
 use rows::rows::first_child;
 use rows::rows::next_row;
 use rows::rows::wide;
 use rows::rows::word;
 use rules::CHAIN_STRUCTS;
-use rules::FIRST_ROW;
-use rules::ROW_WORDS;
 use rules::kind;
 use rules::row;
 ghost use mathlib.Core.Path.{_≡_};
-ghost use Prim.Native.Nat.{_<_, _^_};
-ghost use lib.ListN.{length};
 ghost use Rattle.grammar.specs.Notation.{all};
 ghost use Rattle.rules.specs.Rows.{children};
-ghost use Rattle.rules.specs.Rules.{unionFits, goodUnions};
+ghost use Rattle.rules.specs.Rules.{unionFits};
 ghost use Rattle.rows.specs.Rows.{Near};
 ghost use Rattle.rows.specs.Hashes.{Hashes};
 ghost use Rattle.table.specs.RuleParts.{canDiscriminate, discriminates, branchNew};
@@ -100,7 +97,8 @@ fn branches_fit(
     true
 }
 
-fn union_is_good(schema: &[u8], rows: &[u32], hashes: &[u32], r: usize) -> bool
+// Whether union r has a branch, a base whose chain ends, a discriminator in it, and branches that fit.
+pub fn union_fits(schema: &[u8], rows: &[u32], hashes: &[u32], r: usize) -> bool
     requires { ⌜ Near r × Hashes (now schema) (now rows) (now hashes) ⌝ }
     ensures { λ b. ⌜ b ≡ unionFits (now (schema .entry)) (now (rows .entry)) r ⌝ }
 {
@@ -117,21 +115,4 @@ fn union_is_good(schema: &[u8], rows: &[u32], hashes: &[u32], r: usize) -> bool
     let discriminator = wide(word(rows, r, row::DISCRIMINATOR)) - 1;
     let e = wide(word(rows, discriminator, row::TYPE_REF)) - FIRST_ROW;
     branches_fit(schema, rows, hashes, r, e, base)
-}
-
-pub fn good_unions(schema: &[u8], rows: &[u32], hashes: &[u32]) -> bool
-    requires { ⌜ (length (now rows) < 2 ^ 32) × Hashes (now schema) (now rows) (now hashes) ⌝ }
-    ensures { λ b. ⌜ b ≡ goodUnions (now (schema .entry)) (now (rows .entry)) ⌝ }
-{
-    let n = rows.len() / ROW_WORDS;
-    let mut r = 0;
-    while r < n {
-        if word(rows, r, row::KIND) == kind::UNION {
-            if !union_is_good(schema, rows, hashes, r) {
-                return false;
-            }
-        }
-        r += 1;
-    }
-    true
 }

@@ -13,10 +13,14 @@ use Rattle.grammar.specs.Tree.{Json, Items, Fields}
 use Rattle.grammar.specs.Tree.Json.{leaf, arr, obj}
 use Rattle.grammar.specs.Tree.Items.{no-items, item}
 use Rattle.grammar.specs.Tree.Fields.{no-fields, field}
-use Rattle.grammar.specs.Machine.{Dialect}
+use Rattle.grammar.specs.Serving.Machine.{Dialect}
 use Rattle.grammar.proofs.Booleans.{by}
+use Rattle.grammar.specs.Notation.{putItem}
 use Rattle.text.specs.Nodes.{node-words, node, putNode, Node, next, Holds, HoldsItems, HoldsFields}
+use Rattle.text.specs.Containers.{containerNode, Entries, container, HoldsEntries}
 use Rattle.text.specs.Readers.{Wrote}
+use Rattle.text.specs.declared.containers.Container.{Container}
+use Rattle.text.specs.declared.containers.Container.the-variants.{Array, Object}
 
 -- words stored one after the other
 sets-below : (vs l : List ℕ) (i x : ℕ) → x < i → getD (sets l i vs) x 0 ≡ getD l x 0
@@ -45,7 +49,7 @@ module _ (w : List ℕ) (k kind start end n : ℕ) where
 
   -- if the words have no room for it nothing is written
   pub put-wrote : Wrote w (putNode w k kind start end n) k (suc k)
-  unfolding putNode words
+  unfolding putItem words
   put-wrote =
       by (λ x. Wrote w x k (suc k)) (leb (node-words * k + 4) (length w))
       (λ _. record {
@@ -56,7 +60,7 @@ module _ (w : List ℕ) (k kind start end n : ℕ) where
       (λ _. record { same-length = refl; below = λ x h. refl; above = λ x h. refl })
 
   pub put-there : node-words * k + 4 ≤ length w → Put (putNode w k kind start end n) k kind start end n
-  unfolding putNode words
+  unfolding putItem words
   put-there h =
       rw (le-leb (node-words * k + 4) (length w) h)
       record {
@@ -72,6 +76,17 @@ module _ (w : List ℕ) (k kind start end n : ℕ) where
 -- two lists of words that agree from node a up to node b
 abbrev pub Agree : List ℕ → List ℕ → ℕ → ℕ → Type 0
 Agree w w′ a b = (x : ℕ) → node-words * a ≤ x → x < node-words * b → getD w′ x 0 ≡ getD w x 0
+
+-- a container's node, and what is in it up to the node after it
+container-node : (P : ℕ → Type 0) {w : List ℕ} {kind k l a e n : ℕ} → k < n → 0 < l → Put w k kind a e n → P n
+    → Node w k kind a e × (k < next w k) × (0 < l) × P (next w k)
+container-node P h g p f = (p .is, omega (arith, p .goes), g, subst P (sym (p .goes)) f)
+
+module _ (D : Dialect) (s w : List ℕ) where
+  pub container-held : (c : Container) (es : Entries c) (l k a e n : ℕ) → k < n → 0 < l → Put w k (containerNode c) a e n → HoldsEntries D s w c es (l - 1) (suc k) n
+      → Holds D s w (container c a e es) l k
+  container-held Array es l k a e n h g p f = container-node (λ (m : ℕ). HoldsItems D s w es (l - 1) (suc k) m) h g p f
+  container-held Object es l k a e n h g p f = container-node (λ (m : ℕ). HoldsFields D s w es (l - 1) (suc k) m) h g p f
 
 module _ (D : Dialect) (s w : List ℕ) where
   pub goes-on : (j : Json) (l k : ℕ) → Holds D s w j l k → k < next w k
@@ -99,25 +114,21 @@ module _ (D : Dialect) (s w : List ℕ) where
           has-end = word-same k n 2 h (omega arith) q ∙ x .has-end;
         }
 
+    -- a node with its own next
+    put-same : {kind : ℕ} (k a e : ℕ) → k < next w k → Agree w w′ k (next w k) → Node w k kind a e → Put w′ k kind a e (next w k)
+    put-same k a e h q x = record { is = node-same k (next w k) _ a e h q x; goes = word-same k (next w k) 3 h (omega arith) q }
+
     mutual
       pub frame : (j : Json) (l k : ℕ) → Agree w w′ k (next w k) → Holds D s w j l k → Holds D s w′ j l k
       frame (leaf a e v) l k q h =
           let o : k < next w k = omega (arith, h .1) in
           (node-same k (next w k) _ a e o q (h .0), word-same k (next w k) 3 o (omega arith) q ∙ h .1, h .2)
       frame (arr a e js) l k q h =
-          let z : next w′ k ≡ next w k = word-same k (next w k) 3 (h .1) (omega arith) q in (
-            node-same k (next w k) 8 a e (h .1) q (h .0),
-            omega (arith, h .1),
-            h .2,
-            subst (λ (n : ℕ). HoldsItems D s w′ js (l - 1) (suc k) n) (sym z) (frame-items js (l - 1) (suc k) (next w k) (λ x a b. q x (omega arith) b) (h .3)),
-          )
+          container-held D s w′ Array js l k a e (next w k) (h .1) (h .2) (put-same k a e (h .1) q (h .0))
+          (frame-items js (l - 1) (suc k) (next w k) (λ x a b. q x (omega arith) b) (h .3))
       frame (obj a e fs) l k q h =
-          let z : next w′ k ≡ next w k = word-same k (next w k) 3 (h .1) (omega arith) q in (
-            node-same k (next w k) 9 a e (h .1) q (h .0),
-            omega (arith, h .1),
-            h .2,
-            subst (λ (n : ℕ). HoldsFields D s w′ fs (l - 1) (suc k) n) (sym z) (frame-fields fs (l - 1) (suc k) (next w k) (λ x a b. q x (omega arith) b) (h .3)),
-          )
+          container-held D s w′ Object fs l k a e (next w k) (h .1) (h .2) (put-same k a e (h .1) q (h .0))
+          (frame-fields fs (l - 1) (suc k) (next w k) (λ x a b. q x (omega arith) b) (h .3))
 
       pub frame-items : (js : Items) (l k n : ℕ) → Agree w w′ k n → HoldsItems D s w js l k n → HoldsItems D s w′ js l k n
       frame-items no-items l k n q h = h
@@ -144,3 +155,7 @@ module _ (D : Dialect) (s w : List ℕ) where
             z ∙ h .4 ∙ sym y,
             subst (λ (m : ℕ). HoldsFields D s w′ fs l m n) (sym z) (frame-fields fs l (next w k) n (λ x a b. q x (omega (arith, h .4)) b) (h .5)),
           )
+
+    pub frame-entries : (c : Container) (es : Entries c) (l k n : ℕ) → Agree w w′ k n → HoldsEntries D s w c es l k n → HoldsEntries D s w′ c es l k n
+    frame-entries Array = frame-items
+    frame-entries Object = frame-fields

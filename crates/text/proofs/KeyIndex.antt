@@ -11,7 +11,7 @@ use borrow.Author.Tests.{not-false}
 use Rattle.grammar.specs.Notation.{same, all, apart}
 use Rattle.grammar.specs.Tree.{Fields}
 use Rattle.grammar.specs.Keys.{keysOf}
-use Rattle.grammar.specs.Machine.{Dialect}
+use Rattle.grammar.specs.Serving.Machine.{Dialect}
 use Rattle.grammar.proofs.Booleans.{clash, both}
 use Rattle.grammar.proofs.Lists.{same-true}
 use Rattle.buckets.specs.Buckets.{buckets, bucketOf, Added, Free, inBucket, Indexed}

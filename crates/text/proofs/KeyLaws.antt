@@ -14,12 +14,14 @@ use Rattle.grammar.specs.Tree.Json.{leaf, arr, obj}
 use Rattle.grammar.specs.Tree.Items.{no-items, item}
 use Rattle.grammar.specs.Tree.Fields.{no-fields, field}
 use Rattle.grammar.specs.Keys.{keysOf, keysOnce, keysOnceI, keysOnceF}
-use Rattle.grammar.specs.Machine.{Dialect}
+use Rattle.grammar.specs.Serving.Machine.{Dialect}
 use Rattle.strings.specs.Strings.{plainString}
 use Rattle.tokens.specs.NodeKinds.{plain-string-node, other-string-node, object-node, plain-key-node, other-key-node}
 use Rattle.tokens.specs.Tokens.{scalarNode, keyNode}
 use Rattle.text.specs.Nodes.{next, Holds, HoldsItems, HoldsFields, nodeKind}
 use Rattle.text.specs.Keys.{KeyAt}
+pub use Rattle.text.proofs.Frames.{goes-on}
+use Rattle.text.proofs.Frames.{items-rise, fields-rise}
 
 lt-or-ge : (a b : ℕ) → (a < b) ⊎ (b ≤ a)
 lt-or-ge a zero = inr (omega arith)
@@ -38,23 +40,18 @@ scalar-no-object s a e (num true t) h = omega arith
 scalar-no-object s a e (num false t) h = omega arith
 scalar-no-object s a e (str cs) h = go (plainString s a e) h
   where
-    go : (b : Bool) → _≡_ {A = ℕ} (cond b plain-string-node other-string-node) 9 → ⊥
+    go : (b : Bool) → _≡_ {A = ℕ} (cond b plain-string-node other-string-node) object-node → ⊥
     go true h = omega arith
     go false h = omega arith
 
 key-no-object : (s : List ℕ) (a e : ℕ) → keyNode s a e ≡ object-node → ⊥
 key-no-object s a e h = go (plainString s a e) h
   where
-    go : (b : Bool) → _≡_ {A = ℕ} (cond b plain-key-node other-key-node) 9 → ⊥
+    go : (b : Bool) → _≡_ {A = ℕ} (cond b plain-key-node other-key-node) object-node → ⊥
     go true h = omega arith
     go false h = omega arith
 
 module _ (D : Dialect) (s w : List ℕ) where
-  pub goes-on : (j : Json) (l k : ℕ) → Holds D s w j l k → k < next w k
-  goes-on (leaf a e v) l k h = omega (arith, h .1)
-  goes-on (arr a e js) l k h = h .1
-  goes-on (obj a e fs) l k h = h .1
-
   -- the first field of a range that is not empty
   pub record First (fs : Fields) (l k n : ℕ) : Type 0 where
     pub key : List ℕ
@@ -71,7 +68,7 @@ module _ (D : Dialect) (s w : List ℕ) where
         key = cs;
         rest = fs;
         at = record { start = a; end = e; node-is = x .1; means = x .2 };
-        on = omega (arith, goes-on j l (suc k) (x .3), x .4);
+        on = omega (arith, goes-on D s w j l (suc k) (x .3), x .4);
         after = x .5;
         keys = refl;
       }
@@ -88,14 +85,6 @@ module _ (D : Dialect) (s w : List ℕ) where
   abbrev pub Clean : ℕ → ℕ → Type 0
   Clean a n = (k : ℕ) → a ≤ k → k < n → nodeKind w k ≡ object-node → Says true k
 
-  rising-items : (js : Items) (l k n : ℕ) → HoldsItems D s w js l k n → k ≤ n
-  rising-items no-items l k n h = omega arith
-  rising-items (item j js) l k n h = omega arith
-
-  rising-fields : (fs : Fields) (l k n : ℕ) → HoldsFields D s w fs l k n → k ≤ n
-  rising-fields no-fields l k n h = omega arith
-  rising-fields (field a e cs j fs) l k n h = omega arith
-
   mutual
     once : (j : Json) (l k : ℕ) → Holds D s w j l k → Clean k (next w k) → keysOnce j ≡ true
     once (leaf a e v) l k h c = refl
@@ -106,15 +95,15 @@ module _ (D : Dialect) (s w : List ℕ) where
     pub once-items : (js : Items) (l k n : ℕ) → HoldsItems D s w js l k n → Clean k n → keysOnceI js ≡ true
     once-items no-items l k n h c = refl
     once-items (item j js) l k n h c =
-        let r = rising-items js l (next w k) n (h .2) in
-        let o = goes-on j l k (h .1) in
+        let r = items-rise D s w js l (next w k) n (h .2) in
+        let o = goes-on D s w j l k (h .1) in
         rw (once j l k (h .1) (λ i x y. c i x (omega arith))) (once-items js l (next w k) n (h .2) (λ i x y. c i (omega arith) y))
 
     once-fields : (fs : Fields) (l k n : ℕ) → HoldsFields D s w fs l k n → Clean k n → keysOnceF fs ≡ true
     once-fields no-fields l k n h c = refl
     once-fields (field a e cs j fs) l k n h c =
-        let r = rising-fields fs l (next w k) n (h .5) in
-        let o = goes-on j l (suc k) (h .3) in
+        let r = fields-rise D s w fs l (next w k) n (h .5) in
+        let o = goes-on D s w j l (suc k) (h .3) in
         let q = h .4 in
         rw (once j l (suc k) (h .3) (λ i x y. c i (omega arith) (omega arith))) (once-fields fs l (next w k) n (h .5) (λ i x y. c i (omega arith) y))
 

@@ -1,8 +1,7 @@
 pub mod Frames
 pub mod Places
 pub mod Inside
-pub mod Arrays
-pub mod Objects
+pub mod Entries
 pub mod Pairs
 pub mod Values
 pub mod Wholes

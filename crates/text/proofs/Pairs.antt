@@ -7,17 +7,18 @@ use mathlib.Core.Path.{_≡_, refl, sym, _∙_, subst}
 use mathlib.Core.List.{List}
 use lib.ListN.{length}
 use Rattle.grammar.specs.Tree.{Json, Fields.no-fields, Fields.field}
-use Rattle.grammar.specs.Machine.{Dialect, Stack.in-object, Out}
+use Rattle.grammar.specs.Serving.Machine.{Dialect, Stack.in-object}
 use Rattle.strings.specs.Strings.{Means}
 use Rattle.tokens.specs.Tokens.{keyNode, KeyRuns, KeyTold, ReadsKey}
 use Rattle.text.specs.Nodes.{node-words, putNode, next, Holds, HoldsFields}
-use Rattle.text.specs.Readers.{ValueRead, ValueEnds, ValueTold, ReadsValue, MemberEnds, ReadsMember, Ready}
+use Rattle.text.specs.Readers.{value-spare, ValueRead, ValueEnds, ReadsValue, EntryRead, EntryEnds, ReadsEntry, Ready}
 use Rattle.text.specs.declared.reader.Read.{Read}
-use Rattle.text.specs.declared.reader.Read.the-variants.{Past, Fault, Deep}
+use Rattle.text.specs.declared.reader.Read.the-variants.{Past, Fault}
+use Rattle.text.specs.declared.containers.Container.the-variants.{Object}
 use Rattle.tokens.specs.declared.separators.KeyRead.{KeyRead}
 use Rattle.tokens.specs.declared.separators.KeyRead.the-variants as Keys
 use Rattle.text.proofs.Frames.{Put, put-wrote, put-there, Agree, word-same, frame}
-use Rattle.text.proofs.Inside.{Stopped, past-no-stop, value-past, wrote-put}
+use Rattle.text.proofs.Inside.{Stopped, stopped, value-told, told-on, wrote-put}
 
 -- the key's node and the value's
 pair-held : (D : Dialect) (s w new : List ℕ) (a e : ℕ) (cs : List ℕ) (v : Json) (left k n : ℕ) → Put new k (keyNode s a e) a e n → Means D s a e cs
@@ -44,19 +45,19 @@ module _ {D : Dialect} {s : List ℕ} {i a e kind p : ℕ} {r : KeyRead} (f : Re
   key-ready x = let t = key-places in record { short = x .short; within = t .within; few = omega arith }
 
   module _ {old w : List ℕ} {k left : ℕ} {y : Read} where
-    pub pair-fits : {q m : ℕ} → Ready s i k → ReadsValue D s old w p (k + 1) left y → y ≡ Past q m → (k < 2 ^ 32) × (a < 2 ^ 32) × (e < 2 ^ 32) × (m < 2 ^ 32)
-    pair-fits x v h = let t = key-places in let u = value-past v h .moved in omega arith
+    pub pair-fits : {q m : ℕ} → Ready s i k → ReadsValue value-spare D s old w p (k + 1) left y → y ≡ Past q m → (k < 2 ^ 32) × (a < 2 ^ 32) × (e < 2 ^ 32) × (m < 2 ^ 32)
+    pair-fits x v h = let t = key-places in let u = value-told v h .moved in omega arith
 
-    pub pair-read : {put : List ℕ} {q m : ℕ} → ReadsValue D s old w p (k + 1) left y → y ≡ Past q m → put ≡ putNode w k kind a e m → ReadsMember D s old put i k left (Past q m)
+    pub pair-read : {put : List ℕ} {q m : ℕ} → ReadsValue value-spare D s old w p (k + 1) left y → y ≡ Past q m → put ≡ putNode w k kind a e m → ReadsEntry Object D s old put i k left (Past q m)
     pair-read {q = q} {m = m} v h eq =
         let t = key-told in
         let l = key-places in
-        let x : ValueRead D s old w p (suc k) left q m = subst (λ (u : ℕ). ValueRead D s old w p u left q m) (add-one k) (value-past v h) in
+        let x : ValueRead value-spare D s old w p (suc k) left q m = subst (λ (u : ℕ). ValueRead value-spare D s old w p u left q m) (add-one k) (value-told v h) in
         let u = put-wrote w k kind a e m in
         let new : List ℕ = putNode w k kind a e m in
         let n : k < m = omega (arith, x .moved .nodes) in
         let put : node-words * m ≤ length w → Put new k (keyNode s a e) a e m = λ z. subst (λ (j : ℕ). Put new k j a e m) (t .2) (put-there w k kind a e m (omega arith)) in
-        subst (λ (j : List ℕ). ReadsMember D s old j i k left (Past q m)) (sym eq)
+        subst (λ (j : List ℕ). ReadsEntry Object D s old j i k left (Past q m)) (sym eq)
         record {
           told =
               record {
@@ -68,10 +69,7 @@ module _ {D : Dialect} {s : List ℕ} {i a e kind p : ℕ} {r : KeyRead} (f : Re
                       few = omega (arith, x .moved .few);
                       wrote = wrote-put kind a e n (x .moved .wrote);
                     };
-                fewer = omega (arith, x .moved .few);
-                start = a;
-                end = e;
-                key = t .0;
+                key = (a, e, t .0);
                 tree = x .tree;
                 runs = λ lim K o fs d. t .1 .runs lim o fs K ∙ x .runs lim (in-object o fs a e (t .0) K) d;
                 holds = λ z.
@@ -80,17 +78,15 @@ module _ {D : Dialect} {s : List ℕ} {i a e kind p : ℕ} {r : KeyRead} (f : Re
               };
         }
 
-    pub pair-stop : ReadsValue D s old w p (k + 1) left y → Stopped y → ReadsMember D s old w i k left y
-    pair-stop v h = go y (v .told) h
-      where
-        run : {o : Out} → ValueEnds D s p left o → MemberEnds D s i left o
-        run x lim K o fs d = let t = key-told in t .1 .runs lim o fs K ∙ x lim (in-object o fs a e (t .0) K) d
-
-        go : (y : Read) → ValueTold D s old w p (k + 1) left y → Stopped y → ReadsMember D s old w i k left y
-        go (Past q m) x h = past-no-stop q m h
-        go (Fault q) x h = record { told = (x .0, run (x .1)) }
-        go (Deep q) x h = record { told = (x .0, run (x .1)) }
+    pub pair-stop : {x : Read} → ReadsValue value-spare D s old w p (k + 1) left y → y ≡ x → Stopped x → ReadsEntry Object D s old w i k left x
+    pair-stop {x} v h z =
+        let t = key-told in
+        record {
+          told =
+              told-on (ValueRead value-spare D s old w p (k + 1) left) (EntryRead Object D s old w i k left) (ValueEnds D s p left) (EntryEnds Object D s i left)
+              old old w x refl (λ q m g _. stopped z q m g) (λ _ f lim K o fs d. t .1 .runs lim o fs K ∙ f lim (in-object o fs a e (t .0) K) d) (value-told v h);
+        }
 
 -- no key
-pub key-stop : {D : Dialect} {s w : List ℕ} {i k left e : ℕ} {r : KeyRead} → ReadsKey D s i r → r ≡ Keys.Fault e → ReadsMember D s w w i k left (Fault e)
+pub key-stop : {D : Dialect} {s w : List ℕ} {i k left e : ℕ} {r : KeyRead} → ReadsKey D s i r → r ≡ Keys.Fault e → ReadsEntry Object D s w w i k left (Fault e)
 key-stop {D} {s} {i = i} f g = let t = subst (λ (x : KeyRead). KeyTold D s i x) g (f .told) in record { told = (refl, λ lim K o fs d. t o fs lim K) }

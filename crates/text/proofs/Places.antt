@@ -10,15 +10,17 @@ use mathlib.Core.List.{List, _∷_}
 use lib.ListN.{length, getD, drop, drop-of-length-le}
 use lib.Seq.{drop-cons}
 use borrow.Author.Tests.{le-ltb, ne-eqb}
-use Rattle.grammar.specs.Tree.{Json, Json.arr, Json.obj, Items, Items.no-items, Items.item, Fields, Fields.no-fields, Fields.field}
-use Rattle.grammar.specs.Machine.{Dialect, Stack, Stack.in-array, Stack.in-object, Control, Next, Next.to, Next.stuck, Next.over, Out, Out.fault, Out.deep}
-use Rattle.grammar.specs.Machine.{depth, reverseItems, reverseFields, step, finish, scan}
-use Rattle.grammar.specs.Machine.Control.{AtValue, AtElement, After, AtFirstKey, AtKey}
+use Rattle.grammar.specs.Tree.{Json}
+use Rattle.grammar.specs.Serving.Machine.{Dialect, Stack, Control, Next, Next.to, Next.stuck, Next.over, Out, Out.fault, Out.deep, depth, step, finish, scan}
+use Rattle.grammar.specs.Serving.Machine.Control.{AtValue, After}
 use Rattle.grammar.proofs.Steps.{goes-on, scan-cons}
 use Rattle.grammar.proofs.TokenRuns.{TokensComplete}
 use Rattle.grammar.proofs.TokenRuns.Structural.{begin-array, begin-object, end-array, end-object, value-separator}
 use Rattle.grammar.proofs.Complete.{skip-solid, opens-array, opens-object}
-use Rattle.tokens.specs.Tokens.{Skips, Solid, Skipped}
+use Rattle.tokens.specs.Tokens.{Skips, Skips.at-element, Skips.at-first-key, Solid, Skipped}
+use Rattle.text.specs.Containers.{opening, closing, Entries, KeyOf, no-entries, entry, reverseEntries, container, atFirst, atEntry, aroundEntry, aroundValue}
+use Rattle.text.specs.declared.containers.Container.{Container}
+use Rattle.text.specs.declared.containers.Container.the-variants.{Array, Object}
 
 module _ (D : Dialect) (s : List ℕ) (lim : ℕ) where
   -- from control c and stack K at place p the machine comes to d and M at place q
@@ -82,52 +84,41 @@ module _ {D : Dialect} {s : List ℕ} {lim : ℕ} where
       go (no h) = record { path = at-end (omega arith) .path ∙ g ∙ sym (at-end (omega arith) .path) }
 
 module _ {D : Dialect} (L : TokensComplete D) {s : List ℕ} {lim : ℕ} {K : Stack} {p : ℕ} (h : p < length s) where
-  pub array-opens : depth K < lim → getD s p 0 ≡ code "[" → Runs D s lim AtValue K p (AtElement p) K (p + 1)
-  array-opens d e = byte-to h e (opens-array D L lim p K d)
+  pub container-opens : (c : Container) → depth K < lim → getD s p 0 ≡ opening c → Runs D s lim AtValue K p (atFirst D c p) K (p + 1)
+  container-opens Array d e = byte-to h e (opens-array D L lim p K d)
+  container-opens Object d e = byte-to h e (opens-object D L lim p K d)
 
-  pub object-opens : depth K < lim → getD s p 0 ≡ code "{" → Runs D s lim AtValue K p (AtFirstKey p) K (p + 1)
-  object-opens d e = byte-to h e (opens-object D L lim p K d)
+  pub container-deep : (c : Container) → lim ≤ depth K → getD s p 0 ≡ opening c → Ends D s lim AtValue K p (deep p)
+  container-deep Array d e = byte-over h e (skip-solid D L lim (L .solid begin-array) _ _ _ ∙ simp (L .no-quote begin-array, le-ltb _ _ d))
+  container-deep Object d e = byte-over h e (skip-solid D L lim (L .solid begin-object) _ _ _ ∙ simp (L .no-quote begin-object, le-ltb _ _ d))
 
-  pub array-deep : lim ≤ depth K → getD s p 0 ≡ code "[" → Ends D s lim AtValue K p (deep p)
-  array-deep d e = byte-over h e (skip-solid D L lim (L .solid begin-array) _ _ _ ∙ simp (L .no-quote begin-array, le-ltb _ _ d))
-
-  pub object-deep : lim ≤ depth K → getD s p 0 ≡ code "{" → Ends D s lim AtValue K p (deep p)
-  object-deep d e = byte-over h e (skip-solid D L lim (L .solid begin-object) _ _ _ ∙ simp (L .no-quote begin-object, le-ltb _ _ d))
-
-  module _ {a : ℕ} where
-    pub no-element : getD s p 0 ≡ code "]" → Runs D s lim (AtElement a) K p (After (arr a (p + 1) no-items)) K (p + 1)
-    no-element e = byte-to h e (rw (add-one p) (skip-solid D L lim (L .solid end-array) _ _ _))
-
-    pub no-member : getD s p 0 ≡ code "}" → Runs D s lim (AtFirstKey a) K p (After (obj a (p + 1) no-fields)) K (p + 1)
-    no-member e = byte-to h e (rw (add-one p) (skip-solid D L lim (L .solid end-object) _ _ _))
-
-    module _ {v : Json} {js : Items} where
-      pub item-comma : getD s p 0 ≡ code "," → Runs D s lim (After v) (in-array a js K) p AtValue (in-array a (item v js) K) (p + 1)
-      item-comma e = byte-to h e (skip-solid D L lim (L .solid value-separator) _ _ _)
-
-      pub item-close : getD s p 0 ≡ code "]" → Runs D s lim (After v) (in-array a js K) p (After (arr a (p + 1) (reverseItems js (item v no-items)))) K (p + 1)
-      item-close e = byte-to h e (rw (add-one p) (skip-solid D L lim (L .solid end-array) _ _ _))
-
-    module _ {v : Json} {fs : Fields} {o e : ℕ} {cs : List ℕ} where
-      pub member-comma : getD s p 0 ≡ code "," → Runs D s lim (After v) (in-object a fs o e cs K) p (AtKey a (field o e cs v fs)) K (p + 1)
-      member-comma z = byte-to h z (skip-solid D L lim (L .solid value-separator) _ _ _)
-
-      pub member-close : getD s p 0 ≡ code "}"
-          → Runs D s lim (After v) (in-object a fs o e cs K) p (After (obj a (p + 1) (reverseFields fs (field o e cs v no-fields)))) K (p + 1)
-      member-close z = byte-to h z (rw (add-one p) (skip-solid D L lim (L .solid end-object) _ _ _))
+  pub no-entry : (c : Container) (a : ℕ) → getD s p 0 ≡ closing c → Runs D s lim (atFirst D c a) K p (After (container c a (p + 1) (no-entries c))) K (p + 1)
+  no-entry Array a e = byte-to h e (rw (add-one p) (skip-solid D L lim (L .solid end-array) _ _ _))
+  no-entry Object a e = byte-to h e (rw (add-one p) (skip-solid D L lim (L .solid end-object) _ _ _))
 
 -- where neither a blank nor a comment stands
-module _ {D : Dialect} {s : List ℕ} {lim : ℕ} {K : Stack} {p : ℕ} {a : ℕ} (x : Solid D s p) where
-  pub first-element : (p < length s → getD s p 0 ≡ code "]" → ⊥) → Runs D s lim (AtElement a) K p AtValue (in-array a no-items K) p
-  first-element f = alike (λ h. simp (x h .0, x h .1, ne-eqb _ _ (f h))) refl
+pub first-entry : {D : Dialect} {s : List ℕ} {lim p : ℕ} → Solid D s p → (c : Container) (a : ℕ) (K : Stack) → (p < length s → getD s p 0 ≡ closing c → ⊥)
+    → Runs D s lim (atFirst D c a) K p (atEntry D c a (no-entries c)) (aroundEntry c a (no-entries c) K) p
+first-entry x Array a K f = alike (λ h. simp (x h .0, x h .1, ne-eqb _ _ (f h))) refl
+first-entry x Object a K f = alike (λ h. simp (x h .0, x h .1, ne-eqb _ _ (f h))) refl
 
-  pub first-member : (p < length s → getD s p 0 ≡ code "}" → ⊥) → Runs D s lim (AtFirstKey a) K p (AtKey a no-fields) K p
-  first-member f = alike (λ h. simp (x h .0, x h .1, ne-eqb _ _ (f h))) refl
+-- after the value of an entry
+module _ {D : Dialect} {s : List ℕ} {lim p : ℕ} {v : Json} (a : ℕ) (K : Stack) where
+  pub entry-comma : TokensComplete D → p < length s → (c : Container) (es : Entries c) (key : KeyOf c) → getD s p 0 ≡ code ","
+      → Runs D s lim (After v) (aroundValue c a es key K) p (atEntry D c a (entry c key v es)) (aroundEntry c a (entry c key v es) K) (p + 1)
+  entry-comma L h Array es key e = byte-to h e (skip-solid D L lim (L .solid value-separator) _ _ _)
+  entry-comma L h Object es key e = byte-to h e (skip-solid D L lim (L .solid value-separator) _ _ _)
 
-  pub item-neither : {v : Json} {js : Items} → (p < length s → (getD s p 0 ≡ code "," → ⊥) × (getD s p 0 ≡ code "]" → ⊥))
-      → Ends D s lim (After v) (in-array a js K) p (fault p)
-  item-neither f = stops (λ h. simp (x h .0, x h .1, ne-eqb _ _ (f h .0), ne-eqb _ _ (f h .1))) refl
+  pub entry-close : TokensComplete D → p < length s → (c : Container) (es : Entries c) (key : KeyOf c) → getD s p 0 ≡ closing c
+      → Runs D s lim (After v) (aroundValue c a es key K) p (After (container c a (p + 1) (reverseEntries c (entry c key v es) (no-entries c)))) K (p + 1)
+  entry-close L h Array es key e = byte-to h e (rw (add-one p) (skip-solid D L lim (L .solid end-array) _ _ _))
+  entry-close L h Object es key e = byte-to h e (rw (add-one p) (skip-solid D L lim (L .solid end-object) _ _ _))
 
-  pub member-neither : {v : Json} {fs : Fields} {o e : ℕ} {cs : List ℕ} → (p < length s → (getD s p 0 ≡ code "," → ⊥) × (getD s p 0 ≡ code "}" → ⊥))
-      → Ends D s lim (After v) (in-object a fs o e cs K) p (fault p)
-  member-neither f = stops (λ h. simp (x h .0, x h .1, ne-eqb _ _ (f h .0), ne-eqb _ _ (f h .1))) refl
+  pub entry-neither : Solid D s p → (c : Container) (es : Entries c) (key : KeyOf c) → (p < length s → (getD s p 0 ≡ code "," → ⊥) × (getD s p 0 ≡ closing c → ⊥))
+      → Ends D s lim (After v) (aroundValue c a es key K) p (fault p)
+  entry-neither x Array es key f = stops (λ h. simp (x h .0, x h .1, ne-eqb _ _ (f h .0), ne-eqb _ _ (f h .1))) refl
+  entry-neither x Object es key f = stops (λ h. simp (x h .0, x h .1, ne-eqb _ _ (f h .0), ne-eqb _ _ (f h .1))) refl
+
+pub at-first : (D : Dialect) (s : List ℕ) (c : Container) (a : ℕ) → Skips D s (atFirst D c a)
+at-first D s Array a = at-element
+at-first D s Object a = at-first-key

@@ -7,7 +7,7 @@ use lib.ListN.{length}
 use Rattle.grammar.specs.Notation.{same, all, apart}
 use Rattle.grammar.specs.Tree.{Items, Fields}
 use Rattle.grammar.specs.Keys.{keysOf, keysOnceI}
-use Rattle.grammar.specs.Machine.{Dialect}
+use Rattle.grammar.specs.Serving.Machine.{Dialect}
 use Rattle.buckets.specs.Buckets.{All, Chain}
 use Rattle.strings.specs.Strings.{Means}
 use Rattle.strings.specs.Hashes.{hashOf}

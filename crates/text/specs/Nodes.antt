@@ -1,16 +1,13 @@
 -- What the nodes of a text say: the index that every later stage walks. One predicate says that nodes hold a tree.
-use Prim.Native.Nat.{ℕ, suc, _+_, _-_, _*_, _<_}
+use Prim.Native.Nat.{ℕ, suc, _-_, _<_}
 use mathlib.Core.Path.{_≡_}
-use mathlib.Core.Bool.{cond}
 use mathlib.Core.List.{List, [], _∷_}
-use lib.Dec.{leb}
-use lib.ListN.{length, getD}
-use lib.Seq.{sets}
+use Rattle.grammar.specs.Notation.{wordOf, putItem}
 use Rattle.grammar.specs.Tree.{Json, Items, Fields}
 use Rattle.grammar.specs.Tree.Json.{leaf, arr, obj}
 use Rattle.grammar.specs.Tree.Items.{no-items, item}
 use Rattle.grammar.specs.Tree.Fields.{no-fields, field}
-use Rattle.grammar.specs.Machine.{Dialect}
+use Rattle.grammar.specs.Serving.Machine.{Dialect}
 use Rattle.strings.specs.Strings.{Means}
 use Rattle.tokens.specs.NodeKinds.{array-node, object-node}
 use Rattle.tokens.specs.Tokens.{scalarNode, keyNode, ScalarAt}
@@ -20,7 +17,7 @@ node-words = 4
 
 -- word i of node k: its kind, its start, its end, and the first node after it and what is inside it
 abbrev pub node : List ℕ → ℕ → ℕ → ℕ
-node w k i = getD w (node-words * k + i) 0
+node w k i = wordOf node-words w k i
 
 abbrev pub nodeKind : List ℕ → ℕ → ℕ
 nodeKind w k = node w k 0
@@ -35,8 +32,8 @@ abbrev pub next : List ℕ → ℕ → ℕ
 next w k = node w k 3
 
 -- the words after node k is written, if all of it fits
-unfoldable pub putNode : List ℕ → ℕ → ℕ → ℕ → ℕ → ℕ → List ℕ
-putNode w k kind start end next = cond (leb (node-words * k + node-words) (length w)) (sets w (node-words * k) (kind ∷ start ∷ end ∷ next ∷ [])) w
+abbrev pub putNode : List ℕ → ℕ → ℕ → ℕ → ℕ → ℕ → List ℕ
+putNode w k kind start end next = putItem node-words w k (kind ∷ start ∷ end ∷ next ∷ [])
 
 -- node k has this kind, start and end
 pub record Node (w : List ℕ) (k kind start end : ℕ) : Type 0 where

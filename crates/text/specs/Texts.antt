@@ -7,9 +7,10 @@ use Rattle.grammar.specs.Limits.{schema-levels, message-levels}
 use Rattle.grammar.specs.Tree.{Json, Items}
 use Rattle.grammar.specs.SchemaText.{SchemaText, schema-lexis}
 use Rattle.grammar.specs.MessageText.{MessageText, message-lexis}
-use Rattle.grammar.specs.Starts.{TooDeep, Broken}
-use Rattle.grammar.specs.Machine.Schema.{schema}
-use Rattle.grammar.specs.Machine.Message.{message}
+use Rattle.grammar.specs.Starts.{TooDeep}
+use Rattle.grammar.specs.Serving.Faults.{Broken}
+use Rattle.grammar.specs.Serving.Machine.Schema.{schema}
+use Rattle.grammar.specs.Serving.Machine.Message.{message}
 use Rattle.text.specs.Nodes.{node-words, next, Holds, HoldsItems}
 use Rattle.text.specs.declared.texts.Text.{Text}
 use Rattle.text.specs.declared.texts.Text.the-variants.{Whole, Fault, Deep, TooLong}
@@ -29,14 +30,14 @@ pub record SchemaRead (s words : List ℕ) (n : ℕ) : Type 0 where
   pub few : 2 * n ≤ length s
   pub holds : node-words * n ≤ length words → HoldsItems schema s words items schema-levels 0 n
 
--- 01, Message answers 23 (Fault) and 24 (Deep)
+-- Reference, Message answers 23 (Fault) and 24 (Deep)
 abbrev pub MessageTold : List ℕ → List ℕ → Text → Type 0
 MessageTold s words (Whole n) = MessageRead s words n
 MessageTold s words (Fault e) = Broken message-lexis message-levels s e
 MessageTold s words (Deep e) = TooDeep message-lexis message-levels s e
 MessageTold s words TooLong = 2 ^ 31 ≤ length s
 
--- 01, Schema answers 2 (Fault and Deep)
+-- Reference, Schema answers 2 (Fault and Deep)
 abbrev pub SchemaTold : List ℕ → List ℕ → Text → Type 0
 SchemaTold s words (Whole n) = SchemaRead s words n
 SchemaTold s words (Fault e) = Broken schema-lexis schema-levels s e

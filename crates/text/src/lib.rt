@@ -1,4 +1,5 @@
 // The reader of a whole text, in either dialect, into nodes.
+pub mod containers;
 pub mod keys;
 pub mod nodes;
 pub mod reader;

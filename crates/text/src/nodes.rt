@@ -1,4 +1,6 @@
 // Nodes: four words each in a lent slice, written only where all four fit.
+use words::put_four;
+use words::word_of;
 ghost use mathlib.Core.Path.{_≡_};
 ghost use Prim.Native.Nat.{_^_, _<_};
 ghost use Rattle.text.specs.Nodes.{node, putNode};
@@ -19,14 +21,7 @@ pub const NODE_WORDS: usize = 4;
 pub fn node_word(nodes: &[u32], k: usize, i: usize) -> u32
     ensures { λ r. ⌜ r ≡ node (now (nodes .entry)) k i ⌝ }
 {
-    if nodes.len() / NODE_WORDS < k {
-        return 0;
-    }
-    let at = NODE_WORDS * k;
-    if nodes.len() - at <= i {
-        return 0;
-    }
-    nodes[at + i]
+    word_of(nodes, NODE_WORDS, k, i)
 }
 
 // Word i of node k, as a number of a place or a node.
@@ -41,12 +36,5 @@ pub fn put_node(nodes: &mut [u32], k: usize, kind: u32, start: usize, end: usize
     requires { ⌜ (k < 2 ^ 32) × (start < 2 ^ 32) × (end < 2 ^ 32) × (next < 2 ^ 32) ⌝ }
     ensures { λ _. ⌜ now (nodes .exit) ≡ putNode (now (nodes .entry)) k kind start end next ⌝ }
 {
-    let at = NODE_WORDS * k;
-    if nodes.len() < at + NODE_WORDS {
-        return;
-    }
-    nodes[at] = kind;
-    nodes[at + NODE_START] = start as u32;
-    nodes[at + NODE_END] = end as u32;
-    nodes[at + NODE_NEXT] = next as u32;
+    put_four(nodes, k, kind, start as u32, end as u32, next as u32);
 }

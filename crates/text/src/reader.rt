@@ -1,8 +1,12 @@
-// A value reader and a member reader that call each other, the count of levels left falling.
+// Readers of values, containers and entries that call each other, the count of levels left falling.
+use crate::containers::Container;
+use crate::containers::Opening;
+use crate::containers::closing;
+use crate::containers::container_node;
+use crate::containers::opening_at;
 use crate::nodes::put_node;
 use strings::dialects::Dialect;
 use tokens::blanks::skip_blanks;
-use tokens::node;
 use tokens::scalars::ScalarRead;
 use tokens::scalars::read_scalar;
 use tokens::separators::Following;
@@ -10,11 +14,13 @@ use tokens::separators::KeyRead;
 use tokens::separators::read_following;
 use tokens::separators::read_key;
 ghost use mathlib.Core.Path.{_≡_};
-ghost use Prim.Native.Nat.{suc};
+ghost use lib.ListN.{getD};
 ghost use Rattle.strings.specs.Classes.{classOf, tabulate};
 ghost use Rattle.strings.specs.Strings.{grammarOf};
-ghost use Rattle.tokens.specs.Tokens.{Unbracketed};
-ghost use Rattle.text.specs.Readers.{Stands, Ready, Opens, ReadsLeaf, ReadsValue, ReadsObject, ReadsMember};
+ghost use Rattle.tokens.specs.Tokens.{Solid, Unbracketed};
+ghost use Rattle.text.specs.Containers.{opening};
+ghost use Rattle.text.specs.declared.containers.Container.the-variants.{Object};
+ghost use Rattle.text.specs.Readers.{Stands, Ready, Opens, ReadsLeaf, ReadsValue, ReadsEntry, spare, value-spare};
 
 // The place past what was read and the next node; or the place of the first byte that fits nothing; or that of a bracket that opens a level too many.
 pub enum Read {
@@ -66,26 +72,14 @@ pub fn read_value(
     left: usize,
 ) -> Read
     requires { ⌜ (now classes ≡ tabulate classOf 0 256) × Ready (now s) i k ⌝ }
-    ensures { λ r. ⌜ ReadsValue (grammarOf dialect) (now (s .entry)) (now (nodes .entry)) (now (nodes .exit)) i k left r ⌝ }
+    ensures { λ r. ⌜ ReadsValue value-spare (grammarOf dialect) (now (s .entry)) (now (nodes .entry)) (now (nodes .exit)) i k left r ⌝ }
 {
     let p = skip_blanks(s, classes, dialect, i);
-    if stands(s, p, b'[') {
-        if left == 0 {
-            return Read::Deep(p);
-        }
-        return read_items(s, classes, dialect, nodes, p, k, left - 1);
-    }
-    if stands(s, p, b'{') {
-        if left == 0 {
-            return Read::Deep(p);
-        }
-        return read_members(s, classes, dialect, nodes, p, k, left - 1);
-    }
-    scalar_node(s, classes, dialect, nodes, p, k)
+    read_at(s, classes, dialect, nodes, p, k, left)
 }
 
-// The array whose bracket stands at `at`, as node k.
-fn read_items(
+// The value that stands at `at`, where no blank does, from node k on.
+pub fn read_at(
     s: &[u8],
     classes: &[u8; 256],
     dialect: Dialect,
@@ -94,77 +88,83 @@ fn read_items(
     k: usize,
     left: usize,
 ) -> Read
-    requires { ⌜ (now classes ≡ tabulate classOf 0 256) × Opens (now s) at k 91 ⌝ }
-    ensures { λ r. ⌜ ReadsValue (grammarOf dialect) (now (s .entry)) (now (nodes .entry)) (now (nodes .exit)) at k (suc left) r ⌝ }
+    requires { ⌜ (now classes ≡ tabulate classOf 0 256) × Ready (now s) at k × Solid (grammarOf dialect) (now s) at ⌝ }
+    ensures { λ r. ⌜ ReadsValue (spare (getD (now (s .entry)) at 0)) (grammarOf dialect) (now (s .entry)) (now (nodes .entry)) (now (nodes .exit)) at k left r ⌝ }
 {
+    match opening_at(s, at) {
+        Opening::Bracket(shape) => read_container(s, classes, dialect, nodes, shape, at, k, left),
+        Opening::Other => scalar_node(s, classes, dialect, nodes, at, k),
+    }
+}
+
+// The container whose bracket stands at `at`, as node k.
+fn read_container(
+    s: &[u8],
+    classes: &[u8; 256],
+    dialect: Dialect,
+    nodes: &mut [u32],
+    shape: Container,
+    at: usize,
+    k: usize,
+    left: usize,
+) -> Read
+    requires { ⌜ (now classes ≡ tabulate classOf 0 256) × Opens shape (now s) at k ⌝ }
+    ensures { λ r. ⌜ ReadsValue (spare (opening shape)) (grammarOf dialect) (now (s .entry)) (now (nodes .entry)) (now (nodes .exit)) at k left r ⌝ }
+{
+    if left == 0 {
+        return Read::Deep(at);
+    }
+    let close = closing(shape);
     let first = skip_blanks(s, classes, dialect, at + 1);
     let mut n = k + 1;
-    if stands(s, first, b']') {
+    if stands(s, first, close) {
         let e = first + 1;
-        put_node(nodes, k, node::ARRAY, at, e, n);
+        put_node(nodes, k, container_node(shape), at, e, n);
         return Read::Past(e, n);
     }
     let mut i = first;
     loop {
-        let v = read_value(s, classes, dialect, nodes, i, n, left);
-        let Read::Past(e, m) = v else {
-            return v;
-        };
-        match read_following(s, classes, dialect, e, b']') {
-            Following::Comma(p) => {
-                i = p;
-                n = m;
+        match read_entry(s, classes, dialect, nodes, shape, i, n, left - 1) {
+            Read::Past(e, m) => match read_following(s, classes, dialect, e, close) {
+                Following::Comma(p) => {
+                    i = p;
+                    n = m;
+                }
+                Following::Close(p) => {
+                    put_node(nodes, k, container_node(shape), at, p, m);
+                    return Read::Past(p, m);
+                }
+                Following::Neither(p) => {
+                    return Read::Fault(p);
+                }
+            },
+            Read::Fault(e) => {
+                return Read::Fault(e);
             }
-            Following::Close(p) => {
-                put_node(nodes, k, node::ARRAY, at, p, m);
-                return Read::Past(p, m);
-            }
-            Following::Neither(p) => {
-                return Read::Fault(p);
+            Read::Deep(e) => {
+                return Read::Deep(e);
             }
         }
     }
 }
 
-// The object whose bracket stands at `at`, as node k.
-pub fn read_members(
+// The entry after blanks at `i`, from node k on: a value of an array, or a member of an object.
+fn read_entry(
     s: &[u8],
     classes: &[u8; 256],
     dialect: Dialect,
     nodes: &mut [u32],
-    at: usize,
+    shape: Container,
+    i: usize,
     k: usize,
     left: usize,
 ) -> Read
-    requires { ⌜ (now classes ≡ tabulate classOf 0 256) × Opens (now s) at k 123 ⌝ }
-    ensures { λ r. ⌜ ReadsObject (grammarOf dialect) (now (s .entry)) (now (nodes .entry)) (now (nodes .exit)) at k (suc left) r ⌝ }
+    requires { ⌜ (now classes ≡ tabulate classOf 0 256) × Ready (now s) i k ⌝ }
+    ensures { λ r. ⌜ ReadsEntry shape (grammarOf dialect) (now (s .entry)) (now (nodes .entry)) (now (nodes .exit)) i k left r ⌝ }
 {
-    let first = skip_blanks(s, classes, dialect, at + 1);
-    let mut n = k + 1;
-    if stands(s, first, b'}') {
-        let e = first + 1;
-        put_node(nodes, k, node::OBJECT, at, e, n);
-        return Read::Past(e, n);
-    }
-    let mut i = first;
-    loop {
-        let v = read_member(s, classes, dialect, nodes, i, n, left);
-        let Read::Past(e, m) = v else {
-            return v;
-        };
-        match read_following(s, classes, dialect, e, b'}') {
-            Following::Comma(p) => {
-                i = p;
-                n = m;
-            }
-            Following::Close(p) => {
-                put_node(nodes, k, node::OBJECT, at, p, m);
-                return Read::Past(p, m);
-            }
-            Following::Neither(p) => {
-                return Read::Fault(p);
-            }
-        }
+    match shape {
+        Container::Array => read_value(s, classes, dialect, nodes, i, k, left),
+        Container::Object => read_member(s, classes, dialect, nodes, i, k, left),
     }
 }
 
@@ -179,17 +179,20 @@ fn read_member(
     left: usize,
 ) -> Read
     requires { ⌜ (now classes ≡ tabulate classOf 0 256) × Ready (now s) i k ⌝ }
-    ensures { λ r. ⌜ ReadsMember (grammarOf dialect) (now (s .entry)) (now (nodes .entry)) (now (nodes .exit)) i k left r ⌝ }
+    ensures { λ r. ⌜ ReadsEntry Object (grammarOf dialect) (now (s .entry)) (now (nodes .entry)) (now (nodes .exit)) i k left r ⌝ }
 {
     match read_key(s, classes, dialect, i) {
         KeyRead::Fault(e) => Read::Fault(e),
         KeyRead::Key(a, e, kind, p) => {
             let v = read_value(s, classes, dialect, nodes, p, k + 1, left);
-            let Read::Past(q, m) = v else {
-                return v;
-            };
-            put_node(nodes, k, kind, a, e, m);
-            Read::Past(q, m)
+            match v {
+                Read::Past(q, m) => {
+                    put_node(nodes, k, kind, a, e, m);
+                    Read::Past(q, m)
+                }
+                Read::Fault(q) => Read::Fault(q),
+                Read::Deep(q) => Read::Deep(q),
+            }
         }
     }
 }

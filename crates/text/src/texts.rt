@@ -1,6 +1,6 @@
 // Whole texts: a message is one value, a schema any number of objects, each with blanks around.
 use crate::reader::Read;
-use crate::reader::read_members;
+use crate::reader::read_at;
 use crate::reader::read_value;
 use crate::reader::stands;
 use strings::classes::class_table;
@@ -64,7 +64,7 @@ fn read_objects(s: &[u8], classes: &[u8; 256], nodes: &mut [u32]) -> Text
         if !stands(s, p, b'{') {
             return Text::Fault(p);
         }
-        match read_members(s, classes, Dialect::Schema, nodes, p, n, SCHEMA_LEVELS - 1) {
+        match read_at(s, classes, Dialect::Schema, nodes, p, n, SCHEMA_LEVELS) {
             Read::Past(e, m) => {
                 i = e;
                 n = m;

@@ -8,8 +8,8 @@ use mathlib.Core.Bool.{true, false}
 use mathlib.Core.List.{List}
 use lib.ListN.{length, getD, drop}
 use borrow.Author.Tests.{eq-eqb, ne-eqb}
-use Rattle.grammar.specs.Machine.{Dialect, Stack, Control, Next.to, step, scan}
-use Rattle.grammar.specs.Machine.Control.{InComment}
+use Rattle.grammar.specs.Serving.Machine.{Dialect, Stack, Control, Next.to, step, scan}
+use Rattle.grammar.specs.Serving.Machine.Control.{InComment}
 use Rattle.tokens.specs.Tokens.{Skips, Solid, Skipped}
 use Rattle.tokens.specs.Tokens.Skips.{at-object, at-value, at-element, after-value, at-first-key, at-key, at-colon}
 use Rattle.tokens.specs.TokenParts.{CommentRuns}

@@ -7,11 +7,10 @@ use mathlib.Core.Path.{_≡_, refl, _∙_}
 use mathlib.Core.Bool.{true, false, _||_}
 use lib.Dec.{eqb, leb}
 use borrow.Author.Tests.{eqb-true, leb-true, eq-eqb, ne-eqb}
-use Rattle.grammar.specs.Notation.{within}
+use Rattle.grammar.specs.Notation.{within, digit}
 use Rattle.grammar.specs.Lexis.{blank}
-use Rattle.grammar.specs.MessageText.{digit}
 use Rattle.grammar.proofs.Booleans.{by, either, within-is, within-below, within-above}
-use Rattle.strings.specs.Classes.{named, classOf}
+use Rattle.strings.specs.Classes.{named, classOf, break-class, space-class, digit-class}
 
 module _ (b : ℕ) where
   space-blank : eqb b (code " ") ≡ true → blank b ≡ true
@@ -35,11 +34,11 @@ module _ (b : ℕ) where
   above : 57 < b → digit b ≡ false
   above h = within-above (code "0") (code "9") b h
 
-  -- class 4 or 5 is a blank, class 6 a digit
-  tells : (blank b ≡ within 4 5 (classOf b)) × (digit b ≡ eqb (classOf b) 6)
+  -- the classes of breaks and the space are the blanks, that of digits the digits
+  tells : (blank b ≡ within break-class space-class (classOf b)) × (digit b ≡ eqb (classOf b) digit-class)
   unfolding classOf
   tells =
-      let P : ℕ → Type 0 = λ c. (blank b ≡ within 4 5 c) × (digit b ≡ eqb c 6) in
+      let P : ℕ → Type 0 = λ c. (blank b ≡ within break-class space-class c) × (digit b ≡ eqb c digit-class) in
       by P (eqb b (code " ")) (λ t. (space-blank t, blank-no-digit (space-blank t)))
       (λ _. by P (blank b) (λ t. (t, blank-no-digit t))
       (λ f. by P (leb b 0x1F) (λ t. let e = leb-true b 0x1F t in (f, below (omega arith)))
@@ -49,17 +48,17 @@ module _ (b : ℕ) where
 
 -- the class c that was read for b
 module _ (b : ℕ) {c : ℕ} (e : c ≡ classOf b) where
-  pub class-blank : 4 ≤ c → c ≤ 5 → blank b ≡ true
-  class-blank h g = tells b .0 ∙ rw (← e) (within-is 4 5 c h g)
+  pub class-blank : break-class ≤ c → c ≤ space-class → blank b ≡ true
+  class-blank h g = tells b .0 ∙ rw (← e) (within-is break-class space-class c h g)
 
-  pub class-below : c < 4 → blank b ≡ false
-  class-below h = tells b .0 ∙ rw (← e) (within-below 4 5 c h)
+  pub class-below : c < break-class → blank b ≡ false
+  class-below h = tells b .0 ∙ rw (← e) (within-below break-class space-class c h)
 
-  pub class-above : 5 < c → blank b ≡ false
-  class-above h = tells b .0 ∙ rw (← e) (within-above 4 5 c h)
+  pub class-above : space-class < c → blank b ≡ false
+  class-above h = tells b .0 ∙ rw (← e) (within-above break-class space-class c h)
 
-  pub class-digit : c ≡ 6 → digit b ≡ true
-  class-digit h = tells b .1 ∙ rw (← e) (eq-eqb c 6 h)
+  pub class-digit : c ≡ digit-class → digit b ≡ true
+  class-digit h = tells b .1 ∙ rw (← e) (eq-eqb c digit-class h)
 
-  pub class-no-digit : (c ≡ 6 → ⊥) → digit b ≡ false
-  class-no-digit n = tells b .1 ∙ rw (← e) (ne-eqb c 6 n)
+  pub class-no-digit : (c ≡ digit-class → ⊥) → digit b ≡ false
+  class-no-digit n = tells b .1 ∙ rw (← e) (ne-eqb c digit-class n)

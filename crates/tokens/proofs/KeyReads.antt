@@ -8,8 +8,8 @@ use mathlib.Core.Bool.{true, false}
 use mathlib.Core.List.{List}
 use lib.ListN.{length, getD}
 use borrow.Author.Tests.{ne-eqb}
-use Rattle.grammar.specs.Machine.{Dialect, StringRole.as-key}
-use Rattle.grammar.specs.Machine.Control.{AtKey, AtColon}
+use Rattle.grammar.specs.Serving.Machine.{Dialect, StringRole.as-key}
+use Rattle.grammar.specs.Serving.Machine.Control.{AtKey, AtColon}
 use Rattle.grammar.proofs.TokenRuns.{TokensComplete, Structural.name-separator}
 use Rattle.grammar.proofs.Complete.{skip-solid}
 use Rattle.strings.specs.Strings.{Means, StringTold, ReadsString}

@@ -7,9 +7,11 @@ use mathlib.Core.Path.{_≡_, refl, _∙_}
 use mathlib.Core.Bool.{Bool, true, false}
 use mathlib.Core.List.{List}
 use lib.ListN.{length, getD}
-use Rattle.grammar.specs.MessageText.{digit, letter-e, sign}
-use Rattle.grammar.specs.Machine.Message.{NumberState}
-use Rattle.grammar.specs.Machine.Message.NumberState.{begin, after-minus, after-zero, in-int, after-point, in-frac, after-e, after-sign, in-exp}
+use Rattle.grammar.specs.Notation.{digit}
+use Rattle.grammar.proofs.Numbers.{e-sign}
+use Rattle.grammar.specs.MessageText.{letter-e, sign}
+use Rattle.grammar.specs.Serving.Machine.Message.{NumberState}
+use Rattle.grammar.specs.Serving.Machine.Message.NumberState.{begin, after-minus, after-zero, in-int, after-point, in-frac, after-e, after-sign, in-exp}
 use Rattle.tokens.specs.declared.literals.TokenRead.{TokenRead}
 use Rattle.tokens.specs.declared.literals.TokenRead.the-variants as Tokens
 use Rattle.tokens.specs.declared.literals.NumberRead.{NumberRead}
@@ -17,7 +19,7 @@ use Rattle.tokens.specs.declared.literals.NumberRead.the-variants as Num
 use Rattle.tokens.specs.Numbers.{Passes, NumberRuns, NumberStops, NumberEnds, NumberTold, NoDigit, Loops, DigitsRun, DigitsTold, BeforePower, BeforePoint, BeforeInt}
 use Rattle.tokens.specs.Numbers.{IntTold, PowerTold, ReadsDigits, ReadsInt, ReadsPower, ReadsRest, ReadsNumber}
 use Rattle.tokens.proofs.NumberSteps.{one-byte, stops-here, ends-here}
-use Rattle.tokens.proofs.NumberStates.{e-sign, begin-minus, point-leads, sign-leads, e-leads, minus-before-int, begin-before-int, zero-before-point, int-before-point}
+use Rattle.tokens.proofs.NumberStates.{begin-minus, point-leads, sign-leads, e-leads, minus-before-int, begin-before-int, zero-before-point, int-before-point}
 use Rattle.tokens.proofs.NumberStates.{frac-before-power, exp-stops}
 
 -- a run, and then what is told from its end

@@ -11,10 +11,10 @@ use mathlib.Core.Option.{some, none}
 use lib.Dec.{eqb}
 use lib.ListN.{length, getD}
 use borrow.Author.Tests.{eqb-false, eq-eqb, ne-eqb}
-use Rattle.grammar.specs.Notation.{within}
-use Rattle.grammar.specs.MessageText.{digit, sign}
-use Rattle.grammar.specs.Machine.Message.{NumberState, numberStep}
-use Rattle.grammar.specs.Machine.Message.NumberState.{begin, after-minus, after-zero, in-int, after-point, in-frac, after-e, after-sign, in-exp}
+use Rattle.grammar.specs.Notation.{within, digit}
+use Rattle.grammar.specs.MessageText.{sign}
+use Rattle.grammar.specs.Serving.Machine.Message.{NumberState, numberStep}
+use Rattle.grammar.specs.Serving.Machine.Message.NumberState.{begin, after-minus, after-zero, in-int, after-point, in-frac, after-e, after-sign, in-exp}
 use Rattle.grammar.proofs.Booleans.{within-true, within-false, within-is, Outside, Outside.below, Outside.above, within-below, within-above}
 use Rattle.tokens.specs.Numbers.{NoDigit, Loops, Leads, BeforePower, BeforePoint, BeforeInt}
 
@@ -73,10 +73,6 @@ exp-loops b t = simp t
 pub begin-minus : numberStep begin (code "-") ≡ some after-minus
 unfolding numberStep
 begin-minus = refl
-
-pub e-sign : (b : ℕ) → sign b ≡ true → numberStep after-e b ≡ some after-sign
-unfolding numberStep
-e-sign b t = simp t
 
 module _ (s : List ℕ) (i : ℕ) where
   -- where digits must come

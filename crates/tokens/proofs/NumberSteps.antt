@@ -11,8 +11,8 @@ use lib.ListN.{length, getD, take, drop, length-drop}
 use lib.Seq.{take-suc, getD-drop}
 use Rattle.grammar.specs.Tree.Scalar.{num}
 use Rattle.grammar.specs.Tree.Json.{leaf}
-use Rattle.grammar.specs.Machine.Control.{After}
-use Rattle.grammar.specs.Machine.Message.{message, NumberState, numberStep, numberEnd, tokenStep}
+use Rattle.grammar.specs.Serving.Machine.Control.{After}
+use Rattle.grammar.specs.Serving.Machine.Message.{message, NumberState, numberStep, numberEnd, tokenStep}
 use Rattle.grammar.proofs.Booleans.{none-not-some}
 use Rattle.tokens.specs.Numbers.{gathered, InNumber, NumberRuns, NumberStops, NumberEnds}
 use Rattle.tokens.proofs.Scanning.{scan-to, scan-stuck, scan-end, scan-alike, by-order}

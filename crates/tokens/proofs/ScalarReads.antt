@@ -12,21 +12,24 @@ use lib.ListN.{length, getD, take, drop}
 use borrow.Author.Tests.{ne-eqb}
 use Rattle.grammar.specs.Notation.{text}
 use Rattle.grammar.specs.Tree.{Scalar, Scalar.null, Scalar.bool, Scalar.num, Scalar.str}
-use Rattle.grammar.specs.Machine.{Dialect, Stack, StringRole.as-value, Next.to, step, scan}
-use Rattle.grammar.specs.Machine.Control.{AtValue, InToken}
+use Rattle.grammar.specs.Serving.Machine.{Dialect, Stack, StringRole.as-value, Next.to, step, scan}
+use Rattle.grammar.specs.Serving.Machine.Control.{AtValue, InToken}
 use Rattle.grammar.proofs.Booleans.{Outside}
 use Rattle.grammar.proofs.TokenRuns.{TokensComplete}
 use Rattle.grammar.specs.Lexis.{blank}
-use Rattle.grammar.specs.Machine.Schema as Schema
-use Rattle.grammar.specs.Machine.Schema.{schema}
-use Rattle.grammar.specs.Machine.Message.{message, tokenStart, tokenStep, numberStep, NumberState, NumberState.begin, TokenState.word, TokenState.number}
+use Rattle.grammar.specs.Serving.Machine.Schema as Schema
+use Rattle.grammar.specs.Serving.Machine.Schema.{schema}
+use Rattle.grammar.specs.Serving.Machine.Message.{message, tokenStart, tokenStep, numberStep, NumberState, NumberState.begin, TokenState.word, TokenState.number}
 use Rattle.grammar.proofs.Words.{Words}
 use Rattle.grammar.proofs.SchemaDialect.{schema-tokens-complete}
 use Rattle.grammar.proofs.SchemaDialect.{words as Schema-words}
 use Rattle.grammar.proofs.MessageDialect.{message-tokens-complete}
 use Rattle.grammar.proofs.MessageTokens.{words, begin-range, number-first}
-use Rattle.strings.specs.Strings.{ReadsString, StringTold, Means}
+use Rattle.strings.specs.declared.dialects.Dialect as Dialects
+use Rattle.strings.specs.declared.dialects.Dialect.the-variants as Asked
+use Rattle.strings.specs.Strings.{grammarOf, ReadsString, StringTold, Means}
 use Rattle.tokens.specs.Tokens.{scalarNode, ScalarAt, ScalarRuns, ScalarTold, ReadsScalar, Unbracketed}
+use Rattle.tokens.specs.NodeKinds.{null-node, false-node, true-node}
 use Rattle.tokens.specs.TokenParts.{ReadsWord, WordTold, stringNode, numberNode, wordNode}
 use Rattle.tokens.specs.Numbers.{InNumber, NumberEnds, NumberTold, ReadsNumber}
 use Rattle.strings.specs.declared.strings.StringRead.{StringRead}
@@ -75,25 +78,19 @@ module _ (D : Dialect) (L : TokensComplete D) (word : ℕ → List ℕ → Scala
   reads-word {b} {r} f m h e x = record { told = word-told (λ lim k. scan-to D s lim AtValue k i h (rw e (f lim k))) m r (x .told) }
 
 module _ {s : List ℕ} {i : ℕ} {r : TokenRead} (h : i < length s) where
-  pub schema-true : getD s i 0 ≡ code "t" → ReadsWord s (i + 1) (text "rue") r → ReadsScalar schema s i (wordNode r 3)
-  unfolding Schema.tokenStart blank
-  schema-true = reads-word schema schema-tokens-complete Schema.TokenState.word Schema-words s i (bool true) (code "r") (text "ue") 3 (λ lim k. refl) (λ e. (tt, refl)) h
+  pub true-read : (d : Dialects.Dialect) → getD s i 0 ≡ code "t" → ReadsWord s (i + 1) (text "rue") r → ReadsScalar (grammarOf d) s i (wordNode r true-node)
+  unfolding Schema.tokenStart tokenStart blank
+  true-read Asked.Schema = reads-word schema schema-tokens-complete Schema.TokenState.word Schema-words s i (bool true) (code "r") (text "ue") true-node (λ lim k. refl) (λ e. (tt, refl)) h
+  true-read Asked.Message = reads-word message message-tokens-complete word words s i (bool true) (code "r") (text "ue") true-node (λ lim k. refl) (λ e. (tt, refl)) h
 
-  pub schema-false : getD s i 0 ≡ code "f" → ReadsWord s (i + 1) (text "alse") r → ReadsScalar schema s i (wordNode r 2)
-  unfolding Schema.tokenStart blank
-  schema-false = reads-word schema schema-tokens-complete Schema.TokenState.word Schema-words s i (bool false) (code "a") (text "lse") 2 (λ lim k. refl) (λ e. (tt, refl)) h
+  pub false-read : (d : Dialects.Dialect) → getD s i 0 ≡ code "f" → ReadsWord s (i + 1) (text "alse") r → ReadsScalar (grammarOf d) s i (wordNode r false-node)
+  unfolding Schema.tokenStart tokenStart blank
+  false-read Asked.Schema = reads-word schema schema-tokens-complete Schema.TokenState.word Schema-words s i (bool false) (code "a") (text "lse") false-node (λ lim k. refl) (λ e. (tt, refl)) h
+  false-read Asked.Message = reads-word message message-tokens-complete word words s i (bool false) (code "a") (text "lse") false-node (λ lim k. refl) (λ e. (tt, refl)) h
 
-  pub message-true : getD s i 0 ≡ code "t" → ReadsWord s (i + 1) (text "rue") r → ReadsScalar message s i (wordNode r 3)
+  pub null-read : getD s i 0 ≡ code "n" → ReadsWord s (i + 1) (text "ull") r → ReadsScalar message s i (wordNode r null-node)
   unfolding tokenStart blank
-  message-true = reads-word message message-tokens-complete word words s i (bool true) (code "r") (text "ue") 3 (λ lim k. refl) (λ e. (tt, refl)) h
-
-  pub message-false : getD s i 0 ≡ code "f" → ReadsWord s (i + 1) (text "alse") r → ReadsScalar message s i (wordNode r 2)
-  unfolding tokenStart blank
-  message-false = reads-word message message-tokens-complete word words s i (bool false) (code "a") (text "lse") 2 (λ lim k. refl) (λ e. (tt, refl)) h
-
-  pub message-null : getD s i 0 ≡ code "n" → ReadsWord s (i + 1) (text "ull") r → ReadsScalar message s i (wordNode r 1)
-  unfolding tokenStart blank
-  message-null = reads-word message message-tokens-complete word words s i null (code "u") (text "ll") 1 (λ lim k. refl) (λ e. (tt, refl)) h
+  null-read = reads-word message message-tokens-complete word words s i null (code "u") (text "ll") null-node (λ lim k. refl) (λ e. (tt, refl)) h
 
 -- numbers
 module _ (s : List ℕ) (i : ℕ) (h : i < length s) {t : NumberState} (e : numberStep begin (getD s i 0) ≡ some t) where
@@ -129,18 +126,17 @@ no-value {D} {s} {i} u h q t =
           scan-stuck D s lim AtValue k i h (simp (b .0, b .1, q, ne-eqb (getD s i 0) (code "[") (u .no-array h), ne-eqb (getD s i 0) (code "{") (u .no-object h), t));
     }
 
-pub schema-no-value : {s : List ℕ} {i : ℕ} → Unbracketed schema s i → i < length s
-    → ((Unit {0} × (getD s i 0 ≡ code "'" → ⊥)) × (getD s i 0 ≡ code "t" → ⊥)) × (getD s i 0 ≡ code "f" → ⊥) → ReadsScalar schema s i (Scalars.Fault i)
+pub schema-no-value : {s : List ℕ} {i : ℕ} → Unbracketed schema s i → i < length s → (getD s i 0 ≡ code "'" → ⊥)
+    → (getD s i 0 ≡ code "t" → ⊥) → (getD s i 0 ≡ code "f" → ⊥) → ReadsScalar schema s i (Scalars.Fault i)
 unfolding Schema.tokenStart
-schema-no-value u h n = no-value u h (ne-eqb _ _ (n .0 .0 .1)) (simp (ne-eqb _ _ (n .0 .1), ne-eqb _ _ (n .1)))
+schema-no-value u h q t f = no-value u h (ne-eqb _ _ q) (simp (ne-eqb _ _ t, ne-eqb _ _ f))
 
 pub message-no-value : {s : List ℕ} {i : ℕ} → Unbracketed message s i → i < length s → Outside (code "0") (code "9") (getD s i 0)
-    → ((((Unit {0} × (getD s i 0 ≡ code "\"" → ⊥)) × (getD s i 0 ≡ code "-" → ⊥)) × (getD s i 0 ≡ code "t" → ⊥)) × (getD s i 0 ≡ code "f" → ⊥)) × (getD s i 0 ≡ code "n" → ⊥)
-    → ReadsScalar message s i (Scalars.Fault i)
+    → ((Unit {0} × (getD s i 0 ≡ code "\"" → ⊥)) × (getD s i 0 ≡ code "-" → ⊥)) × (getD s i 0 ≡ code "n" → ⊥)
+    → (getD s i 0 ≡ code "t" → ⊥) → (getD s i 0 ≡ code "f" → ⊥) → ReadsScalar message s i (Scalars.Fault i)
 unfolding tokenStart
-message-no-value {s} {i} u h o n =
-    no-value u h (ne-eqb _ _ (n .0 .0 .0 .0 .1))
-    (simp (begins-none (getD s i 0) (n .0 .0 .0 .1) o, ne-eqb _ _ (n .0 .0 .1), ne-eqb _ _ (n .0 .1), ne-eqb _ _ (n .1)))
+message-no-value {s} {i} u h o n t f =
+    no-value u h (ne-eqb _ _ (n .0 .0 .1)) (simp (begins-none (getD s i 0) (n .0 .1) o, ne-eqb _ _ t, ne-eqb _ _ f, ne-eqb _ _ (n .1)))
 
 -- the text ends
 pub no-more : (D : Dialect) (s : List ℕ) (i : ℕ) → length s ≤ i → ReadsScalar D s i (Scalars.Fault i)

@@ -9,7 +9,7 @@ use lib.Dec.{ltb}
 use lib.ListN.{length, getD, drop, drop-of-length-le}
 use lib.Seq.{drop-cons}
 use borrow.Author.Tests.{ltb-true, ltb-false}
-use Rattle.grammar.specs.Machine.{Dialect, Stack, Next, Next.to, Next.stuck, Control, Out.fault, step, finish, scan}
+use Rattle.grammar.specs.Serving.Machine.{Dialect, Stack, Next, Next.to, Next.stuck, Control, Out.fault, step, finish, scan}
 use Rattle.grammar.proofs.Steps.{goes-on, scan-cons}
 
 module _ (D : Dialect) (s : List ℕ) (lim : ℕ) (c : Control D) (k : Stack) (p : ℕ) where

@@ -6,8 +6,8 @@ use mathlib.Core.Bool.{true}
 use mathlib.Core.List.{List, []}
 use lib.ListN.{length, getD, drop}
 use Rattle.grammar.specs.Tree.{Fields}
-use Rattle.grammar.specs.Machine.{Dialect, Stack, StringRole, StringRole.as-value, StringRole.as-key, endString, scan}
-use Rattle.grammar.specs.Machine.Control.{AtValue, AtKey, InString}
+use Rattle.grammar.specs.Serving.Machine.{Dialect, Stack, StringRole, StringRole.as-value, StringRole.as-key, endString, scan}
+use Rattle.grammar.specs.Serving.Machine.Control.{AtValue, AtKey, InString}
 use Rattle.grammar.proofs.TokenRuns.{TokensComplete}
 use Rattle.grammar.proofs.Complete.{skip-solid, chars-run}
 use Rattle.grammar.proofs.SchemaDialect.{schema-tokens-complete}

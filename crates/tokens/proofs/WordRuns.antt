@@ -13,9 +13,9 @@ use lib.ListN.{length, getD, drop, drop-of-length-le}
 use lib.Seq.{drop-cons}
 use borrow.Author.Tests.{eq-eqb, ne-eqb}
 use Rattle.grammar.specs.Tree.{Scalar, Json.leaf}
-use Rattle.grammar.specs.Lexis.{Spells, Spells.spelled, Spells.letter}
-use Rattle.grammar.specs.Machine.{TokenStep, TokenStep.off, spell, Dialect, Stack, Out.fault, inToken, endToken, scan}
-use Rattle.grammar.specs.Machine.Control.{After, InToken}
+use Rattle.grammar.specs.Lexis.{Spells, Spells.spelled, Spells.then-byte}
+use Rattle.grammar.specs.Serving.Machine.{TokenStep, TokenStep.off, spell, Dialect, Stack, Out.fault, inToken, endToken, scan}
+use Rattle.grammar.specs.Serving.Machine.Control.{After, InToken}
 use Rattle.grammar.proofs.Steps.{goes-on, scan-cons}
 use Rattle.grammar.proofs.TokenRuns.{TokensComplete}
 use Rattle.grammar.proofs.Words.{Words, word-complete}
@@ -40,7 +40,7 @@ module _ {s : List ℕ} {p : ℕ} {w : List ℕ} {i : ℕ} (v : WordPassed s p w
         record {
           within = omega arith;
           letters = omega arith;
-          spells = λ q x. v .spells q (rw (drop-cons w i 0, drop-cons s (p + i) 0, e) (letter (rw (add-one i, add-suc p i) at x)));
+          spells = λ q x. v .spells q (rw (drop-cons w i 0, drop-cons s (p + i) 0, e) (then-byte (rw (add-one i, add-suc p i) at x)));
           misspells = λ q x. v .misspells q (rw (drop-cons w i 0, drop-cons s (p + i) 0, e) (later (rw (add-one i, add-suc p i) at x)));
         }
 

@@ -6,15 +6,16 @@ use mathlib.Core.Bool.{Bool, true, false}
 use mathlib.Core.List.{List, reverse}
 use mathlib.Core.Option.{some, none}
 use lib.ListN.{length, getD, take, drop}
+use Rattle.grammar.specs.Notation.{digit}
 use Rattle.grammar.specs.Tree.Scalar.{num}
 use Rattle.grammar.specs.Tree.Json.{leaf}
-use Rattle.grammar.specs.MessageText.{digit, letter-e}
-use Rattle.grammar.specs.Machine.{Stack, Control, scan}
-use Rattle.grammar.specs.Machine.Control.{After, InToken}
-use Rattle.grammar.specs.Machine.Out.{fault}
-use Rattle.grammar.specs.Machine.Message.{message, NumberState, numberStep, numberEnd}
-use Rattle.grammar.specs.Machine.Message.NumberState.{begin, after-zero, in-int, after-point, after-e}
-use Rattle.grammar.specs.Machine.Message.TokenState.{number}
+use Rattle.grammar.specs.MessageText.{letter-e}
+use Rattle.grammar.specs.Serving.Machine.{Stack, Control, scan}
+use Rattle.grammar.specs.Serving.Machine.Control.{After, InToken}
+use Rattle.grammar.specs.Serving.Machine.Out.{fault}
+use Rattle.grammar.specs.Serving.Machine.Message.{message, NumberState, numberStep, numberEnd}
+use Rattle.grammar.specs.Serving.Machine.Message.NumberState.{begin, after-zero, in-int, after-point, after-e}
+use Rattle.grammar.specs.Serving.Machine.Message.TokenState.{number}
 use Rattle.tokens.specs.declared.literals.TokenRead.{TokenRead}
 use Rattle.tokens.specs.declared.literals.TokenRead.the-variants as Tokens
 use Rattle.tokens.specs.declared.literals.NumberRead.{NumberRead}
@@ -37,7 +38,7 @@ module _ (s : List ℕ) where
   abbrev pub Passes : NumberState → ℕ → NumberState → ℕ → Type 0
   Passes f i t e = (lim a : ℕ) (k : Stack) → a ≤ i → scan message lim (InNumber a f i) k i (drop i s) ≡ scan message lim (InNumber a t e) k e (drop e s)
 
-  -- the same, over one byte or more
+  -- over one byte or more, from state f at place i to state t at place e
   pub record NumberRuns (f : NumberState) (i : ℕ) (t : NumberState) (e : ℕ) : Type 0 where
     pub on : i < e
     pub within : e ≤ length s

@@ -1,18 +1,22 @@
 -- Serves contracts: parts of tokens, in terms of the byte machine. Nobody has to believe it: the text reader's contract cites the grammar.
 use Prim.Native.Nat.{ℕ, suc, _+_, _≤_, _<_}
+use Prim.Native.Char.{code}
 use mathlib.Core.Path.{_≡_}
 use mathlib.Core.Bool.{false}
 use mathlib.Core.List.{List, [], _∷_}
 use lib.Dec.{eqb}
-use lib.ListN.{length, drop}
+use lib.ListN.{length, getD, drop}
 use Rattle.grammar.specs.Tree.{Fields}
 use Rattle.grammar.specs.Lexis.{Spells}
-use Rattle.grammar.specs.Machine.{Dialect, Stack, Control, scan}
-use Rattle.grammar.specs.Machine.Stack.{in-object}
-use Rattle.grammar.specs.Machine.Control.{AtValue, AtColon, InComment}
-use Rattle.strings.specs.Strings.{StopsAt}
+use Rattle.grammar.specs.Serving.Machine.{Dialect, Stack, Control, scan}
+use Rattle.grammar.specs.Serving.Machine.Stack.{in-object}
+use Rattle.grammar.specs.Serving.Machine.Control.{AtValue, AtColon, InComment}
+use Rattle.strings.specs.Strings.{grammarOf, StopsAt}
+use Rattle.strings.specs.declared.dialects.Dialect as Dialects
 use Rattle.strings.specs.declared.strings.StringRead.{StringRead}
 use Rattle.strings.specs.declared.strings.StringRead.the-variants as Strings
+use Rattle.tokens.specs.NodeKinds.{integer-node, other-number-node, plain-string-node, other-string-node}
+use Rattle.tokens.specs.Tokens.{ReadsScalar}
 use Rattle.tokens.specs.declared.literals.TokenRead.{TokenRead}
 use Rattle.tokens.specs.declared.literals.TokenRead.the-variants as Tokens
 use Rattle.tokens.specs.declared.literals.NumberRead.{NumberRead}
@@ -38,18 +42,22 @@ pub record ReadsWord (s : List ℕ) (i : ℕ) (w : List ℕ) (r : TokenRead) : T
 
 -- what was read as a value without brackets, with the kind of its node
 abbrev pub stringNode : StringRead → ScalarRead
-stringNode (Strings.Plain e) = Scalars.Found 6 e
-stringNode (Strings.Coded e) = Scalars.Found 7 e
+stringNode (Strings.Plain e) = Scalars.Found plain-string-node e
+stringNode (Strings.Coded e) = Scalars.Found other-string-node e
 stringNode (Strings.Fault e) = Scalars.Fault e
 
 abbrev pub numberNode : NumberRead → ScalarRead
-numberNode (Numbers.Integer e) = Scalars.Found 4 e
-numberNode (Numbers.Other e) = Scalars.Found 5 e
+numberNode (Numbers.Integer e) = Scalars.Found integer-node e
+numberNode (Numbers.Other e) = Scalars.Found other-number-node e
 numberNode (Numbers.Fault e) = Scalars.Fault e
 
 abbrev pub wordNode : TokenRead → ℕ → ScalarRead
 wordNode (Tokens.Past e) kind = Scalars.Found kind e
 wordNode (Tokens.Fault e) kind = Scalars.Fault e
+
+-- what the reader of true and false answers, in either dialect, if no value stands at place i where neither begins
+pub record ReadsBool (s : List ℕ) (i : ℕ) (r : ScalarRead) : Type 0 where
+  pub told : (d : Dialects.Dialect) → ((getD s i 0 ≡ code "t" → ⊥) → (getD s i 0 ≡ code "f" → ⊥) → ReadsScalar (grammarOf d) s i (Scalars.Fault i)) → ReadsScalar (grammarOf d) s i r
 
 module _ (D : Dialect) (s : List ℕ) where
   -- a comment goes on from place i to e

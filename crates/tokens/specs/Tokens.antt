@@ -8,9 +8,9 @@ use lib.ListN.{length, getD, take, drop}
 use Rattle.grammar.specs.Tree.{Scalar, Json, Fields}
 use Rattle.grammar.specs.Tree.Scalar.{null, bool, num, str}
 use Rattle.grammar.specs.Tree.Json.{leaf}
-use Rattle.grammar.specs.Machine.{Dialect, Stack, Control, scan}
-use Rattle.grammar.specs.Machine.Stack.{in-object}
-use Rattle.grammar.specs.Machine.Control.{AtObject, AtValue, AtElement, After, AtFirstKey, AtKey, AtColon}
+use Rattle.grammar.specs.Serving.Machine.{Dialect, Stack, Control, scan}
+use Rattle.grammar.specs.Serving.Machine.Stack.{in-object}
+use Rattle.grammar.specs.Serving.Machine.Control.{AtObject, AtValue, AtElement, After, AtFirstKey, AtKey, AtColon}
 use Rattle.strings.specs.Strings.{plainString, StopsAt, Means}
 use Rattle.tokens.specs.NodeKinds.{null-node, false-node, true-node, integer-node, other-number-node, plain-string-node, other-string-node, plain-key-node, other-key-node}
 use Rattle.tokens.specs.declared.scalars.ScalarRead.{ScalarRead}

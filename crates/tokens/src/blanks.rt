@@ -1,10 +1,11 @@
 // Blanks, and in a schema comments.
+use strings::class;
 use strings::classes::class_in;
 use strings::dialects::Dialect;
 ghost use mathlib.Core.Path.{_≡_};
 ghost use Rattle.grammar.specs.Lexis.{blank};
-ghost use Rattle.grammar.specs.Machine.Message.{message};
-ghost use Rattle.grammar.specs.Machine.Schema.{schema};
+ghost use Rattle.grammar.specs.Serving.Machine.Message.{message};
+ghost use Rattle.grammar.specs.Serving.Machine.Schema.{schema};
 ghost use Rattle.strings.specs.Classes.{classOf, tabulate};
 ghost use Rattle.strings.specs.Strings.{grammarOf};
 ghost use Rattle.tokens.specs.Tokens.{Skipped};
@@ -31,7 +32,7 @@ fn is_blank(classes: &[u8; 256], b: u8) -> bool
 {
     let c = class_in(classes, b);
     match c {
-        4 | 5 => true,
+        class::BREAK | class::SPACE => true,
         _ => false,
     }
 }

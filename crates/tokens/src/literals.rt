@@ -1,4 +1,5 @@
 // Words and numbers.
+use strings::class;
 use strings::classes::class_in;
 ghost use mathlib.Core.Path.{_≡_};
 ghost use Prim.Native.Nat.{_<_, _≤_};
@@ -28,7 +29,7 @@ fn digits_end(s: &[u8], classes: &[u8; 256], from: usize) -> usize
 {
     let mut i = from;
     while i < s.len() {
-        if class_in(classes, s[i]) != 6 {
+        if class_in(classes, s[i]) != class::DIGIT {
             return i;
         }
         i += 1;
@@ -44,7 +45,7 @@ fn some_digits(s: &[u8], classes: &[u8; 256], from: usize) -> TokenRead
     if s.len() <= from {
         return TokenRead::Fault(from);
     }
-    if class_in(classes, s[from]) != 6 {
+    if class_in(classes, s[from]) != class::DIGIT {
         return TokenRead::Fault(from);
     }
     TokenRead::Past(digits_end(s, classes, from + 1))

@@ -10,12 +10,12 @@ use strings::strings::read_string;
 ghost use mathlib.Core.Path.{_≡_};
 ghost use Prim.Native.Nat.{_<_};
 ghost use lib.ListN.{length};
-ghost use Rattle.grammar.specs.Machine.Message.{message};
-ghost use Rattle.grammar.specs.Machine.Schema.{schema};
+ghost use Rattle.grammar.specs.Serving.Machine.Message.{message};
+ghost use Rattle.grammar.specs.Serving.Machine.Schema.{schema};
 ghost use Rattle.strings.specs.Classes.{classOf, tabulate};
 ghost use Rattle.strings.specs.Strings.{grammarOf};
 ghost use Rattle.tokens.specs.Tokens.{Unbracketed, ReadsScalar};
-ghost use Rattle.tokens.specs.TokenParts.{stringNode, numberNode, wordNode};
+ghost use Rattle.tokens.specs.TokenParts.{ReadsBool, stringNode, numberNode, wordNode};
 
 // The kind of a node and the place past the value; or the place of the first byte that no value could have there.
 pub enum ScalarRead {
@@ -52,6 +52,21 @@ fn word_node(r: TokenRead, kind: u32) -> ScalarRead
     }
 }
 
+// The words that both dialects have, true and false; no value where neither begins.
+fn read_bool(s: &[u8], i: usize) -> ScalarRead
+    requires { ⌜ i < length (now s) ⌝ }
+    ensures { λ r. ⌜ ReadsBool (now (s .entry)) i r ⌝ }
+{
+    let b = s[i];
+    if b == b't' {
+        return word_node(read_word(s, i + 1, b"rue"), node::TRUE);
+    }
+    if b == b'f' {
+        return word_node(read_word(s, i + 1, b"alse"), node::FALSE);
+    }
+    ScalarRead::Fault(i)
+}
+
 fn message_scalar(s: &[u8], classes: &[u8; 256], i: usize) -> ScalarRead
     requires { ⌜ (now classes ≡ tabulate classOf 0 256) × (i < length (now s)) × Unbracketed message (now s) i ⌝ }
     ensures { λ r. ⌜ ReadsScalar message (now (s .entry)) i r ⌝ }
@@ -60,10 +75,8 @@ fn message_scalar(s: &[u8], classes: &[u8; 256], i: usize) -> ScalarRead
     match b {
         b'"' => string_node(read_string(s, classes, Dialect::Message, i)),
         b'-' | b'0'..=b'9' => number_node(read_number(s, classes, i)),
-        b't' => word_node(read_word(s, i + 1, b"rue"), node::TRUE),
-        b'f' => word_node(read_word(s, i + 1, b"alse"), node::FALSE),
         b'n' => word_node(read_word(s, i + 1, b"ull"), node::NULL),
-        _ => ScalarRead::Fault(i),
+        _ => read_bool(s, i),
     }
 }
 
@@ -71,13 +84,10 @@ fn schema_scalar(s: &[u8], classes: &[u8; 256], i: usize) -> ScalarRead
     requires { ⌜ (now classes ≡ tabulate classOf 0 256) × (i < length (now s)) × Unbracketed schema (now s) i ⌝ }
     ensures { λ r. ⌜ ReadsScalar schema (now (s .entry)) i r ⌝ }
 {
-    let b = s[i];
-    match b {
-        b'\'' => string_node(read_string(s, classes, Dialect::Schema, i)),
-        b't' => word_node(read_word(s, i + 1, b"rue"), node::TRUE),
-        b'f' => word_node(read_word(s, i + 1, b"alse"), node::FALSE),
-        _ => ScalarRead::Fault(i),
+    if s[i] == b'\'' {
+        return string_node(read_string(s, classes, Dialect::Schema, i));
     }
+    read_bool(s, i)
 }
 
 // The value without brackets at `i`, where no blank, comment or opening bracket stands.

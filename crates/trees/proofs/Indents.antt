@@ -1,6 +1,7 @@
--- The tree of an accepted message is the tree of its reading: each line stands under as many records as are open where its value starts, and these are the values that contain it.
--- The idea: the values of a reading nest, so the ends of the open ones rise from the innermost on, and the ones kept are those that count.
-use Prim.Native.Nat.{ℕ, zero, suc, _+_, _-_, _*_, _/_, _≤_, _<_}
+-- The tree of an accepted message is the tree of its reading: each line is indented by all records that are open where its value starts, and these are the values that contain it.
+-- The idea: the values of a reading nest, so the ends of the open ones rise from the innermost on, and the ones kept are those that count; the levels of a message bound how many.
+use Prim.Native.Nat.{ℕ, zero, suc, _+_, _-_, _*_, _/_, _≤_, _<_, min}
+use native.Mathlib.Nat.{min-eq-left}
 use native.Mathlib.Omega.{arith}
 use mathlib.Core.Path.{_≡_, refl, sym, ap, subst, _∙_}
 use mathlib.Core.Bool.{Bool, true, false, cond}
@@ -9,25 +10,27 @@ use mathlib.Core.List.{List, [], _∷_, _++_}
 use lib.Dec.{ltb}
 use lib.ListN.{length, take, drop, replicate}
 use lib.Seq.{drop-drop}
-use borrow.Author.Tests.{ltb-true, ltb-false, lt-ltb, le-ltb}
+use borrow.Author.Tests.{ltb-true, ltb-false, lt-ltb, le-ltb, le-leb}
 use Rattle.grammar.specs.Limits.{record-words}
 use Rattle.grammar.specs.Tree.{startOf, endOf}
 use Rattle.rules.specs.declared.MessageAnswer.the-variants.{Accepted}
 use Rattle.rules.specs.Readings.{Typed, recordsOf}
 use Rattle.rules.specs.Envelope.{Asked}
 use Rattle.rules.specs.MessageAnswers.{Readable}
-use Rattle.rules.specs.Answers.{messageResult}
-use Rattle.rules.proofs.Acceptance.{Gives, accepted-gives}
-use Rattle.rules.specs.Order.{Before, Nested}
+use Rattle.rules.specs.Serving.Answers.{messageResult}
+use Rattle.rules.specs.Demands.{Gives}
+use Rattle.rules.proofs.Acceptance.{accepted-gives}
+use Rattle.rules.specs.Serving.Order.{Before, Nested, spanning}
 use Rattle.rules.proofs.Room.{records-length}
-use Rattle.rules.proofs.ReadingOrder.{reading-nested}
+use Rattle.rules.proofs.ReadingOrder.{reading-nested, reading-shallow}
 use Rattle.walker.specs.declared.records.Seen.{Seen}
 use Rattle.walker.specs.declared.records.Seen.the-variants.{Record}
 use Rattle.walker.specs.Seeing.{firstSeen, seenAt, placeFrom, placeAfter}
 use Rattle.walker.specs.Walk.{seenOf}
 use Rattle.walker.proofs.Walk.{counted}
 use Rattle.trees.specs.Nesting.{stillOpen, opened, openAfter}
-use Rattle.trees.specs.TreeText.{leftText, rightText, recordLine, lineAt, openThen, linesOf, linesFrom, openAt, valueLine, readingLines}
+use Rattle.trees.specs.Labelling.{labelText}
+use Rattle.trees.specs.TreeText.{deepest, indent, indentText, leftText, rightText, recordLine, lineAt, openThen, linesOf, linesFrom, openAt, valueLine, readingLines}
 use Rattle.trees.proofs.NestLaws.{by-end}
 
 -- ---- ends that rise from the innermost on
@@ -158,6 +161,7 @@ module _ (S T m ws : List ℕ) (room : ℕ) where
     counts : (s : ℕ) → low ≤ s → countAfter s es ≡ openAt us s
     few : length es ≤ length us
     holds : length us + length vs ≤ room
+    shallow : (s : ℕ) → low ≤ s → openAt us s + spanning s vs ≤ deepest
 
   module _ {low n : ℕ} {us : List Typed} {v : Typed} {vs : List Typed} {es : List ℕ} (h : Here low n us (v ∷ vs) es) where
     abbrev start : ℕ
@@ -170,11 +174,17 @@ module _ (S T m ws : List ℕ) (room : ℕ) where
     depth : length (stillOpen start es) ≡ openAt us start
     depth = still-length start es (h .around .rising) ∙ h .counts start (h .starts .0)
 
+    -- the indent is not cut
+    left : leftText T m ws n start (length (stillOpen start es)) ≡ indent (openAt us start) ++ labelText T m ws (length us) start
+    unfolding leftText indentText
+    left =
+        let f : openAt us start ≤ deepest = omega (arith, h .shallow start (h .starts .0)) in
+        ap (λ (k : ℕ). indent (min k deepest) ++ labelText T m ws n start) depth ∙ ap (λ (k : ℕ). indent k ++ labelText T m ws n start) (min-eq-left f)
+        ∙ ap (λ (k : ℕ). indent (openAt us start) ++ labelText T m ws k start) (h .place)
+
     line : lineAt S T m ws room n es ≡ valueLine S T m ws us v
     unfolding lineAt
-    line =
-        ap (recordLine S T m ws room n es) seen ∙ ap (λ (k : ℕ). leftText T m ws n start k ++ rightText S T m start (endOf (v .value)) (v .ref) (v .array)) depth
-        ∙ ap (λ (k : ℕ). leftText T m ws k start (openAt us start) ++ rightText S T m start (endOf (v .value)) (v .ref) (v .array)) (h .place)
+    line = ap (recordLine S T m ws room n es) seen ∙ ap (λ (l : List ℕ). l ++ rightText S T m start (endOf (v .value)) (v .ref) (v .array)) left
 
     next : placeAfter ws n ≡ suc n
     unfolding placeAfter
@@ -198,6 +208,9 @@ module _ (S T m ws : List ℕ) (room : ℕ) where
       counts = λ s l. ap (λ (k : ℕ). cond (ltb s (endOf (v .value))) 1 0 + k) (still-count start s l es ∙ h .counts s (omega (arith, h .starts .0, l)));
       few = let z = still-few start es in omega (arith, z, h .few);
       holds = omega (arith, h .holds);
+      shallow = λ s l.
+          let z : openAt us s + (cond (ltb s (endOf (v .value))) 1 0 + spanning s vs) ≤ deepest = rw (le-leb start s l) at (h .shallow s (omega (arith, h .starts .0, l))) in
+          omega arith;
     }
 
   lines-are : (vs : List Typed) {low n : ℕ} {us : List Typed} {es : List ℕ} → Here low n us vs es → linesOf S T m ws room (length vs) n es ≡ readingLines S T m ws us vs
@@ -243,6 +256,7 @@ accepted-tree S T m room c n e =
         counts = λ s l. refl;
         few = omega arith;
         holds = omega (arith, g .count, h);
+        shallow = λ s l. omega (arith, reading-shallow (g .readable-so) s);
       });
       nested = o;
     }

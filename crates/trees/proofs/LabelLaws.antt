@@ -9,8 +9,8 @@ use lib.Dec.{eqb, leb}
 use lib.ListN.{length, take, drop, getD}
 use lib.Seq.{drop-cons}
 use borrow.Author.Tests.{eq-eqb, ne-eqb, lt-leb, le-leb}
-use Rattle.grammar.specs.Limits.{first-row}
 use Rattle.grammar.specs.Lexis.{blank}
+use Rattle.rules.specs.Types.{first-row}
 use Rattle.rules.specs.Kinds.{alternate-kind}
 use Rattle.rules.specs.Rows.{kind, isAlternate}
 use Rattle.grammar.specs.Notation.{text}

@@ -1,5 +1,4 @@
 -- In the order of the argument: text, labels, types, open records, and the tree.
-pub mod TableLaws
 pub mod ShownLaws
 pub mod BackLaws
 pub mod LabelLaws

@@ -13,6 +13,7 @@ use borrow.Author.Tests.{ltb-true, ltb-false}
 use Rattle.grammar.specs.Limits.{name-bytes}
 use Rattle.grammar.specs.Notation.{text, all}
 use Rattle.grammar.proofs.Booleans.{both}
+use Rattle.rules.specs.Types.{first-row}
 use Rattle.rules.proofs.Lists.{and-of}
 use Rattle.rules.specs.Rows.{isStruct, nameOf}
 use Rattle.walker.specs.declared.records.Seen.{Seen}
@@ -113,7 +114,7 @@ by-row S T t r false = row-clean (isStruct T r) (nameOf S T r)
 
 name-clean : (S T : List ℕ) (t : ℕ) → all clean (typeName S T t) ≡ true
 unfolding typeName
-name-clean S T t = by-row S T t (t - 16) (ltb t 16)
+name-clean S T t = by-row S T t (t - first-row) (ltb t first-row)
 
 type-clean : (S T : List ℕ) (t f : ℕ) → all clean (typeText S T t f) ≡ true
 unfolding typeText

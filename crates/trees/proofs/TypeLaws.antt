@@ -1,31 +1,33 @@
 -- Types by name, from the words and the tests that led there.
-use Prim.Native.Nat.{ℕ, zero, suc, _+_, _-_, _*_, _≤_, _<_}
+use Prim.Native.Nat.{ℕ, zero, suc, _-_, _≤_, _<_}
 use native.Mathlib.Omega.{arith}
 use mathlib.Core.Path.{_≡_, refl, sym, ap, _∙_}
 use mathlib.Core.Bool.{Bool, true, false}
 use mathlib.Core.List.{List, [], _∷_}
 use lib.ListN.{length, getD}
 use borrow.Author.Tests.{lt-ltb, le-ltb, eq-eqb, ne-eqb}
-use Rattle.grammar.specs.Limits.{first-row}
 use Rattle.grammar.specs.Notation.{text}
+use Rattle.grammar.proofs.TextTables.{entry-short}
+use Rattle.rules.specs.Types.{built-ins, first-row}
 use Rattle.rules.specs.Kinds.{struct-kind}
 use Rattle.rules.specs.Rows.{kind, isStruct, nameOf}
 use Rattle.lines.specs.Text.{Puts}
 use Rattle.lines.proofs.TextLaws.{puts-as, puts-on}
-use Rattle.trees.specs.TextTable.{boundsFrom}
 use Rattle.trees.specs.Escapes.{shown}
 use Rattle.trees.specs.Typing.{builtInNames, rowText, rowName, typeName, typeText}
-use Rattle.trees.proofs.TableLaws.{Part, part-at, entry-short}
 
 -- no built-in type's name is longer
 abbrev longest-built-in : ℕ
 longest-built-in = 6
 
-pub built-in-part : (t : ℕ) {j from to : ℕ} → t < first-row → j ≡ suc t → from ≡ getD (boundsFrom 0 builtInNames) t 0 → to ≡ getD (boundsFrom 0 builtInNames) j 0 → Part builtInNames t from to
-built-in-part t h i p q = part-at builtInNames t h i p q
+pub none-named : {t : ℕ} → t ≡ 0 → text "(none)" ≡ getD builtInNames t []
+none-named z = rw z
 
-pub built-in-short : (t : ℕ) → length (getD builtInNames t []) ≤ longest-built-in
-built-in-short t = entry-short longest-built-in builtInNames t refl
+pub built-in-named : (t : ℕ) {n : List ℕ} → (t ≡ 0 → ⊥) → n ≡ getD built-ins (t - 1) [] → n ≡ getD builtInNames t []
+built-in-named t h p = let z : t ≡ suc (t - 1) = omega arith in p ∙ sym (ap (λ (i : ℕ). getD builtInNames i []) z)
+
+pub built-in-short : (t : ℕ) {n : List ℕ} → n ≡ getD builtInNames t [] → length n ≤ longest-built-in
+built-in-short t p = rw p (entry-short longest-built-in builtInNames t refl)
 
 -- a row by its name, or without one
 by-name : (t : Bool) (n : List ℕ) → (length n ≡ 0 → ⊥) → shown n ≡ rowText t n

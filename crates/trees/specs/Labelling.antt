@@ -4,9 +4,9 @@ use mathlib.Core.Bool.{Bool, true, false, cond, not, _&&_}
 use mathlib.Core.List.{List, [], _∷_}
 use mathlib.Core.Option.{Option, none, some}
 use lib.Dec.{eqb, leb}
-use Rattle.grammar.specs.Limits.{first-row}
 use Rattle.grammar.specs.Notation.{text}
 use Rattle.grammar.specs.Lexis.{blank}
+use Rattle.rules.specs.Types.{first-row}
 use Rattle.rules.specs.Rows.{isAlternate}
 use Rattle.walker.specs.declared.records.Seen.{Seen}
 use Rattle.walker.specs.declared.records.Seen.the-variants.{Record, Nothing}

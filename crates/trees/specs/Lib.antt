@@ -1,5 +1,4 @@
 -- What the contracts cite.
-pub mod TextTable
 pub mod Escapes
 pub mod Backwards
 pub mod Labelling

@@ -1,6 +1,5 @@
 -- The records of a message as a tree: a line each, indented by the records that are open around it.
-use Prim.Native.Nat.{ℕ, zero, suc, _+_, _-_, _*_, _/_, _≤_, _<_, min}
-use mathlib.Core.Logic.{_⊎_}
+use Prim.Native.Nat.{ℕ, zero, suc, _+_, _-_, _*_, _/_, min}
 use mathlib.Core.Path.{_≡_}
 use mathlib.Core.Bool.{cond}
 use mathlib.Core.List.{List, [], _∷_, _++_}
@@ -19,7 +18,7 @@ use Rattle.trees.specs.Nesting.{stillOpen, openAfter}
 use Rattle.trees.specs.Labelling.{labelText}
 use Rattle.trees.specs.Typing.{typeText, type-room}
 
--- more than 80 open records indent no further; an accepted message has fewer
+-- of any records, more than 80 open ones indent no further; those of an accepted message never are so many, and its lines below know no limit
 abbrev pub deepest : ℕ
 deepest = 80
 
@@ -36,8 +35,12 @@ right-room = type-room + shown-room + 6
 abbrev pub line-room : ℕ
 line-room = left-room + right-room
 
+-- two spaces, and two for each of the records around
+abbrev pub indent : ℕ → List ℕ
+indent k = replicate (2 * (1 + k)) 32
+
 unfoldable pub indentText : ℕ → List ℕ
-indentText k = replicate (2 * (1 + min k deepest)) 32
+indentText k = indent (min k deepest)
 
 -- the text of the value; absent arguments have none
 abbrev pub valueShown : List ℕ → List ℕ
@@ -75,35 +78,22 @@ module _ (S T m ws : List ℕ) (room : ℕ) where
   unfoldable pub linesFrom : ℕ → List ℕ → List ℕ
   linesFrom n es = linesOf (length ws / record-words - n) n es
 
-  -- one ask: the line is put, the place is the next, and the record is open
+  -- one ask: the line is put, the place is the next, and the record is open; or nothing is seen, and all stays
   pub record One (n : ℕ) (es : List ℕ) (at : ℕ) (old new : List ℕ) (next : ℕ) (es′ : List ℕ) (r : ℕ) : Type 0 where
     pub puts : Puts (lineAt n es) at old new r
     pub moves : next ≡ placeAfter ws n
     pub opens : es′ ≡ openThen n es
-
-  -- the lines from a place to the next are put, from the start of the room on
-  pub record Shown (from : ℕ) (es : List ℕ) (old new : List ℕ) (next : ℕ) (es′ : List ℕ) (at : ℕ) : Type 0 where
-    pub lines : List ℕ
-    pub puts : Puts lines 0 old new at
-    pub splits : linesFrom from es ≡ lines ++ linesFrom next es′
-
-  -- and then there is nothing left, or no room for the longest line
-  pub record Tree (from : ℕ) (es : List ℕ) (old new : List ℕ) (next : ℕ) (es′ : List ℕ) (at : ℕ) : Type 0 where
-    pub so-far : Shown from es old new next es′ at
-    pub within : at ≤ length new
-    pub stops : (seenAt ws next ≡ Nothing) ⊎ (length old < at + line-room)
-    pub moves : line-room ≤ length old → from < length ws / record-words → from < next
 
 -- how many of these values are open at a place: they end after it
 abbrev pub openAt : List Typed → ℕ → ℕ
 openAt [] place = 0
 openAt (u ∷ us) place = cond (ltb place (endOf (u .value))) 1 0 + openAt us place
 
--- The lines of a reading's values, after those before them, the last first. Each stands under as many as are open where it starts: in a message the values that it is inside of.
+-- The lines of a reading's values, after those before them, the last first. Each is indented by as many as are open where it starts: in a message the values that it is inside of.
 module _ (S T m ws : List ℕ) where
   abbrev pub valueLine : List Typed → Typed → List ℕ
   valueLine us t =
-      leftText T m ws (length us) (startOf (t .value)) (openAt us (startOf (t .value))) ++ rightText S T m (startOf (t .value)) (endOf (t .value)) (t .ref) (t .array)
+      (indent (openAt us (startOf (t .value))) ++ labelText T m ws (length us) (startOf (t .value))) ++ rightText S T m (startOf (t .value)) (endOf (t .value)) (t .ref) (t .array)
 
   unfoldable pub readingLines : List Typed → List Typed → List ℕ
   readingLines us [] = []

@@ -4,9 +4,8 @@ use mathlib.Core.Bool.{Bool, true, false, cond}
 use mathlib.Core.List.{List, [], _∷_, _++_}
 use lib.Dec.{ltb}
 use lib.ListN.{getD}
-use Rattle.grammar.specs.Limits.{first-row}
 use Rattle.grammar.specs.Notation.{text}
-use Rattle.rules.specs.Types.{built-ins}
+use Rattle.rules.specs.Types.{first-row, built-ins}
 use Rattle.rules.specs.Rows.{isStruct, nameOf}
 use Rattle.trees.specs.Escapes.{shown, shown-room}
 

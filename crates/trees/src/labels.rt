@@ -1,9 +1,9 @@
 // What a record is called. A key is looked for backwards from its value.
 use crate::shown::put_bytes;
 use crate::shown::put_shown;
+use builtins::FIRST_ROW;
 use rows::rows::wide;
 use rows::rows::word;
-use rules::FIRST_ROW;
 use rules::kind;
 use rules::row;
 use walker::records::Seen;

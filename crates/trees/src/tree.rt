@@ -8,16 +8,17 @@ use crate::shown::put_shown;
 use crate::types::TYPE_ROOM;
 use crate::types::put_type;
 use rows::rows::wide;
-use walker::reader::ask;
 use walker::records::Seen;
 use walker::records::least;
 use walker::records::part_of;
 ghost use Prim.Native.Nat.{_+_, _≤_};
+ghost use mathlib.Core.Path.{_≡_};
 ghost use lib.ListN.{length, replicate};
+ghost use Rattle.walker.specs.Seeing.{seenAt};
 ghost use Rattle.lines.specs.Text.{Puts};
 ghost use Rattle.trees.specs.Backwards.{before};
 ghost use Rattle.trees.specs.Escapes.{shown-room};
-ghost use Rattle.trees.specs.TreeText.{indent-room, left-room, right-room, line-room, indentText, valueText, leftText, rightText, One, Tree};
+ghost use Rattle.trees.specs.TreeText.{indent-room, left-room, right-room, line-room, indentText, valueText, leftText, rightText, One};
 
 // The most levels that a line is indented by; the records of an accepted message have fewer.
 const DEEPEST: usize = 80;
@@ -27,9 +28,9 @@ const LEFT_ROOM: usize = 2 * (1 + DEEPEST) + SHOWN_ROOM;
 
 const RIGHT_ROOM: usize = TYPE_ROOM + SHOWN_ROOM + 6;
 
-const LINE: usize = LEFT_ROOM + RIGHT_ROOM;
+pub const LINE_ROOM: usize = LEFT_ROOM + RIGHT_ROOM;
 
-// The place to ask at next, how many records are open there, and the place after the text.
+// The number of the record that is shown next, how many are open around it, and the place after the lines put.
 pub struct Progress {
     pub next: usize,
     pub around: usize,
@@ -114,26 +115,24 @@ fn put_right(
     put_bytes(out, d, b"\n")
 }
 
-// Asks at a place, puts the line of the record seen within those around it, and opens that record.
-fn put_next(
+// Puts the line of the record seen at a place, within those around it, and opens that record; or there is none, and nothing is put.
+pub fn put_record(
     schema: &[u8],
     table: &[u32],
     message: &[u8],
     records: &[u32],
+    seen: Seen,
     from: Progress,
     ends: &mut [u32],
     out: &mut [u8],
 ) -> Progress
-    requires { ⌜ from .at + line-room ≤ length (now out) ⌝ }
+    requires { ⌜ (seen ≡ seenAt (now records) (from .next)) × (from .at + line-room ≤ length (now out)) ⌝ }
     ensures { λ r. ⌜ One (now (schema .entry)) (now (table .entry)) (now (message .entry)) (now (records .entry)) (length (now (ends .entry))) (from .next) (before (now (ends .entry)) (from .around)) (from .at) (now (out .entry)) (now (out .exit)) (r .next) (before (now (ends .exit)) (r .around)) (r .at) ⌝ }
 {
     let n = from.next;
-    let step = ask(message, n, records);
-    let seen = step.seen;
-    let next = step.next;
     match seen {
         Seen::Nothing => Progress {
-            next,
+            next: n,
             around: from.around,
             at: from.at,
         },
@@ -150,52 +149,10 @@ fn put_next(
             let e = put_right(schema, table, message, value, out, p);
             let inside = open_record(ends, k, end);
             Progress {
-                next,
+                next: n + 1,
                 around: inside,
                 at: e,
             }
         }
-    }
-}
-
-// The lines of the records from a place on, within the first `around` of the ends, as long as there is room for a line.
-pub fn put_tree(
-    schema: &[u8],
-    table: &[u32],
-    message: &[u8],
-    records: &[u32],
-    from: usize,
-    ends: &mut [u32],
-    around: usize,
-    out: &mut [u8],
-) -> Progress
-    ensures { λ r. ⌜ Tree (now (schema .entry)) (now (table .entry)) (now (message .entry)) (now (records .entry)) (length (now (ends .entry))) from (before (now (ends .entry)) around) (now (out .entry)) (now (out .exit)) (r .next) (before (now (ends .exit)) (r .around)) (r .at) ⌝ }
-{
-    let mut i = from;
-    let mut k = around;
-    let mut at = 0;
-    while LINE <= out.len() - at {
-        let here = Progress {
-            next: i,
-            around: k,
-            at,
-        };
-        let p = put_next(schema, table, message, records, here, ends, out);
-        let next = p.next;
-        k = p.around;
-        at = p.at;
-        if next == i {
-            return Progress {
-                next: i,
-                around: k,
-                at,
-            };
-        }
-        i = next;
-    }
-    Progress {
-        next: i,
-        around: k,
-        at,
     }
 }

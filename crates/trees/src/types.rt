@@ -2,58 +2,38 @@
 use crate::shown::SHOWN_ROOM;
 use crate::shown::put_bytes;
 use crate::shown::put_shown;
+use builtins::FIRST_ROW;
+use builtins::names::name_bounds;
+use builtins::names::name_in;
+use builtins::names::name_text;
 use rows::names::name_of;
 use rows::rows::wide;
 use rows::rows::word;
-use rules::FIRST_ROW;
 use rules::kind;
 use rules::row;
-ghost use Prim.Native.Nat.{_+_, _-_, _≤_, _<_};
+ghost use Prim.Native.Nat.{_+_, _≤_, _<_};
 ghost use mathlib.Core.List.{[]};
-ghost use lib.ListN.{length, take, drop, getD};
-ghost use Rattle.grammar.specs.Limits.{first-row};
+ghost use lib.ListN.{length, getD};
 ghost use Rattle.lines.specs.Text.{Puts};
 ghost use Rattle.trees.specs.Escapes.{shown-room};
 ghost use Rattle.trees.specs.Typing.{builtInNames, rowName, typeName, typeText, type-room};
+ghost use Rattle.rules.specs.Types.{first-row};
 
 // Room for a type's name in brackets.
 pub const TYPE_ROOM: usize = SHOWN_ROOM + 2;
 
-// The part of a text from a place to another.
-pub fn put_part(out: &mut [u8], at: usize, text: &[u8], from: usize, to: usize) -> usize
-    requires { ⌜ (from ≤ to) × (to ≤ length (now text)) × (at + (to - from) ≤ length (now out)) ⌝ }
-    ensures { λ r. ⌜ Puts (take (to - from) (drop from (now (text .entry)))) at (now (out .entry)) (now (out .exit)) r ⌝ }
-{
-    put_bytes(out, at, &text[from..to])
-}
-
-// The names of the type references that are to no row, one after another, and the bounds between them.
+// A type reference that is to no row, by its name; 0 is that of a command without data.
 fn put_built_in(t: usize, out: &mut [u8], at: usize) -> usize
     requires { ⌜ (t < first-row) × (at + shown-room ≤ length (now out)) ⌝ }
     ensures { λ r. ⌜ Puts (getD builtInNames t []) at (now (out .entry)) (now (out .exit)) r ⌝ }
     ensures { λ r. ⌜ r ≤ at + shown-room ⌝ }
 {
-    let names = b"(none)strnumberintint8int16int32int64uint8uint16uint32uint64sizeboolnullany";
-    let bounds = [
-        0usize,
-        6,
-        9,
-        15,
-        18,
-        22,
-        27,
-        32,
-        37,
-        42,
-        48,
-        54,
-        60,
-        64,
-        68,
-        72,
-        75,
-    ];
-    put_part(out, at, names, bounds[t], bounds[t + 1])
+    if t == 0 {
+        return put_bytes(out, at, b"(none)");
+    }
+    let text = name_text();
+    let bounds = name_bounds();
+    put_bytes(out, at, name_in(&text, &bounds, t))
 }
 
 fn put_row(schema: &[u8], table: &[u32], r: usize, out: &mut [u8], at: usize) -> usize

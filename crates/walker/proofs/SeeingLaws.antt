@@ -49,6 +49,25 @@ pub after-end : (ws : List ℕ) (n : ℕ) → length ws / 4 ≤ n → n ≡ plac
 unfolding placeAfter
 after-end ws n h = ap (λ (s : Seen). placeFrom s n) (seen-none ws n h)
 
+-- where the place moves, and where a record is seen, there is one; where it stays there is none
+pub moved-below : (ws : List ℕ) (n : ℕ) → (placeAfter ws n ≡ n → ⊥) → n < length ws / 4
+moved-below ws n f = go (leb (length ws / 4) n) refl
+  where
+    go : (t : Bool) → leb (length ws / 4) n ≡ t → n < length ws / 4
+    go true k = absurd (f (sym (after-end ws n (leb-true (length ws / 4) n k))))
+    go false k = leb-false (length ws / 4) n k
+
+pub stayed-end : (ws : List ℕ) (n : ℕ) → placeAfter ws n ≡ n → length ws / 4 ≤ n
+stayed-end ws n e = go (leb (length ws / 4) n) refl
+  where
+    go : (t : Bool) → leb (length ws / 4) n ≡ t → length ws / 4 ≤ n
+    go true k = leb-true (length ws / 4) n k
+    go false k = let z : n + 1 ≡ n = after-whole ws n (leb-false (length ws / 4) n k) ∙ e in absurd (omega arith)
+
+pub seen-below : (ws : List ℕ) (n : ℕ) {a b c d : ℕ} → seenAt ws n ≡ Record a b c d → n < length ws / 4
+unfolding placeAfter
+seen-below ws n e = moved-below ws n (λ f. let z : suc n ≡ n = sym (ap (λ (s : Seen). placeFrom s n) e) ∙ f in omega arith)
+
 -- an end past the message is as good as its end
 end-cut : (m : List ℕ) (start end to : ℕ) (t : Bool) → leb end (length m) ≡ t → to ≡ min end (length m) → take (to - start) (drop start m) ≡ take (end - start) (drop start m)
 end-cut m start end to true h e = ap (λ (k : ℕ). take (k - start) (drop start m)) (e ∙ min-eq-left (leb-true end (length m) h))

@@ -11,8 +11,9 @@ use Rattle.rules.specs.declared.MessageAnswer.the-variants.{Accepted}
 use Rattle.rules.specs.Readings.{Typed, recordOf, recordsOf}
 use Rattle.rules.specs.Envelope.{Asked}
 use Rattle.rules.specs.MessageAnswers.{Readable}
-use Rattle.rules.specs.Answers.{messageResult}
-use Rattle.rules.proofs.Acceptance.{Gives, accepted-gives}
+use Rattle.rules.specs.Serving.Answers.{messageResult}
+use Rattle.rules.specs.Demands.{Gives}
+use Rattle.rules.proofs.Acceptance.{accepted-gives}
 use Rattle.walker.specs.declared.records.Seen.{Seen}
 use Rattle.walker.specs.declared.records.Seen.the-variants.{Record, Nothing}
 use Rattle.walker.specs.Seeing.{firstSeen, seenAt, placeFrom, placeAfter}

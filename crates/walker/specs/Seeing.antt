@@ -6,7 +6,6 @@ use Rattle.grammar.specs.Limits.{record-words}
 use Rattle.walker.specs.declared.records.Seen.{Seen}
 use Rattle.walker.specs.declared.records.Seen.the-variants.{Record, Nothing}
 use Rattle.walker.specs.declared.reader.Reader.{Reader}
-use Rattle.walker.specs.declared.reader.Step.{Step}
 
 -- the first whole record of words: start, end, type reference, 1 if array
 abbrev pub firstSeen : List ℕ → Seen
@@ -31,9 +30,6 @@ placeAfter ws n = placeFrom (seenAt ws n) n
 -- the reader after it was asked
 abbrev pub moved : List ℕ → Reader → Reader
 moved ws r = record { message = r .message; place = placeAfter ws (r .place) }
-
-abbrev pub stepAt : List ℕ → ℕ → Step
-stepAt ws n = record { seen = seenAt ws n; next = placeAfter ws n }
 
 -- The bytes from a start to an end, as far as the message has them: none where the end is not after the start or the start is past the message.
 unfoldable pub partOf : List ℕ → ℕ → ℕ → List ℕ

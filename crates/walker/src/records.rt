@@ -13,7 +13,7 @@ pub enum Seen {
 }
 
 // How many whole records the words are.
-pub fn whole_records(records: &[u32]) -> usize
+fn whole_records(records: &[u32]) -> usize
     ensures { λ r. ⌜ r ≡ length (now (records .entry)) / record-words ⌝ }
 {
     records.len() / RECORD_WORDS

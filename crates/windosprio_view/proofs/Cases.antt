@@ -1,11 +1,14 @@
--- P1 and P2 as they are shown, by computation from the message's bytes.
+-- P1 and P2 as they are shown: the first case of the P table and its first two messages, by computation from their bytes.
 use Prim.Native.Nat.{ℕ}
 use mathlib.Core.Path.{_≡_, refl}
-use mathlib.Core.List.{List, [], _∷_, _++_}
+use mathlib.Core.List.{List, [], _∷_, _++_, map}
+use mathlib.Core.Option.{some}
+use lib.ListN.{take}
 use Rattle.grammar.specs.Notation.{text}
 use Rattle.grammar.specs.Lexis.{blank}
 use Rattle.rules.specs.Rows.{nameOf}
-use Rattle.rules.specs.Answers.{messageResult}
+use Rattle.rules.specs.Serving.Answers.{schemaResult, messageResult}
+use Rattle.rules.specs.Cases.{Call, Case, cases}
 use Rattle.lines.specs.Text.{decimalText}
 use Rattle.walker.specs.Seeing.{seenAt, placeAfter, partOf}
 use Rattle.trees.specs.Escapes.{shown, shownBytes, shownByte}
@@ -14,21 +17,21 @@ use Rattle.trees.specs.Nesting.{stillOpen, opened}
 use Rattle.trees.specs.Labelling.{skipBlanks, evenSlashes, quoteFirst, keyBack, keyBefore, labelText}
 use Rattle.trees.specs.Typing.{rowName, typeName, typeText}
 use Rattle.trees.specs.TreeText.{indentText, valueText, leftText, rightText, lineAt, openThen, linesOf, linesFrom}
-use Rattle.wordings.specs.Wordings.{refusedLine, commandLine}
+use Rattle.wordings.specs.Wordings.{refusedLine, rowsLine, commandLine}
 use Rattle.console.specs.declared.answers.Style.the-variants.{Tree}
-use Rattle.console.specs.Program.{treeLines, answerText}
+use Rattle.console.specs.Program.{treeLines, answerText, answersTo, programText}
 
-schema : List ℕ
-schema = text "{'command':'stop-lot','data':{'lot':'str'}}"
+-- what is written where the schema stands in the file and the message is a line of the input
+abbrev written : Case → Call → List ℕ
+written c m = programText Tree (some (text (c .schema))) (text (m .message) ++ (10 ∷ []))
 
-rows : List ℕ
-rows = 9 ∷ 12 ∷ 8 ∷ 2 ∷ 0 ∷ 0 ∷ 0 ∷ 0 ∷ 3 ∷ 0 ∷ 0 ∷ 1 ∷ 0 ∷ 0 ∷ 0 ∷ 0 ∷ 4 ∷ 31 ∷ 3 ∷ 1 ∷ 0 ∷ 0 ∷ 0 ∷ 0 ∷ []
+abbrev joined : List (List ℕ) → List ℕ
+joined [] = []
+joined (l ∷ ls) = l ++ (10 ∷ joined ls)
 
-p1 : answerText schema rows 9 Tree (text "{\"execute\":\"stop-lot\",\"arguments\":{\"lot\":\"007\"}}")
-    ≡ text "0 stop-lot" ++ (10 ∷ (text "  arguments: (inline) = {\"lot\":\"007\"}" ++ (10 ∷ (text "    lot: str = \"007\"" ++ (10 ∷ [])))))
-unfolding answerText treeLines messageResult schema rows nameOf blank seenAt placeAfter partOf shown shownBytes shownByte back skipBlanks evenSlashes quoteFirst keyBack keyBefore labelText rowName typeName typeText stillOpen opened indentText valueText leftText rightText lineAt openThen linesOf linesFrom commandLine
-p1 = refl
-
-p2 : answerText schema rows 8 Tree (text "{\"execute\":\"stop-lot\",\"arguments\":{\"lot\":7}}") ≡ text "29 the arguments have no reading at the command's types" ++ (10 ∷ [])
-unfolding answerText treeLines messageResult schema rows seenAt placeAfter lineAt linesOf linesFrom refusedLine decimalText
-p2 = refl
+p1-and-p2 : map (λ (c : Case). map (written c) (take 2 (c .calls))) (take 1 cases)
+    ≡ (joined (text "0 schema accepted, rows: 3" ∷ text "0 stop-lot" ∷ text "  arguments: (inline) = {\"lot\":\"007\"}" ∷ text "    lot: str = \"007\"" ∷ [])
+    ∷ joined (text "0 schema accepted, rows: 3" ∷ text "29 the arguments have no reading at the command's types" ∷ [])
+    ∷ []) ∷ []
+unfolding programText answersTo answerText treeLines schemaResult messageResult nameOf blank seenAt placeAfter partOf shown shownBytes shownByte back skipBlanks evenSlashes quoteFirst keyBack keyBefore labelText rowName typeName typeText stillOpen opened indentText valueText leftText rightText lineAt openThen linesOf linesFrom refusedLine rowsLine commandLine decimalText
+p1-and-p2 = refl

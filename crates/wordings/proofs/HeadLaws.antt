@@ -4,6 +4,8 @@ use mathlib.Core.Path.{_≡_, refl, sym, ap, _∙_}
 use mathlib.Core.List.{List, [], _∷_}
 use lib.ListN.{length, getD}
 use Rattle.grammar.specs.Notation.{text}
+use Rattle.grammar.specs.Serving.TextTable.{boundsFrom}
+use Rattle.grammar.proofs.TextTables.{Part, part-at, entry-short, no-entry}
 use Rattle.rules.specs.declared.SchemaRefusal.{SchemaRefusal}
 use Rattle.rules.specs.declared.SchemaAnswer.{SchemaAnswer}
 use Rattle.rules.specs.declared.SchemaAnswer.the-variants as SA
@@ -15,9 +17,7 @@ use Rattle.rules.specs.SchemaAnswers as Schemas
 use Rattle.rules.specs.MessageAnswers as Messages
 use Rattle.lines.specs.Text.{Puts, decimalText}
 use Rattle.lines.proofs.TextLaws.{puts-as, puts-on, puts-none}
-use Rattle.trees.specs.TextTable.{boundsFrom}
 use Rattle.trees.specs.Escapes.{shown}
-use Rattle.trees.proofs.TableLaws.{Part, part-at, entry-short, no-entry}
 use Rattle.wordings.specs.Wordings.{meanings, meaningOf, longest-meaning, refusedLine, rowsLine, commandLine, schemaHead, messageHead}
 
 -- ---- a meaning in the table

@@ -13,7 +13,7 @@ use Rattle.rules.specs.MessageAnswers as Messages
 use Rattle.lines.specs.Text.{decimalText, number-room}
 use Rattle.trees.specs.Escapes.{shown, shown-room}
 
--- 01, Schema answers: the meanings of 1 to 13, in order
+-- Reference, Viewer: the meanings of 1 to 13, in order
 abbrev pub schemaMeanings : List (List ℕ)
 schemaMeanings =
     text "the schema is longer than 32,768 bytes"
@@ -21,7 +21,7 @@ schemaMeanings =
     ∷ text "an object has a key twice"
     ∷ text "not a definition: a kind, a key or a value is missing or not known"
     ∷ text "a name that is defined is no good name"
-    ∷ text "a name is defined twice, or is that of a built-in type"
+    ∷ text "two names are one in C (- as _), or one is a built-in type's"
     ∷ text "a name refers to nothing that fits"
     ∷ text "a chain of bases has a cycle, over 16 structs or a member twice"
     ∷ text "a union does not fit its discriminator and branches"
@@ -31,7 +31,7 @@ schemaMeanings =
     ∷ text "the table has more rows than there is room for"
     ∷ []
 
--- 01, Message answers: those of 21 to 30
+-- Reference, Viewer: those of 21 to 30
 abbrev pub messageMeanings : List (List ℕ)
 messageMeanings =
     text "the table is not sound"

@@ -8,17 +8,24 @@ use rules::MessageAnswer;
 use rules::SchemaAnswer;
 use trees::shown::put_bytes;
 use trees::shown::put_shown;
-use trees::types::put_part;
-ghost use Prim.Native.Nat.{_+_, _≤_};
-ghost use lib.ListN.{length};
+ghost use Prim.Native.Nat.{_+_, _-_, _≤_};
+ghost use lib.ListN.{length, take, drop};
 ghost use Rattle.lines.specs.Text.{Puts};
 ghost use Rattle.wordings.specs.Wordings.{meaningOf, longest-meaning, refusedLine, refusal-room, rowsLine, commandLine, command-room, schemaHead, messageHead};
 
 // Room for a refusal: its number, its meaning of at most 71 bytes, and LF.
 pub const REFUSAL_ROOM: usize = NUMBER_ROOM + 71 + 1;
 
-// The paper's numbers are 0 to 30.
+// The numbers of answers are 0 to 30.
 const NUMBERS: usize = 31;
+
+// The part of a text from a place to another.
+fn put_part(out: &mut [u8], at: usize, text: &[u8], from: usize, to: usize) -> usize
+    requires { ⌜ (from ≤ to) × (to ≤ length (now text)) × (at + (to - from) ≤ length (now out)) ⌝ }
+    ensures { λ r. ⌜ Puts (take (to - from) (drop from (now (text .entry)))) at (now (out .entry)) (now (out .exit)) r ⌝ }
+{
+    put_bytes(out, at, &text[from..to])
+}
 
 // The meanings, each at its number, one after another, and the bounds between them; no other number has one.
 fn put_meaning(n: usize, out: &mut [u8], at: usize) -> usize
@@ -27,7 +34,7 @@ fn put_meaning(n: usize, out: &mut [u8], at: usize) -> usize
     ensures { λ r. ⌜ r ≤ at + longest-meaning ⌝ }
 {
     let texts =
-        b"the schema is longer than 32,768 bytesthe file is not schema textan object has a key twicenot a definition: a kind, a key or a value is missing or not knowna name that is defined is no good namea name is defined twice, or is that of a built-in typea name refers to nothing that fitsa chain of bases has a cycle, over 16 structs or a member twicea union does not fit its discriminator and branchesthe alternatives of an alternate can not be told aparta command returns no struct, no union and no array of thesethe table would have more than 1,024 rowsthe table has more rows than there is room forthe table is not soundthe message is longer than 16,384 bytesthe message is not JSON textthe message nests deeper than 32 levelsan object has a key twicethe message is not an object with execute or exec-oob, arguments and idthe schema has no command of that namethe command may not run out of bandthe arguments have no reading at the command's typesthe reading has more records than there is room for";
+        b"the schema is longer than 32,768 bytesthe file is not schema textan object has a key twicenot a definition: a kind, a key or a value is missing or not knowna name that is defined is no good nametwo names are one in C (- as _), or one is a built-in type'sa name refers to nothing that fitsa chain of bases has a cycle, over 16 structs or a member twicea union does not fit its discriminator and branchesthe alternatives of an alternate can not be told aparta command returns no struct, no union and no array of thesethe table would have more than 1,024 rowsthe table has more rows than there is room forthe table is not soundthe message is longer than 16,384 bytesthe message is not JSON textthe message nests deeper than 32 levelsan object has a key twicethe message is not an object with execute or exec-oob, arguments and idthe schema has no command of that namethe command may not run out of bandthe arguments have no reading at the command's typesthe reading has more records than there is room for";
     let bounds = [
         0usize,
         0,
@@ -36,31 +43,31 @@ fn put_meaning(n: usize, out: &mut [u8], at: usize) -> usize
         90,
         156,
         194,
-        248,
-        282,
-        345,
-        396,
-        450,
-        509,
-        550,
-        596,
-        596,
-        596,
-        596,
-        596,
-        596,
-        596,
-        596,
-        618,
-        657,
-        685,
-        724,
-        749,
-        820,
-        858,
-        893,
-        945,
-        996,
+        254,
+        288,
+        351,
+        402,
+        456,
+        515,
+        556,
+        602,
+        602,
+        602,
+        602,
+        602,
+        602,
+        602,
+        602,
+        624,
+        663,
+        691,
+        730,
+        755,
+        826,
+        864,
+        899,
+        951,
+        1002,
     ];
     if NUMBERS <= n {
         return at;

@@ -1,11 +1,31 @@
--- Words copied and cleared one by one: what a store does to the list so far.
-use Prim.Native.Nat.{ℕ, zero, suc, _+_, _-_, _≤_, _<_}
-use native.Mathlib.Nat.{le-of-suc-le-suc, not-suc-le-zero}
+-- Items of a width within the words, and words copied and cleared one by one: what a store does to the list so far.
+use Prim.Native.Nat.{ℕ, zero, suc, _+_, _-_, _*_, _/_, _≤_, _<_}
+use native.Mathlib.Nat.{le-of-suc-le-suc, not-suc-le-zero, mul-comm, div-lt-iff-lt-mul, le-div-iff-mul-le}
 use native.Mathlib.Omega.{arith}
 use mathlib.Core.Path.{_≡_, refl, sym, ap, _∙_}
 use mathlib.Core.List.{List, [], _∷_, _++_}
 use lib.ListN.{length, take, drop, getD, set, replicate}
-use lib.Seq.{take-length}
+use lib.Seq.{sets, take-length}
+use borrow.Author.Tests.{le-leb, lt-leb}
+use Rattle.grammar.specs.Notation.{putItem}
+
+-- where item k begins among n words
+module _ (n : ℕ) {width k : ℕ} (h : 0 < width) where
+  pub item-past : n / width < k → n < width * k
+  item-past l = rw (mul-comm width k) (div-lt-iff-lt-mul h .0 l)
+
+  pub item-within : k ≤ n / width → width * k ≤ n
+  item-within l = rw (mul-comm width k) (le-div-iff-mul-le h .0 l)
+
+-- item k, of four words, written or not
+module _ (w : List ℕ) {k : ℕ} (xs : List ℕ) where
+  pub four-past : length w / 4 ≤ k → putItem 4 w k xs ≡ w
+  unfolding putItem
+  four-past h = rw (lt-leb (4 * k + 4) (length w) (omega arith))
+
+  pub four-fits : k < length w / 4 → putItem 4 w k xs ≡ sets w (4 * k) xs
+  unfolding putItem
+  four-fits h = rw (le-leb (4 * k + 4) (length w) (omega arith))
 
 pub copied : (src dst : List ℕ) (i : ℕ) → i < length src → i < length dst → set (take i src ++ drop i dst) i (getD src i 0) ≡ take (suc i) src ++ drop (suc i) dst
 copied [] dst i h k = absurd (not-suc-le-zero h)
@@ -47,7 +67,7 @@ cleared-all (x ∷ w) zero (suc n) zero h e = absurd (omega arith)
 cleared-all (x ∷ w) zero (suc n) (suc m) h e = ap (λ (l : List ℕ). 0 ∷ l) (cleared-all w zero n m (omega arith) (omega arith))
 cleared-all (x ∷ w) (suc a) n m h e = ap (λ (l : List ℕ). x ∷ l) (cleared-all w a n m (omega arith) (omega arith))
 
--- the same as the loops count
+-- words cleared from place a on and words copied, up to the place i that a loop has come to
 pub clear-begin : (w : List ℕ) (a : ℕ) → w ≡ cleared a (a - a) w
 clear-begin w a = let e : 0 ≡ a - a = omega arith in cleared-none w a ∙ ap (λ (n : ℕ). cleared a n w) e
 

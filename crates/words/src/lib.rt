@@ -1,8 +1,38 @@
-// Words that a caller lends: copied into, and set to zero.
+// Words that a caller lends: read and written in items of a width, copied into, and set to zero.
 ghost use mathlib.Core.Path.{_≡_};
-ghost use mathlib.Core.List.{_++_};
-ghost use Prim.Native.Nat.{_-_, _≤_};
+ghost use mathlib.Core.List.{[], _∷_, _++_};
+ghost use Prim.Native.Nat.{_-_, _≤_, _<_};
 ghost use lib.ListN.{length, take, drop, replicate};
+ghost use Rattle.grammar.specs.Notation.{wordOf, putItem};
+
+// Word i of item k, in items of `width` words; 0 past the end.
+pub fn word_of(words: &[u32], width: usize, k: usize, i: usize) -> u32
+    requires { ⌜ 0 < width ⌝ }
+    ensures { λ r. ⌜ r ≡ wordOf width (now (words .entry)) k i ⌝ }
+{
+    if words.len() / width < k {
+        return 0;
+    }
+    let at = width * k;
+    if words.len() - at <= i {
+        return 0;
+    }
+    words[at + i]
+}
+
+// Item k, in items of four words, where all of it fits.
+pub fn put_four(words: &mut [u32], k: usize, a: u32, b: u32, c: u32, d: u32)
+    ensures { λ _. ⌜ now (words .exit) ≡ putItem 4 (now (words .entry)) k (a ∷ b ∷ c ∷ d ∷ []) ⌝ }
+{
+    if words.len() / 4 <= k {
+        return;
+    }
+    let at = 4 * k;
+    words[at] = a;
+    words[at + 1] = b;
+    words[at + 2] = c;
+    words[at + 3] = d;
+}
 
 // Copies all words to the front of others.
 pub fn copy(from: &[u32], to: &mut [u32])

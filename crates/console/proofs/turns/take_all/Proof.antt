@@ -3,7 +3,7 @@ use Prim.Native.Nat.{_≤_}
 use native.Mathlib.Omega.{arith}
 use mathlib.Core.Path.{_≡_, refl}
 use lib.ListN.{length}
-use Rattle.console.specs.Program.{Room}
+use Rattle.console.specs.Serving.Steps.{Room}
 use Rattle.console.proofs.StepLaws.{kept-in}
 use borrow.Author.Needs.{needs}
 use Rattle.console.proofs.turns.take_all.Statement.{statement}
@@ -49,7 +49,7 @@ loop-less : tie.Need-loop-less Inv-loop μ-loop
 loop-less c = search needs
 
 loop-again : tie.Need-loop-again Inv-loop μ-loop
-loop-again c = let r = c .before .before .before .before .before .before .before .before .before .before .before .before .before .before .before .before .before .loop .inv .5 in (kept-in _ (c .before .n .given .1) (c .before .before .before .before .before .before .before .before .before .before .before .take-some .ensures), search needs, search needs, search needs, search needs, record { few = omega (arith, r .few); wide = omega (arith, r .wide); long = omega (arith, r .long) })
+loop-again c = let r = c .before .before .before .before .before .before .before .before .before .before .before .before .before .before .before .before .before .loop .inv .5 in (kept-in _ (c .before .n .given .1) (c .before .before .before .before .before .before .before .before .before .before .before .take-some .ensures), search needs, search needs, search needs, search needs, record { lent = omega (arith, r .lent); wide = omega (arith, r .wide); long = omega (arith, r .long) })
 
 same-length-5 : tie.Need-same-length-5 Inv-loop μ-loop
 same-length-5 c = search needs

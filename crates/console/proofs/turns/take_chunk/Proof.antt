@@ -3,7 +3,7 @@ use Prim.Native.Nat.{_+_, _-_, _≤_}
 use native.Mathlib.Omega.{arith}
 use mathlib.Core.Path.{_≡_, refl}
 use lib.ListN.{length}
-use Rattle.console.specs.Program.{longest-line, Room}
+use Rattle.console.specs.Serving.Steps.{longest-line, Room}
 use Rattle.console.proofs.StepLaws.{room-in}
 use borrow.Author.Needs.{needs}
 use Rattle.console.proofs.turns.take_chunk.Statement.{statement}
@@ -65,7 +65,7 @@ loop-less : tie.Need-loop-less Inv-loop μ-loop
 loop-less c = let t = c .before .before .before .before .before .before .before .before .before .before .before .before .before .before .before .before .before .take-line .ensures in let h = t .moves (c .before .before .before .before .before .before .before .before .before .before .before .before .before .before .before .before .before .before .before .before .before .loop-test .taken) in omega (arith, h, t .within)
 
 loop-again : tie.Need-loop-again Inv-loop μ-loop
-loop-again c = let t = c .before .before .before .before .before .before .before .before .before .before .before .before .before .before .before .before .before .take-line .ensures in let r = c .before .before .before .before .before .before .before .before .before .before .before .before .before .before .before .before .before .before .before .before .before .before .loop .inv .5 in (t .within, omega (arith, t .keeps), search needs, search needs, search needs, record { few = omega (arith, r .few); wide = omega (arith, r .wide); long = omega (arith, r .long) }, room-in _ (c .before .p .given .1) (c .before .before .before .before .before .write-on .ensures))
+loop-again c = let t = c .before .before .before .before .before .before .before .before .before .before .before .before .before .before .before .before .before .take-line .ensures in let r = c .before .before .before .before .before .before .before .before .before .before .before .before .before .before .before .before .before .before .before .before .before .before .loop .inv .5 in (t .within, omega (arith, t .keeps), search needs, search needs, search needs, record { lent = omega (arith, r .lent); wide = omega (arith, r .wide); long = omega (arith, r .long) }, room-in _ (c .before .p .given .1) (c .before .before .before .before .before .write-on .ensures))
 
 sub-write-all : tie.Need-sub-write-all Inv-loop μ-loop
 sub-write-all c = search needs

@@ -11,7 +11,7 @@ may-wait-requires : tie.Need-may-wait-requires
 may-wait-requires c κs = search needs
 
 returns : tie.Need-returns
-returns c = let h = c .before .may-wait .ensures (c .if1 .taken) in omega (arith, h, c .before .before .before .before .before .before .before .pre .0)
+returns c = let h = c .before .may-wait .ensures (c .if1 .taken) .1 in omega (arith, h, c .before .before .before .before .before .before .before .pre .0)
 
 sub-write-all : tie.Need-sub-write-all
 sub-write-all c = search needs

@@ -1,122 +1,44 @@
--- `writing::put_row` meets its contract: eight stores where the whole row fits, or none.
--- The stores, at 8 * n and up to seven past it, are `sets` by computation, once `+ 1` is written `suc`.
-use borrow.Author.Needs.{needs}
-use lib.ListN.{length-set}
+-- `writing::put_row` meets its contract: two items of four words where the whole row fits, or none.
 use mathlib.Core.Path.{refl}
-use native.Mathlib.Numerals.{towards-suc}
 use native.Mathlib.Omega.{arith}
+use Rattle.definitions.proofs.Stores.{put-halves}
+use borrow.Author.Needs.{needs}
 use Rattle.definitions.proofs.writing.put_row.Statement.{statement}
 use Rattle.definitions.proofs.writing.put_row.Tie as tie
 
 returns : tie.Need-returns
 returns c = record { same-length = refl; words = λ h. absurd (omega arith) }
 
-mul-at : tie.Need-mul-at
-mul-at c = search needs
+mul-put-four : tie.Need-mul-put-four
+mul-put-four c = search needs
 
-mul-rows : tie.Need-mul-rows
-mul-rows c = search needs
+put-four-requires : tie.Need-put-four-requires
+put-four-requires c κs = search needs
 
-slice-write-rows : tie.Need-slice-write-rows
-slice-write-rows c = search needs
+mul-put-four-2 : tie.Need-mul-put-four-2
+mul-put-four-2 c = search needs
 
-add-rows : tie.Need-add-rows
-add-rows c = search needs
+add-put-four : tie.Need-add-put-four
+add-put-four c = search needs
 
-mul-rows-2 : tie.Need-mul-rows-2
-mul-rows-2 c = search needs
-
-slice-write-rows-2 : tie.Need-slice-write-rows-2
-slice-write-rows-2 c = simp length-set (omega arith)
-
-add-rows-2 : tie.Need-add-rows-2
-add-rows-2 c = search needs
-
-mul-rows-3 : tie.Need-mul-rows-3
-mul-rows-3 c = search needs
-
-slice-write-rows-3 : tie.Need-slice-write-rows-3
-slice-write-rows-3 c = simp length-set (omega arith)
-
-add-rows-3 : tie.Need-add-rows-3
-add-rows-3 c = search needs
-
-mul-rows-4 : tie.Need-mul-rows-4
-mul-rows-4 c = search needs
-
-slice-write-rows-4 : tie.Need-slice-write-rows-4
-slice-write-rows-4 c = simp length-set (omega arith)
-
-add-rows-4 : tie.Need-add-rows-4
-add-rows-4 c = search needs
-
-mul-rows-5 : tie.Need-mul-rows-5
-mul-rows-5 c = search needs
-
-slice-write-rows-5 : tie.Need-slice-write-rows-5
-slice-write-rows-5 c = simp length-set (omega arith)
-
-add-rows-5 : tie.Need-add-rows-5
-add-rows-5 c = search needs
-
-mul-rows-6 : tie.Need-mul-rows-6
-mul-rows-6 c = search needs
-
-slice-write-rows-6 : tie.Need-slice-write-rows-6
-slice-write-rows-6 c = simp length-set (omega arith)
-
-add-rows-6 : tie.Need-add-rows-6
-add-rows-6 c = search needs
-
-mul-rows-7 : tie.Need-mul-rows-7
-mul-rows-7 c = search needs
-
-slice-write-rows-7 : tie.Need-slice-write-rows-7
-slice-write-rows-7 c = simp length-set (omega arith)
-
-add-rows-7 : tie.Need-add-rows-7
-add-rows-7 c = search needs
-
-mul-rows-8 : tie.Need-mul-rows-8
-mul-rows-8 c = search needs
-
-slice-write-rows-8 : tie.Need-slice-write-rows-8
-slice-write-rows-8 c = simp length-set (omega arith)
+put-four-requires-2 : tie.Need-put-four-requires-2
+put-four-requires-2 c κs = search needs
 
 same-length : tie.Need-same-length
 same-length c = search needs
 
 returns-2 : tie.Need-returns-2
-returns-2 c = record { same-length = simp length-set; words = λ h. simp towards-suc }
+returns-2 c = put-halves _ (c .before .before .before .before .before .before .before .before .if1 .left) (c .before .before .before .before .before .before .put-four .ensures) (c .before .before .put-four2 .ensures)
 
 pub put-row-spec : {M : Type 1} → statement M
 put-row-spec =
     tie.close
     (tie.spec
     returns
-    mul-at
-    mul-rows
-    slice-write-rows
-    add-rows
-    mul-rows-2
-    slice-write-rows-2
-    add-rows-2
-    mul-rows-3
-    slice-write-rows-3
-    add-rows-3
-    mul-rows-4
-    slice-write-rows-4
-    add-rows-4
-    mul-rows-5
-    slice-write-rows-5
-    add-rows-5
-    mul-rows-6
-    slice-write-rows-6
-    add-rows-6
-    mul-rows-7
-    slice-write-rows-7
-    add-rows-7
-    mul-rows-8
-    slice-write-rows-8
+    mul-put-four
+    put-four-requires
+    mul-put-four-2
+    add-put-four
+    put-four-requires-2
     same-length
     returns-2)

@@ -1,15 +1,12 @@
 -- `contents::object_content` meets its contract.
--- An object is no array; any takes it whole, another type by its members.
-use Rattle.readings.proofs.ContentLaws.{object-array, object-alone, object-members, object-misfits}
+-- An object is no array; it is read by its members.
+use Rattle.readings.proofs.ContentLaws.{object-array, object-members, object-misfits}
 use borrow.Author.Needs.{needs}
 use Rattle.readings.proofs.contents.object_content.Statement.{statement}
 use Rattle.readings.proofs.contents.object_content.Tie as tie
 
 returns : tie.Need-returns
 returns c = object-array (c .if1 .taken)
-
-returns-2 : tie.Need-returns-2
-returns-2 c = object-alone (c .before .if1 .left) (c .if2 .taken)
 
 structs-at-requires : tie.Need-structs-at-requires
 structs-at-requires c κs = search needs
@@ -20,17 +17,12 @@ enum-known-base c = search needs
 enum-told : tie.Need-enum-told
 enum-told c = search needs
 
-returns-3 : tie.Need-returns-3
-returns-3 c =
-    let d = c .before .before .before .before in
-    object-members (d .before .if1 .left) (d .if2 .left) (c .before .before .before .structs-at .ensures) (c .before .base .given .1)
+returns-2 : tie.Need-returns-2
+returns-2 c = object-members (c .before .before .before .before .if1 .left) (c .before .before .before .structs-at .ensures) (c .before .base .given .1)
 
-returns-4 : tie.Need-returns-4
-returns-4 c =
-    object-misfits (c .before .before .before .before .if1 .left) (c .before .before .before .if2 .left) (c .before .before .structs-at .ensures)
-    (c .enum-told .given .1)
+returns-3 : tie.Need-returns-3
+returns-3 c = object-misfits (c .before .before .before .if1 .left) (c .before .before .structs-at .ensures) (c .enum-told .given .1)
 
 pub object-content-spec : {M : Type 1} → statement M
 object-content-spec =
-    tie.close
-    (tie.spec returns returns-2 structs-at-requires enum-known-base enum-told returns-3 returns-4)
+    tie.close (tie.spec returns structs-at-requires enum-known-base enum-told returns-2 returns-3)

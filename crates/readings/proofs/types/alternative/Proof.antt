@@ -8,10 +8,10 @@ use Rattle.readings.proofs.types.alternative.Statement.{statement}
 use Rattle.readings.proofs.types.alternative.Tie as tie
 
 abbrev Inv-loop : tie.InvT-loop
-Inv-loop rows r c i₀ left₀ i left = Room i left × AlternativesLeft rows r c i left
+Inv-loop rows r k i₀ left₀ i left = Room i left × AlternativesLeft rows r k i left
 
 abbrev μ-loop : tie.MeasureT-loop
-μ-loop rows r c i₀ left₀ i left = left
+μ-loop rows r k i₀ left₀ i left = left
 
 first-child-requires : tie.Need-first-child-requires Inv-loop μ-loop
 first-child-requires c κs = search needs
@@ -31,11 +31,8 @@ wide-requires c κs = search needs
 type-kind-requires : tie.Need-type-kind-requires Inv-loop μ-loop
 type-kind-requires c κs = search needs
 
-wide-requires-2 : tie.Need-wide-requires-2 Inv-loop μ-loop
-wide-requires-2 c κs = search needs
-
 returns : tie.Need-returns Inv-loop μ-loop
-returns c = alternatives-hit (c .before .before .before .before .before .before .loop .inv .1) (c .before .before .before .before .before .loop-test .taken) (c .before .before .before .before .word .ensures) (c .before .before .before .wide .ensures) (c .before .before .type-kind .ensures) (c .before .wide2 .ensures) (c .if1 .taken)
+returns c = alternatives-hit (c .before .before .before .before .before .loop .inv .1) (c .before .before .before .before .loop-test .taken) (c .before .before .before .word .ensures) (c .before .before .wide .ensures) (c .before .type-kind .ensures) (c .if1 .taken)
 
 next-row-requires : tie.Need-next-row-requires Inv-loop μ-loop
 next-row-requires c κs = search needs
@@ -48,9 +45,9 @@ loop-less c = search needs
 
 loop-again : tie.Need-loop-again Inv-loop μ-loop
 loop-again c =
-    let l = c .before .before .before .before .before .before .loop-test .taken in
+    let l = c .before .before .before .before .before .loop-test .taken in
     let f = c .next-row .ensures in
-    (room-next (c .before .before .before .before .before .before .before .loop .inv .0) l f, alternatives-on (c .before .before .before .before .before .before .before .loop .inv .1) l (c .before .before .before .before .before .word .ensures) (c .before .before .before .before .wide .ensures) (c .before .before .before .type-kind .ensures) (c .before .before .wide2 .ensures) (c .before .if1 .left) f)
+    (room-next (c .before .before .before .before .before .before .loop .inv .0) l f, alternatives-on (c .before .before .before .before .before .before .loop .inv .1) l (c .before .before .before .before .word .ensures) (c .before .before .before .wide .ensures) (c .before .before .type-kind .ensures) (c .before .if1 .left) f)
 
 returns-2 : tie.Need-returns-2 Inv-loop μ-loop
 returns-2 c = alternatives-end (c .before .loop .inv .1) (c .loop-test .left)
@@ -67,7 +64,6 @@ alternative-spec =
     word-requires
     wide-requires
     type-kind-requires
-    wide-requires-2
     returns
     next-row-requires
     sub-left

@@ -25,8 +25,8 @@ returns-3 c =
 node-word-requires : tie.Need-node-word-requires
 node-word-requires c κs = search needs
 
-column-requires : tie.Need-column-requires
-column-requires c κs = search needs
+json-kind-requires : tie.Need-json-kind-requires
+json-kind-requires c κs = search needs
 
 alternative-requires : tie.Need-alternative-requires
 alternative-requires c κs = search needs
@@ -35,7 +35,7 @@ returns-4 : tie.Need-returns-4
 returns-4 c =
     let d = c .before .before .before .before in
     by-alternative _ _ (d .before .before .before .if1 .left) (d .before .before .if2 .left) (d .before .wide .ensures) (d .word .ensures)
-    (c .before .before .before .if3 .left) (c .before .column .ensures) (c .before .before .node-word .ensures) (c .alternative .ensures)
+    (c .before .before .before .if3 .left) (c .before .json-kind .ensures) (c .before .before .node-word .ensures) (c .alternative .ensures)
 
 pub type-for-spec : {M : Type 1} → statement M
 type-for-spec =
@@ -47,6 +47,6 @@ type-for-spec =
     word-requires
     returns-3
     node-word-requires
-    column-requires
+    json-kind-requires
     alternative-requires
     returns-4)

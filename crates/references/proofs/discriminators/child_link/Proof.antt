@@ -4,8 +4,7 @@ use Rattle.rules.specs.Rows.{children}
 use Rattle.rules.specs.SchemaTable.{memberIn}
 use Rattle.rows.specs.Rows.{Room}
 use Rattle.rows.proofs.LoopLaws.{room-next}
-use Rattle.rows.proofs.ChildLaws.{children-room}
-use Rattle.references.proofs.DiscriminatorLaws.{LinkLeft, link-starts, link-hit, link-on, link-ends}
+use Rattle.rows.proofs.ChildLaws.{children-room, LinkLeft, link-starts, link-hit, link-on, link-ends}
 use borrow.Author.Needs.{needs}
 use Rattle.references.proofs.discriminators.child_link.Statement.{statement}
 use Rattle.references.proofs.discriminators.child_link.Tie as tie

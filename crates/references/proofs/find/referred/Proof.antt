@@ -31,6 +31,9 @@ returns-4 c =
     (c .before .before .before .before .if2 .left) (c .before .before .before .built-in .ensures) (c .before .before .if3 .left) (c .before .find2 .ensures)
     (c .if4 .taken)
 
+sub-result : tie.Need-sub-result
+sub-result c = search needs
+
 add-result : tie.Need-add-result
 add-result c = search needs
 
@@ -52,5 +55,6 @@ referred-spec =
     returns-3
     find-requires-2
     returns-4
+    sub-result
     add-result
     returns-5)

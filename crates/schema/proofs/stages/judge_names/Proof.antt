@@ -1,6 +1,6 @@
 -- `stages::judge_names` meets its contract: good, distinct and known names in turn, then the rest.
 use mathlib.Core.Path.{refl}
-use Rattle.rules.specs.Answers.{rank}
+use Rattle.rules.specs.Serving.Answers.{rank}
 use Rattle.rules.specs.Rules.{goodNames, distinctNames}
 use Rattle.rules.specs.declared.SchemaRefusal.the-variants.{BadName, RepeatedName}
 use borrow.Author.Tests.{not-true, not-false}

@@ -2,7 +2,7 @@
 -- One way out for each byte of the grammar's table, one for `u`, and one for all others.
 use mathlib.Core.Path.{refl, _∙_}
 use Rattle.grammar.specs.MessageText.Escape.{quotation-mark, reverse-solidus, solidus, backspace, form-feed, line-feed, carriage-return, tab}
-use Rattle.grammar.specs.Machine.Message.{message}
+use Rattle.grammar.specs.Serving.Machine.Message.{message}
 use Rattle.strings.proofs.CharRuns.{at-end}
 use Rattle.strings.proofs.MessageChars.{escape-u, escape-char, escape-other}
 use borrow.Author.Needs.{needs}

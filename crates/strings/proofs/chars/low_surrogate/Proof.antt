@@ -1,7 +1,7 @@
 -- `text::chars::low_surrogate` goes through the escape of a low surrogate as the machine does.
 -- A backslash, a `u`, and the digits.
 use mathlib.Core.Path.{_∙_}
-use Rattle.grammar.specs.Machine.Message.{message}
+use Rattle.grammar.specs.Serving.Machine.Message.{message}
 use Rattle.strings.proofs.CharRuns.{at-end}
 use Rattle.strings.proofs.MessageChars.{backslash-other, backslash-end, no-letter-u, letter-u}
 use borrow.Author.Needs.{needs}

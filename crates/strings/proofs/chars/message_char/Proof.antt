@@ -3,7 +3,7 @@
 use native.Mathlib.Omega.{arith}
 use mathlib.Core.Path.{_∙_}
 use borrow.Author.Tests.{eq-eqb}
-use Rattle.grammar.specs.Machine.Message.{message}
+use Rattle.grammar.specs.Serving.Machine.Message.{message}
 use Rattle.strings.proofs.CharRuns.{none-at-end, none-at-quote}
 use Rattle.strings.proofs.MessageChars.{starts-escape, starts-control, starts-plain, starts-utf8}
 use borrow.Author.Needs.{needs}

@@ -1,7 +1,7 @@
 -- `text::chars::schema_char` reads a character of a schema string as the machine does.
 -- By its first byte, and after a backslash by the second.
 use native.Mathlib.Omega.{arith}
-use Rattle.grammar.specs.Machine.Schema.{schema}
+use Rattle.grammar.specs.Serving.Machine.Schema.{schema}
 use Rattle.grammar.proofs.Booleans.Outside.{below, above}
 use Rattle.strings.proofs.CharRuns.{none-at-end}
 use Rattle.strings.proofs.SchemaChars.{none-at-apostrophe, starts-none, starts-plain, escape-ends, escape-other, escape-both}

@@ -2,7 +2,7 @@
 -- One way out for each state that a lead byte leads to, and two for the bytes that lead to none.
 use native.Mathlib.Omega.{arith}
 use mathlib.Core.Path.{sym, _∙_}
-use Rattle.grammar.specs.Machine.Message.Want.{one, two, two-E0, two-ED, three, three-F0, three-F4}
+use Rattle.grammar.specs.Serving.Machine.Message.Want.{one, two, two-E0, two-ED, three, three-F0, three-F4}
 use Rattle.grammar.proofs.Booleans.Outside.{below, above}
 use Rattle.grammar.proofs.StringsComplete.{lead-two, lead-three, lead-four, lead-E0, lead-ED, lead-F0, lead-F4}
 use Rattle.strings.proofs.Utf8.{one-byte}

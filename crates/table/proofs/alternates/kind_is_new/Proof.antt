@@ -5,7 +5,8 @@ use mathlib.Core.Bool.{not}
 use lib.Dec.{eqb}
 use Rattle.rules.specs.Rows.{walk, typeRef, typeKind}
 use Rattle.rows.specs.Rows.{Room}
-use Rattle.table.specs.RuleParts.{columnOr6, kindNew}
+use Rattle.builtins.specs.Kinds.{kindColumn}
+use Rattle.table.specs.RuleParts.{kindNew}
 use Rattle.rows.proofs.LoopLaws.{AllWalk, all-miss, all-next, all-over, room-next}
 use Rattle.table.proofs.KindLaws.{column-at, column-hit, column-new}
 use borrow.Author.Needs.{needs}
@@ -14,7 +15,7 @@ use Rattle.table.proofs.alternates.kind_is_new.Tie as tie
 
 abbrev Inv-loop : tie.InvT-loop
 Inv-loop rows k b n i₀ left₀ i left =
-    Room i left × AllWalk (kindNew rows k (walk rows b n)) rows (λ x. not (eqb (columnOr6 (typeKind rows (typeRef rows x))) k)) i left
+    Room i left × AllWalk (kindNew rows k (walk rows b n)) rows (λ x. not (eqb (kindColumn (typeKind rows (typeRef rows x))) k)) i left
 
 abbrev μ-loop : tie.MeasureT-loop
 μ-loop rows k b n i₀ left₀ i left = left

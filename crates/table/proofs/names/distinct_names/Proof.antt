@@ -14,7 +14,7 @@ same-length : tie.Need-same-length
 same-length c = search needs
 
 returns : tie.Need-returns
-returns c = distinct-not _ _ (denied (c .before .before .before .definitions-apart .ensures) (c .if1 .taken))
+returns c = distinct-not _ _ (denied (c .before .definitions-apart .ensures) (c .if1 .taken))
 
 children-apart-requires : tie.Need-children-apart-requires
 children-apart-requires c κs = search needs
@@ -23,7 +23,7 @@ same-length-2 : tie.Need-same-length-2
 same-length-2 c = search needs
 
 returns-2 : tie.Need-returns-2
-returns-2 c = c .before .before .children-apart .ensures ∙ distinct-rest _ _ (granted (c .before .before .before .before .before .before .before .definitions-apart .ensures) (c .before .before .before .before .if1 .left))
+returns-2 c = c .before .before .children-apart .ensures ∙ distinct-rest _ _ (granted (c .before .before .before .before .before .definitions-apart .ensures) (c .before .before .before .before .if1 .left))
 
 pub distinct-names-spec : {M : Type 1} → statement M
 distinct-names-spec =

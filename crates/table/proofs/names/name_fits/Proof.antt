@@ -4,6 +4,7 @@ use mathlib.Core.Path.{ap, _∙_}
 use mathlib.Core.Bool.{_||_}
 use lib.Dec.{eqb}
 use borrow.Author.Needs.{needs}
+use Rattle.rules.specs.Kinds.{value-kind, branch-kind}
 use Rattle.rows.proofs.Walks.{so}
 use Rattle.table.proofs.DefinitionFacts.{unnamed-fits, name-fits-at}
 use Rattle.table.proofs.names.name_fits.Statement.{statement}
@@ -31,7 +32,7 @@ returns-2 : tie.Need-returns-2
 returns-2 c =
     let a = c .before .before .before .before .before .before .before .before .args in
     name-fits-at (a .schema .now) (a .rows .now) (a .r) _ _ _ (so (c .before .before .before .before .before .is-unnamed .ensures) (c .before .before .before .before .if1 .left)) (c .before .before .before .name-of .ensures)
-    (c .before .takes-digit .ensures ∙ ap (λ k. eqb k 2 || eqb k 6) (c .before .before .word .ensures)) (c .good-name .ensures)
+    (c .before .takes-digit .ensures ∙ ap (λ k. eqb k value-kind || eqb k branch-kind) (c .before .before .word .ensures)) (c .good-name .ensures)
 
 pub name-fits-spec : {M : Type 1} → statement M
 name-fits-spec =

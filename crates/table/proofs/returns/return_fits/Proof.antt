@@ -2,6 +2,7 @@
 -- A law for each return: nothing, a built-in, or the kind of the row.
 use borrow.Author.Tests.{ne-eqb}
 use borrow.Author.Needs.{needs}
+use Rattle.rules.specs.Kinds.{struct-kind, union-kind}
 use Rattle.table.proofs.KindLaws.{return-nothing, return-built-in, return-is}
 use Rattle.table.proofs.returns.return_fits.Statement.{statement}
 use Rattle.table.proofs.returns.return_fits.Tie as tie
@@ -28,7 +29,7 @@ returns-4 c =
 returns-5 : tie.Need-returns-5
 returns-5 c =
     return-is (c .before .before .before .before .before .args .rows .now) (c .before .before .before .if1 .left) (c .before .before .if2 .left)
-    (c .before .word .ensures) _ (rw (ne-eqb _ 3 (c .match .rest .0 .1), ne-eqb _ 5 (c .match .rest .1)))
+    (c .before .word .ensures) _ (rw (ne-eqb _ struct-kind (c .match .rest .0 .1), ne-eqb _ union-kind (c .match .rest .1)))
 
 pub return-fits-spec : {M : Type 1} → statement M
 return-fits-spec =

@@ -14,28 +14,28 @@ abbrev μ-loop : tie.MeasureT-loop
 μ-loop s dialect nodes a b end i₀ i = end - i
 
 loop-holds : tie.Need-loop-holds Inv-loop μ-loop
-loop-holds c = new-start (grammarOf (c .before .before .args .dialect)) (c .before .before .args .s .now) (c .before .before .args .nodes .now) (c .before .before .args .a) (c .before .before .args .b) (c .before .before .args .end)
+loop-holds c = new-start
 
 same-key-requires : tie.Need-same-key-requires Inv-loop μ-loop
 same-key-requires c κs = search needs
 
 returns : tie.Need-returns Inv-loop μ-loop
-returns c = new-hit (grammarOf (c .before .before .before .before .before .before .args .dialect)) (c .before .before .before .before .before .before .args .s .now) (c .before .before .before .before .before .before .args .nodes .now) (c .before .before .before .loop .inv) (search needs) (c .before .same-key .ensures) (c .if1 .taken)
+returns c = new-hit (c .before .before .before .loop .inv) (search needs) (c .before .same-key .ensures) (c .if1 .taken)
 
 node-number-requires : tie.Need-node-number-requires Inv-loop μ-loop
 node-number-requires c κs = search needs
 
 returns-2 : tie.Need-returns-2 Inv-loop μ-loop
-returns-2 c = new-stuck (grammarOf (c .before .before .before .before .before .before .before .before .args .dialect)) (c .before .before .before .before .before .before .before .before .args .s .now) (c .before .before .before .before .before .before .before .before .args .nodes .now) (c .before .before .before .before .before .loop .inv) _ (search needs) (c .before .node-number .ensures) (c .if2 .taken)
+returns-2 c = new-stuck (c .before .before .before .before .before .loop .inv) (search needs) (c .before .node-number .ensures) (c .if2 .taken)
 
 loop-less : tie.Need-loop-less Inv-loop μ-loop
 loop-less c = search needs
 
 loop-again : tie.Need-loop-again Inv-loop μ-loop
-loop-again c = new-on (grammarOf (c .before .before .before .before .before .before .before .before .args .dialect)) (c .before .before .before .before .before .before .before .before .args .s .now) (c .before .before .before .before .before .before .before .before .args .nodes .now) (c .before .before .before .before .before .loop .inv) _ (search needs) (c .before .before .before .same-key .ensures) (c .before .before .if1 .left) (c .before .node-number .ensures)
+loop-again c = new-on (c .before .before .before .before .before .loop .inv) (search needs) (c .before .before .before .same-key .ensures) (c .before .before .if1 .left) (c .before .node-number .ensures)
 
 returns-3 : tie.Need-returns-3 Inv-loop μ-loop
-returns-3 c = new-end (grammarOf (c .before .before .before .before .args .dialect)) (c .before .before .before .before .args .s .now) (c .before .before .before .before .args .nodes .now) (c .before .loop .inv) (search needs)
+returns-3 c = new-end (c .before .loop .inv) (search needs)
 
 pub is-new-key-spec : {M : Type 1} → statement M
 is-new-key-spec =

@@ -1,6 +1,5 @@
 -- `keys::key_hash` meets its contract: the words of the node say where the key stands and whether it is plain.
 use borrow.Author.Needs.{needs}
-use Rattle.strings.specs.Strings.{grammarOf}
 use Rattle.text.proofs.KeyChains.{hashed-key}
 use Rattle.text.proofs.keys.key_hash.Statement.{statement}
 use Rattle.text.proofs.keys.key_hash.Tie as tie
@@ -18,7 +17,7 @@ hash-of-requires : tie.Need-hash-of-requires
 hash-of-requires c κs = search needs
 
 returns : tie.Need-returns
-returns c = let a = c .before .before .before .before .before .before .args in hashed-key (grammarOf (a .dialect)) (a .s .now) (a .nodes .now) (a .a) (c .before .before .before .node-number .ensures) (c .before .before .node-number2 .ensures) (c .before .node-word .ensures) (c .hash-of .ensures)
+returns c = hashed-key (c .before .before .before .node-number .ensures) (c .before .before .node-number2 .ensures) (c .before .node-word .ensures) (c .hash-of .ensures)
 
 pub key-hash-spec : {M : Type 1} → statement M
 key-hash-spec =

@@ -38,7 +38,8 @@ same-length : tie.Need-same-length Inv-loop μ-loop
 same-length c = search needs
 
 returns : tie.Need-returns Inv-loop μ-loop
-returns c = let a = c .before .before .before .before .before .before .before .before .before .before .before .before .before .args in once-hit (grammarOf (a .dialect)) (a .s .now) (a .nodes .now) (c .before .before .before .before .before .before .before .before .before .loop .k) _ _ (search needs) (sym (c .before .before .before .before .before .before .before .node-word .ensures) ∙ c .before .before .before .before .before .before .if1 .taken) (c .before .before .before .before .before .node-number .ensures) (c .before .before .before .are-apart .ensures) (not-true _ (c .if2 .taken))
+returns c =
+    once-hit (c .before .before .before .before .before .before .before .before .before .loop .k) _ _ (search needs) (sym (c .before .before .before .before .before .before .before .node-word .ensures) ∙ c .before .before .before .before .before .before .if1 .taken) (c .before .before .before .before .before .node-number .ensures) (c .before .before .before .are-apart .ensures) (not-true _ (c .if2 .taken))
 
 add-k : tie.Need-add-k Inv-loop μ-loop
 add-k c = search needs
@@ -48,18 +49,17 @@ loop-less c = search needs
 
 loop-again : tie.Need-loop-again Inv-loop μ-loop
 loop-again c =
-    let a = c .before .before .before .before .before .before .before .args in
     let l = c .before .before .before .loop in
     ⊎-elim
-    (λ x. (ap length (x .7) ∙ x .4 .given ∙ l .inv .0, once-on (grammarOf (a .dialect)) (a .s .now) (a .nodes .now) (l .k) _ (l .inv .1) (x .1 .ensures) (x .3 .ensures) (not-false _ (x .6 .left))))
-    (λ x. (ap length (x .1) ∙ l .inv .0, once-past (grammarOf (a .dialect)) (a .s .now) (a .nodes .now) (l .k) (l .inv .1) (λ e. x .0 .left (c .before .node-word .ensures ∙ e))))
+    (λ x. (ap length (x .7) ∙ x .4 .given ∙ l .inv .0, once-on (l .k) _ (l .inv .1) (x .1 .ensures) (x .3 .ensures) (not-false _ (x .6 .left))))
+    (λ x. (ap length (x .1) ∙ l .inv .0, once-past (l .k) (l .inv .1) (λ e. x .0 .left (c .before .node-word .ensures ∙ e))))
     (c .if1 .came)
 
 same-length-2 : tie.Need-same-length-2 Inv-loop μ-loop
 same-length-2 c = search needs
 
 returns-2 : tie.Need-returns-2 Inv-loop μ-loop
-returns-2 c = let a = c .before .before .before .before .before .args in once-end (grammarOf (a .dialect)) (a .s .now) (a .nodes .now) (c .before .loop .k) _ (c .before .loop .inv .1) (search needs)
+returns-2 c = once-end (c .before .loop .k) _ (c .before .loop .inv .1) (search needs)
 
 pub objects-once-spec : {M : Type 1} → statement M
 objects-once-spec =

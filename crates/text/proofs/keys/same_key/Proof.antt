@@ -1,6 +1,5 @@
 -- `keys::same_key` meets its contract: the words of the two nodes say where the keys stand and whether they are plain.
 -- The law same-keys does the rest.
-use Rattle.strings.specs.Strings.{grammarOf}
 use Rattle.text.proofs.KeyLoops.{same-keys}
 use borrow.Author.Needs.{needs}
 use Rattle.text.proofs.keys.same_key.Statement.{statement}
@@ -28,7 +27,8 @@ same-meaning-requires : tie.Need-same-meaning-requires
 same-meaning-requires c κs = search needs
 
 returns : tie.Need-returns
-returns c = same-keys (grammarOf (c .before .before .before .before .before .before .before .before .before .args .dialect)) (c .before .before .before .before .before .before .before .before .before .args .s .now) (c .before .before .before .before .before .before .before .before .before .args .nodes .now) (c .before .before .before .before .before .before .before .before .before .args .a) (c .before .before .before .before .before .before .before .before .before .args .b) _ _ _ _ _ _ _ (c .before .before .before .before .before .before .node-number .ensures) (c .before .before .before .before .before .node-number2 .ensures) (c .before .before .before .before .node-word .ensures) (c .before .before .before .node-number3 .ensures) (c .before .before .node-number4 .ensures) (c .before .node-word2 .ensures) (c .same-meaning .ensures)
+returns c =
+    same-keys (c .before .before .before .before .before .before .node-number .ensures) (c .before .before .before .before .before .node-number2 .ensures) (c .before .before .before .before .node-word .ensures) (c .before .before .before .node-number3 .ensures) (c .before .before .node-number4 .ensures) (c .before .node-word2 .ensures) (c .same-meaning .ensures)
 
 pub same-key-spec : {M : Type 1} → statement M
 same-key-spec =

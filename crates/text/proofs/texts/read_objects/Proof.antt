@@ -5,7 +5,7 @@ use native.Mathlib.Omega.{arith}
 use borrow.Author.Needs.{needs}
 use borrow.Author.Tests.{not-true, not-false}
 use lib.ListN.{length}
-use Rattle.text.proofs.Wholes.{ObjectsAt, objects-begin, objects-whole, objects-other, objects-brace, object-asks, object-on, object-past, object-faulty, object-deeper}
+use Rattle.text.proofs.Wholes.{ObjectsAt, objects-begin, objects-whole, objects-other, object-ready, object-on, object-past, object-faulty, object-deeper}
 use Rattle.text.proofs.texts.read_objects.Statement.{statement}
 use Rattle.text.proofs.texts.read_objects.Tie as tie
 
@@ -38,30 +38,25 @@ returns-2 c =
     let d = c .before .before .before in
     objects-other (d .before .loop .inv) (d .skip-blanks .ensures) (c .before .before .if1 .left) (c .before .stands .ensures) (not-true _ (c .if2 .taken))
 
-sub-read-members : tie.Need-sub-read-members Inv-loop μ-loop
-sub-read-members c = search needs
-
-read-members-requires : tie.Need-read-members-requires Inv-loop μ-loop
-read-members-requires c κs =
+read-at-requires : tie.Need-read-at-requires Inv-loop μ-loop
+read-at-requires c κs =
     let d = c .before in
-    let o = objects-brace (d .before .before .before .before .loop .inv) (d .before .before .before .skip-blanks .ensures) (d .before .stands .ensures) (not-false _ (d .if2 .left)) in
+    let x = d .before .before .before .skip-blanks .ensures in
     let r = c .before .before .before .before .before .before .before .before .pre in
-    (r .0, object-asks o (r .1))
+    (r .0, object-ready (d .before .before .before .before .loop .inv) x (d .before .stands .ensures) (not-false _ (d .if2 .left)) (r .1), x .solid)
 
 enum-known-e : tie.Need-enum-known-e Inv-loop μ-loop
 enum-known-e c = search needs
 
 loop-less : tie.Need-loop-less Inv-loop μ-loop
 loop-less c =
-    let d = c .before .before .before .before .before .before .before in
-    let o = objects-brace (d .before .before .before .before .loop .inv) (d .before .before .before .skip-blanks .ensures) (d .before .stands .ensures) (not-false _ (d .if2 .left)) in
-    omega (arith, object-on o (c .before .before .before .before .before .read-members .ensures) (c .before .e .given .1))
+    omega (arith, object-on (c .before .before .before .before .before .before .before .before .before .before .skip-blanks .ensures) (c .before .before .before .before .before .read-at .ensures) (c .before .e .given .1))
 
 loop-again : tie.Need-loop-again Inv-loop μ-loop
 loop-again c =
     let d = c .before .before .before .before .before .before .before in
-    let o = objects-brace (d .before .before .before .before .loop .inv) (d .before .before .before .skip-blanks .ensures) (d .before .stands .ensures) (not-false _ (d .if2 .left)) in
-    object-past o (c .before .before .before .before .before .read-members .ensures) (c .before .e .given .1)
+    object-past (d .before .before .before .before .loop .inv) (d .before .before .before .skip-blanks .ensures) (d .before .stands .ensures) (not-false _ (d .if2 .left))
+    (c .before .before .before .before .before .read-at .ensures) (c .before .e .given .1)
 
 enum-known-e-2 : tie.Need-enum-known-e-2 Inv-loop μ-loop
 enum-known-e-2 c = search needs
@@ -72,8 +67,8 @@ same-length-3 c = search needs
 returns-3 : tie.Need-returns-3 Inv-loop μ-loop
 returns-3 c =
     let d = c .before .before .before .before .before .before .before in
-    let o = objects-brace (d .before .before .before .before .loop .inv) (d .before .before .before .skip-blanks .ensures) (d .before .stands .ensures) (not-false _ (d .if2 .left)) in
-    object-faulty o (c .before .before .before .before .before .read-members .ensures) (c .before .e2 .given .1)
+    object-faulty (d .before .before .before .before .loop .inv) (d .before .before .before .skip-blanks .ensures) (d .before .stands .ensures) (not-false _ (d .if2 .left))
+    (c .before .before .before .before .before .read-at .ensures) (c .before .e2 .given .1)
 
 enum-known-e-3 : tie.Need-enum-known-e-3 Inv-loop μ-loop
 enum-known-e-3 c = search needs
@@ -84,8 +79,8 @@ same-length-4 c = search needs
 returns-4 : tie.Need-returns-4 Inv-loop μ-loop
 returns-4 c =
     let d = c .before .before .before .before .before .before .before in
-    let o = objects-brace (d .before .before .before .before .loop .inv) (d .before .before .before .skip-blanks .ensures) (d .before .stands .ensures) (not-false _ (d .if2 .left)) in
-    object-deeper o (c .before .before .before .before .before .read-members .ensures) (c .before .e3 .given .1)
+    object-deeper (d .before .before .before .before .loop .inv) (d .before .before .before .skip-blanks .ensures) (d .before .stands .ensures) (not-false _ (d .if2 .left))
+    (c .before .before .before .before .before .read-at .ensures) (c .before .e3 .given .1)
 
 pub read-objects-spec : {M : Type 1} → statement M
 read-objects-spec =
@@ -100,8 +95,7 @@ read-objects-spec =
     stands-requires
     same-length-2
     returns-2
-    sub-read-members
-    read-members-requires
+    read-at-requires
     enum-known-e
     loop-less
     loop-again

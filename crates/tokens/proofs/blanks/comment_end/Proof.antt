@@ -4,7 +4,7 @@ use Prim.Native.Nat.{_-_}
 use native.Mathlib.Omega.{arith}
 use lib.ListN.{length}
 use borrow.Author.Needs.{needs}
-use Rattle.grammar.specs.Machine.Schema.{schema}
+use Rattle.grammar.specs.Serving.Machine.Schema.{schema}
 use Rattle.tokens.proofs.BlankRuns.{Commented, commented-none, commented-more, comment-line, comment-text}
 use Rattle.tokens.proofs.blanks.comment_end.Statement.{statement}
 use Rattle.tokens.proofs.blanks.comment_end.Tie as tie

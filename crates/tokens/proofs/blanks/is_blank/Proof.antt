@@ -1,4 +1,4 @@
--- `blanks::is_blank` meets its contract: the classes 4 and 5 are the blanks.
+-- `blanks::is_blank` meets its contract: the classes of breaks and of the space are the blanks.
 -- By the class that was read.
 use native.Mathlib.Omega.{arith}
 use mathlib.Core.Path.{sym}

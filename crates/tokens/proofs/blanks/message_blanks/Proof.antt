@@ -6,7 +6,7 @@ use mathlib.Core.Path.{refl, sym, _∙_}
 use lib.ListN.{length}
 use borrow.Author.Tests.{not-true, not-false}
 use borrow.Author.Needs.{needs}
-use Rattle.grammar.specs.Machine.Message.{message}
+use Rattle.grammar.specs.Serving.Machine.Message.{message}
 use Rattle.tokens.proofs.BlankRuns.{Passed, passed-none, passed-blank, passed-all, passed-end}
 use Rattle.tokens.proofs.blanks.message_blanks.Statement.{statement}
 use Rattle.tokens.proofs.blanks.message_blanks.Tie as tie

@@ -6,7 +6,7 @@ use mathlib.Core.Path.{sym, _∙_}
 use lib.ListN.{length}
 use borrow.Author.Tests.{eq-eqb, ne-eqb}
 use borrow.Author.Needs.{needs}
-use Rattle.grammar.specs.Machine.Schema.{schema}
+use Rattle.grammar.specs.Serving.Machine.Schema.{schema}
 use Rattle.tokens.proofs.BlankRuns.{Passed, passed-none, passed-blank, passed-comment, passed-all, passed-end}
 use Rattle.tokens.proofs.blanks.schema_blanks.Statement.{statement}
 use Rattle.tokens.proofs.blanks.schema_blanks.Tie as tie

@@ -3,10 +3,11 @@
 use native.Mathlib.Omega.{arith}
 use mathlib.Core.Logic.{inl, inr, ⊎-elim}
 use borrow.Author.Tests.{eq-eqb}
-use borrow.Author.Needs.{needs}
 use Rattle.grammar.proofs.Booleans.Outside.{below, above}
 use Rattle.grammar.proofs.MessageDialect.{message-tokens-complete}
-use Rattle.tokens.proofs.ScalarReads.{reads-string, reads-number, message-true, message-false, message-null, message-no-value}
+use Rattle.strings.specs.declared.dialects.Dialect.the-variants as Asked
+use Rattle.tokens.proofs.ScalarReads.{reads-string, reads-number, null-read, message-no-value}
+use borrow.Author.Needs.{needs}
 use Rattle.tokens.proofs.scalars.message_scalar.Statement.{statement}
 use Rattle.tokens.proofs.scalars.message_scalar.Tie as tie
 
@@ -31,29 +32,8 @@ read-word-requires c κs = search needs
 word-node-requires : tie.Need-word-node-requires
 word-node-requires c κs = search needs
 
-add-read-word-2 : tie.Need-add-read-word-2
-add-read-word-2 c = search needs
-
-slice-aggregate-read-word-2 : tie.Need-slice-aggregate-read-word-2
-slice-aggregate-read-word-2 c = search needs
-
-read-word-requires-2 : tie.Need-read-word-requires-2
-read-word-requires-2 c κs = search needs
-
-word-node-requires-2 : tie.Need-word-node-requires-2
-word-node-requires-2 c κs = search needs
-
-add-read-word-3 : tie.Need-add-read-word-3
-add-read-word-3 c = search needs
-
-slice-aggregate-read-word-3 : tie.Need-slice-aggregate-read-word-3
-slice-aggregate-read-word-3 c = search needs
-
-read-word-requires-3 : tie.Need-read-word-requires-3
-read-word-requires-3 c κs = search needs
-
-word-node-requires-3 : tie.Need-word-node-requires-3
-word-node-requires-3 c κs = search needs
+read-bool-requires : tie.Need-read-bool-requires
+read-bool-requires c κs = search needs
 
 read-number-requires : tie.Need-read-number-requires
 read-number-requires c κs = search needs
@@ -65,22 +45,15 @@ returns : tie.Need-returns
 returns c = rw (c .string-node .ensures) (reads-string message-tokens-complete _ _ (omega arith) (eq-eqb _ _ (c .before .before .match .keys1)) (c .before .read-string .ensures))
 
 returns-2 : tie.Need-returns-2
-returns-2 c = rw (c .word-node .ensures) (message-true (omega arith) (c .before .before .before .match .keys3) (c .before .read-word .ensures))
+returns-2 c = rw (c .word-node .ensures) (null-read (omega arith) (c .before .before .before .match .keys3) (c .before .read-word .ensures))
 
 returns-3 : tie.Need-returns-3
-returns-3 c = rw (c .word-node2 .ensures) (message-false (omega arith) (c .before .before .before .match .keys4) (c .before .read-word2 .ensures))
+returns-3 c =
+    c .read-bool .ensures .told Asked.Message (message-no-value (c .before .before .before .before .before .pre .2) (omega arith)
+    (⊎-elim (λ w. below (omega arith)) (λ w. above (omega arith)) (c .before .if1 .came)) (c .before .before .match .rest))
 
 returns-4 : tie.Need-returns-4
-returns-4 c = rw (c .word-node3 .ensures) (message-null (omega arith) (c .before .before .before .match .keys5) (c .before .read-word3 .ensures))
-
-returns-5 : tie.Need-returns-5
-returns-5 c = message-no-value (c .before .before .before .before .pre .2) (omega arith) (below (omega arith)) (c .before .match .rest)
-
-returns-6 : tie.Need-returns-6
-returns-6 c = message-no-value (c .before .before .before .before .before .pre .2) (omega arith) (above (omega arith)) (c .before .before .match .rest)
-
-returns-7 : tie.Need-returns-7
-returns-7 c =
+returns-4 c =
     rw (c .number-node .ensures)
     (reads-number (omega arith) (⊎-elim (λ w. inl (w .keys2)) (λ w. inr (omega arith, omega arith)) (c .before .before .match .came)) (c .before .read-number .ensures))
 
@@ -95,20 +68,10 @@ message-scalar-spec =
     slice-aggregate-read-word
     read-word-requires
     word-node-requires
-    add-read-word-2
-    slice-aggregate-read-word-2
-    read-word-requires-2
-    word-node-requires-2
-    add-read-word-3
-    slice-aggregate-read-word-3
-    read-word-requires-3
-    word-node-requires-3
+    read-bool-requires
     read-number-requires
     number-node-requires
     returns
     returns-2
     returns-3
-    returns-4
-    returns-5
-    returns-6
-    returns-7)
+    returns-4)

@@ -1,46 +1,58 @@
--- `put_built_in` meets its contract: the part of the table between the bounds of the name.
-use native.Mathlib.Numerals.{add-one}
+-- `put_built_in` meets its contract: what stands for no type, or the built-in's name.
 use native.Mathlib.Omega.{arith}
-use mathlib.Core.Path.{refl}
 use Rattle.lines.proofs.TextLaws.{puts-as}
-use Rattle.trees.proofs.TypeLaws.{built-in-part, built-in-short}
+use Rattle.trees.proofs.TypeLaws.{none-named, built-in-named, built-in-short}
 use borrow.Author.Needs.{needs}
 use Rattle.trees.proofs.types.put_built_in.Statement.{statement}
 use Rattle.trees.proofs.types.put_built_in.Tie as tie
 
-mul-put-part : tie.Need-mul-put-part
-mul-put-part c = search needs
+slice-aggregate-put-bytes : tie.Need-slice-aggregate-put-bytes
+slice-aggregate-put-bytes c = search needs
 
-array-read-put-part : tie.Need-array-read-put-part
-array-read-put-part c = search needs
-
-add-put-part : tie.Need-add-put-part
-add-put-part c = search needs
-
-mul-put-part-2 : tie.Need-mul-put-part-2
-mul-put-part-2 c = search needs
-
-array-read-put-part-2 : tie.Need-array-read-put-part-2
-array-read-put-part-2 c = search needs
-
-put-part-requires : tie.Need-put-part-requires
-put-part-requires c κs = let q = built-in-part (c .before .before .before .before .args .t) (c .before .before .before .before .pre .0) (add-one (c .before .before .before .before .args .t)) refl refl in (q .rises, q .within, omega (arith, q .size, built-in-short (c .before .before .before .before .args .t), c .before .before .before .before .pre .1))
+put-bytes-requires : tie.Need-put-bytes-requires
+put-bytes-requires c κs = search needs
 
 same-length : tie.Need-same-length
 same-length c = search needs
 
 returns : tie.Need-returns
-returns c = let q = built-in-part (c .before .before .before .before .before .before .before .args .t) (c .before .before .before .before .before .before .before .pre .0) (add-one (c .before .before .before .before .before .before .before .args .t)) refl refl in let x = puts-as (q .text) (c .before .before .put-part .ensures) in (x, omega (arith, x .after, built-in-short (c .before .before .before .before .before .before .before .args .t)))
+returns c = (puts-as (none-named (c .before .before .before .before .before .if1 .taken)) (c .before .before .put-bytes .ensures), omega (arith, c .before .before .put-bytes .ensures .after))
+
+name-text-requires : tie.Need-name-text-requires
+name-text-requires c κs = search needs
+
+name-bounds-requires : tie.Need-name-bounds-requires
+name-bounds-requires c κs = search needs
+
+slice-aggregate-name-in : tie.Need-slice-aggregate-name-in
+slice-aggregate-name-in c = search needs
+
+name-in-requires : tie.Need-name-in-requires
+name-in-requires c κs = search needs
+
+put-bytes-requires-2 : tie.Need-put-bytes-requires-2
+put-bytes-requires-2 c κs = omega (arith, built-in-short (c .before .before .before .before .before .before .before .before .args .t) (built-in-named (c .before .before .before .before .before .before .before .before .args .t) (c .before .before .before .before .before .before .if1 .left) (c .name-in .ensures)), c .before .before .before .before .before .before .before .before .pre .1)
+
+same-length-2 : tie.Need-same-length-2
+same-length-2 c = search needs
+
+returns-2 : tie.Need-returns-2
+returns-2 c =
+    let n = built-in-named (c .before .before .before .before .before .before .before .before .before .before .before .args .t) (c .before .before .before .before .before .before .before .before .before .if1 .left) (c .before .before .before .name-in .ensures) in
+    (puts-as n (c .before .before .put-bytes2 .ensures), omega (arith, c .before .before .put-bytes2 .ensures .after, built-in-short (c .before .before .before .before .before .before .before .before .before .before .before .args .t) n))
 
 pub put-built-in-spec : {M : Type 1} → statement M
 put-built-in-spec =
     tie.close
     (tie.spec
-    mul-put-part
-    array-read-put-part
-    add-put-part
-    mul-put-part-2
-    array-read-put-part-2
-    put-part-requires
+    slice-aggregate-put-bytes
+    put-bytes-requires
     same-length
-    returns)
+    returns
+    name-text-requires
+    name-bounds-requires
+    slice-aggregate-name-in
+    name-in-requires
+    put-bytes-requires-2
+    same-length-2
+    returns-2)
