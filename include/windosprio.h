@@ -51,7 +51,7 @@ enum windosprio_schema_refusal {
     WINDOSPRIO_SCHEMA_REPEATED_KEY = 3,     /* a key twice in one object */
     WINDOSPRIO_SCHEMA_NOT_DEFINITIONS = 4,  /* a definition of no or two kinds, or a key or value not of its kind */
     WINDOSPRIO_SCHEMA_BAD_NAME = 5,         /* a name that is not well formed */
-    WINDOSPRIO_SCHEMA_REPEATED_NAME = 6,    /* a name defined twice, or that of a built-in type */
+    WINDOSPRIO_SCHEMA_REPEATED_NAME = 6,    /* two names that are one in C, or a built-in type's */
     WINDOSPRIO_SCHEMA_UNKNOWN_NAME = 7,     /* a name that refers to no definition of a fitting kind */
     WINDOSPRIO_SCHEMA_BAD_CHAIN = 8,        /* a chain of bases with a cycle, over 16 structs, or a member twice */
     WINDOSPRIO_SCHEMA_BAD_UNION = 9,        /* no branch, or a discriminator or branch that doesn't fit */

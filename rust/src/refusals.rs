@@ -61,7 +61,7 @@ refusals! {
         RepeatedKey = 3: "an object has a key twice",
         NotDefinitions = 4: "a definition has no or two kinds, or a key or value that its kind doesn't have",
         BadName = 5: "a name is not well formed",
-        RepeatedName = 6: "a name is defined twice, or is that of a built-in type",
+        RepeatedName = 6: "two names are one in C (- as _), or one is a built-in type's",
         UnknownName = 7: "a name refers to no definition of a fitting kind",
         BadChain = 8: "a chain of bases has a cycle, over 16 structs, or a member's name twice",
         BadUnion = 9: "a union has no branch, or a discriminator or branch that doesn't fit",

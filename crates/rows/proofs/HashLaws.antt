@@ -14,11 +14,11 @@ use borrow.Author.Tests.{eqb-false, not-true}
 use Rattle.grammar.proofs.Booleans.{clash as contradiction}
 use Rattle.grammar.proofs.Lists.{same-true, different}
 use Rattle.grammar.specs.Notation.{apart}
-use Rattle.rules.specs.Names.{sameName, clash}
+use Rattle.rules.specs.Names.{sameName, cName, clash}
 use Rattle.rules.specs.Rows.{walk, nameOf}
 use Rattle.rules.specs.Rules.{namesOf, noClash}
 use Rattle.rows.specs.Rows.{Follows}
-use Rattle.rows.specs.Hashes.{hashOf, Hashes, Other, freshIn}
+use Rattle.rows.specs.Hashes.{ends, hashOf, Hashes, Other, freshIn}
 use Rattle.rows.proofs.ListLaws.{all-map}
 use Rattle.rules.proofs.First.{decided}
 use Rattle.rules.proofs.Clashes.{fresh}
@@ -26,8 +26,8 @@ use Rattle.rows.proofs.LoopLaws.{WalkLeft, AllWalk, left-at}
 
 -- names that clash have one hash
 pub clash-hash : (x y : List ℕ) → clash x y ≡ true → hashOf x ≡ hashOf y
-unfolding clash
-clash-hash x y e = ap hashOf (same-true x y e)
+unfolding clash hashOf
+clash-hash x y e = ap ends (same-true (cName x) (cName y) e)
 
 -- a hash that is not there tells nothing
 pub hash-missing : {M : List ℕ} {r m : ℕ} → Other M r m false

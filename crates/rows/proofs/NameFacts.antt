@@ -1,6 +1,6 @@
 -- Laws of names: parts of the schema's bytes, equal bytes, good names.
 -- Equal bytes are a test of every place from the first on.
-use Prim.Native.Nat.{ℕ, _+_, _-_, _≤_, _<_}
+use Prim.Native.Nat.{ℕ, zero, suc, _+_, _-_, _≤_, _<_}
 use mathlib.Core.Path.{_≡_, refl, sym, ap, _∙_}
 use mathlib.Core.Bool.{Bool, true, false, not, _&&_, _||_, and-true, and-false, or-true, or-false}
 use mathlib.Core.List.{List, [], _∷_}
@@ -11,11 +11,12 @@ use lib.Dec.{eqb, leb}
 use lib.ListN.{length, take, drop, getD, drop-of-length-le, length-drop}
 use lib.Seq.{take-nil, take-all, drop-cons}
 use borrow.Author.Tests.{eq-eqb, ne-eqb, le-leb, lt-leb}
+use Rattle.grammar.proofs.Lists.{different}
 use Rattle.grammar.proofs.Booleans.{within-is, within-below, within-above, within-out, Outside}
 use Rattle.grammar.proofs.Booleans.Outside.{below, above}
 use Rattle.grammar.specs.Lexis.{blank}
 use Rattle.grammar.specs.Notation.{text, within, same, all, digit}
-use Rattle.rules.specs.Names.{letter, nameByte, goodName}
+use Rattle.rules.specs.Names.{letter, nameByte, goodName, cByte, cName, clash}
 use Rattle.strings.proofs.Tables.{entry}
 use Rattle.strings.specs.Classes.{classOf, tabulate, digit-class, letter-class}
 use Rattle.rows.proofs.Walks.{upTo, upTo-of}
@@ -39,6 +40,25 @@ same-upTo x y e =
     upTo-of (λ k. eqb (getD x k 0) (getD y k 0)) (length x) (λ i. same (drop i x) (drop i y))
     (λ i h. rw (add-one, drop-cons x i 0 h, drop-cons y i 0 (let g : i < length y = omega arith in g)))
     (λ i h. rw (drop-of-length-le x h, drop-of-length-le y (let g : length y ≤ i = omega arith in g))) 0
+
+-- the bytes of a name in C, one by one
+pub c-length : (x : List ℕ) → length (cName x) ≡ length x
+c-length [] = refl
+c-length (b ∷ x) = ap suc (c-length x)
+
+pub c-byte : (x : List ℕ) (i : ℕ) → getD (cName x) i 0 ≡ cByte (getD x i 0)
+c-byte [] i = refl
+c-byte (b ∷ x) zero = refl
+c-byte (b ∷ x) (suc i) = c-byte x i
+
+-- names of equal length that clash
+pub clash-upTo : (x y : List ℕ) → length x ≡ length y → clash x y ≡ upTo (λ k. eqb (cByte (getD x k 0)) (cByte (getD y k 0))) 0 (length x)
+unfolding clash
+clash-upTo x y e = simp (c-length, c-byte) at (same-upTo (cName x) (cName y) (c-length x ∙ e ∙ sym (c-length y)))
+
+pub clash-length : (x y : List ℕ) → (length x ≡ length y → ⊥) → false ≡ clash x y
+unfolding clash
+clash-length x y n = sym (different (cName x) (cName y) (λ e. n (sym (c-length x) ∙ ap length e ∙ c-length y)))
 
 -- name bytes by their class
 class-names : tabulate (λ b. within digit-class letter-class (classOf b)) 0 256 ≡ tabulate nameByte 0 256

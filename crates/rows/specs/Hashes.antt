@@ -5,17 +5,21 @@ use mathlib.Core.Bool.{Bool, true, not}
 use mathlib.Core.List.{List}
 use lib.ListN.{length, getD}
 use Rattle.grammar.specs.Notation.{all}
-use Rattle.rules.specs.Names.{clash}
+use Rattle.rules.specs.Names.{cName, clash}
 use Rattle.rules.specs.Rows.{nameOf}
 use Rattle.rules.specs.Rules.{namesOf}
 
--- the byte that stands k bytes before the end of a name, or the first
+-- the byte that stands k bytes before the end of a list, or the first
 abbrev pub back : List ℕ → ℕ → ℕ
 back x k = getD x (length x - k) 0
 
--- a number that names share if they clash: of the length and the first byte, and of the last three bytes
+-- a number of the length and the first byte, and of the last three bytes
+abbrev pub ends : List ℕ → ℕ
+ends x = (length x + back x (length x)) % 256 + 37 * (back x 1 + 37 * (back x 2 + 37 * back x 3))
+
+-- of a name, the number of what it becomes in C: names that clash share it
 unfoldable pub hashOf : List ℕ → ℕ
-hashOf x = (length x + back x (length x)) % 256 + 37 * (back x 1 + 37 * (back x 2 + 37 * back x 3))
+hashOf x = ends (cName x)
 
 -- the words hold the hashes of the first rows
 pub record Hashes (S T hashes : List ℕ) : Type 0 where

@@ -1,4 +1,5 @@
 // Hashes: a number for each row that rows whose names clash share, so that few names are compared byte by byte.
+use crate::names::c_byte;
 use crate::names::name_of;
 use crate::names::names_clash;
 use crate::names::same_bytes;
@@ -7,15 +8,15 @@ ghost use mathlib.Core.Path.{_≡_};
 ghost use Prim.Native.Nat.{_-_};
 ghost use lib.ListN.{length, getD};
 ghost use Rattle.grammar.specs.Notation.{apart};
-ghost use Rattle.rules.specs.Names.{sameName, clash};
+ghost use Rattle.rules.specs.Names.{sameName, cByte, clash};
 ghost use Rattle.rules.specs.Rows.{walk, nameOf};
 ghost use Rattle.rules.specs.Rules.{namesOf, noClash};
 ghost use Rattle.rows.specs.Hashes.{hashOf, Hashes, Other, freshIn};
 ghost use Rattle.rows.specs.Rows.{Room};
 
-// The byte that stands k bytes before the end of a name, or the first; 0 of an empty name.
+// What the byte k bytes before the end of a name, or the first, becomes in C; 0 of an empty name.
 fn byte_back(name: &[u8], k: usize) -> u8
-    ensures { λ r. ⌜ r ≡ getD (now (name .entry)) (length (now (name .entry)) - k) 0 ⌝ }
+    ensures { λ r. ⌜ r ≡ cByte (getD (now (name .entry)) (length (now (name .entry)) - k) 0) ⌝ }
 {
     let n = name.len();
     if n == 0 {
@@ -25,9 +26,9 @@ fn byte_back(name: &[u8], k: usize) -> u8
         return 0;
     }
     if n < k {
-        return name[0];
+        return c_byte(name[0]);
     }
-    name[n - k]
+    c_byte(name[n - k])
 }
 
 // A number that names share if they clash: of the length and the first byte, and of the last three bytes.

@@ -9,7 +9,7 @@ ghost use mathlib.Core.Path.{_≡_};
 ghost use lib.ListN.{take, drop};
 ghost use mathlib.Core.Bool.{_&&_, _||_};
 ghost use Rattle.grammar.specs.Notation.{text, same, all, digit};
-ghost use Rattle.rules.specs.Names.{letter, nameByte, goodName, clash};
+ghost use Rattle.rules.specs.Names.{letter, nameByte, goodName, cByte, clash};
 ghost use Rattle.rules.specs.Rows.{nameOf};
 ghost use Rattle.strings.specs.Classes.{classOf, tabulate};
 
@@ -52,11 +52,32 @@ pub fn same_bytes(x: &[u8], y: &[u8]) -> bool
     true
 }
 
-// Whether two names clash.
+// The byte that a byte of a name becomes in C.
+pub fn c_byte(b: u8) -> u8
+    ensures { λ r. ⌜ r ≡ cByte b ⌝ }
+{
+    if b == b'-' {
+        return b'_';
+    }
+    b
+}
+
+// Whether two names clash: one name in C.
 pub fn names_clash(x: &[u8], y: &[u8]) -> bool
     ensures { λ r. ⌜ r ≡ clash (now (x .entry)) (now (y .entry)) ⌝ }
 {
-    same_bytes(x, y)
+    let n = x.len();
+    if n != y.len() {
+        return false;
+    }
+    let mut i = 0;
+    while i < n {
+        if c_byte(x[i]) != c_byte(y[i]) {
+            return false;
+        }
+        i += 1;
+    }
+    true
 }
 
 // The name of row r.

@@ -1,31 +1,59 @@
 -- All that is used of names that clash: equal names do, the order of two is free, a built-in clashes with its own name only.
--- These three laws alone open `clash`; lists of names whose hashes are alike are the business of crate rows (`clash-hash`). The rest follows by the lists.
+-- The laws on `clash` alone open it; lists of names whose hashes are alike are the business of crate rows (`clash-hash`). The rest follows by the lists.
 use Prim.Native.Nat.{ℕ}
-use mathlib.Core.Path.{_≡_, refl, sym}
+use Prim.Native.Char.{code}
+use mathlib.Core.Path.{_≡_, refl, sym, ap, ap₂, _∙_}
 use mathlib.Core.Bool.{Bool, true, false, not, _&&_}
 use mathlib.Core.List.{List, [], _∷_, _++_, map, List·Memᴰ, List·Memᴰ·head, List·Memᴰ·tail}
+use lib.Dec.{eqb}
+use borrow.Author.Tests.{eqb-true, eqb-false, ne-eqb, not-true}
 use Rattle.grammar.specs.Notation.{same, all, apart}
 use Rattle.grammar.proofs.Lists.{same-true, same-is, same-false, different, all-true, all-of}
 use Rattle.rules.specs.Types.{built-ins}
-use Rattle.rules.specs.Names.{sameName, clash}
+use Rattle.rules.specs.Names.{sameName, cByte, cName, clash}
 use Rattle.rules.specs.Rules.{noClash}
 use Rattle.rules.proofs.Lists.{and-left, and-right, and-of, not-of, of-not}
 
 pub same-clash : (x y : List ℕ) → sameName x y ≡ true → clash x y ≡ true
 unfolding clash
-same-clash x y e = e
+same-clash x y e = same-is (cName x) (cName y) (ap cName (same-true x y e))
 
 pub clash-sym : (x y : List ℕ) → clash x y ≡ clash y x
 unfolding clash
-clash-sym x y = go (same x y) refl
+clash-sym x y = go (same (cName x) (cName y)) refl
   where
-    go : (b : Bool) → same x y ≡ b → b ≡ same y x
-    go true e = sym (same-is y x (sym (same-true x y e)))
-    go false e = sym (different y x (λ p. same-false x y e (sym p)))
+    go : (b : Bool) → same (cName x) (cName y) ≡ b → b ≡ same (cName y) (cName x)
+    go true e = sym (same-is (cName y) (cName x) (sym (same-true (cName x) (cName y) e)))
+    go false e = sym (different (cName y) (cName x) (λ p. same-false (cName x) (cName y) e (sym p)))
+
+-- no byte of a built-in's name is the same in C as another
+abbrev alone : ℕ → Bool
+alone b = not (eqb b (code "-")) && not (eqb b (code "_"))
+
+byte-alone : (a b : ℕ) → alone b ≡ true → eqb (cByte a) (cByte b) ≡ eqb a b
+byte-alone a b h = go (eqb a (code "-")) refl
+  where
+    no-dash : (b ≡ code "-" → ⊥)
+    no-dash = eqb-false b (code "-") (not-true (eqb b (code "-")) (and-left (not (eqb b (code "-"))) (not (eqb b (code "_"))) h))
+
+    no-bar : (b ≡ code "_" → ⊥)
+    no-bar = eqb-false b (code "_") (not-true (eqb b (code "_")) (and-right (not (eqb b (code "-"))) (not (eqb b (code "_"))) h))
+
+    go : (t : Bool) → eqb a (code "-") ≡ t → eqb (cByte a) (cByte b) ≡ eqb a b
+    go true e =
+        let p : a ≡ code "-" = eqb-true a (code "-") e in
+        rw (p, ne-eqb b (code "-") no-dash) (ne-eqb (code "_") b (λ q. no-bar (sym q)) ∙ sym (ne-eqb (code "-") b (λ q. no-dash (sym q))))
+    go false e = rw (e, ne-eqb b (code "-") no-dash)
+
+name-alone : (x y : List ℕ) → all alone y ≡ true → same (cName x) (cName y) ≡ same x y
+name-alone [] [] h = refl
+name-alone [] (b ∷ y) h = refl
+name-alone (a ∷ x) [] h = refl
+name-alone (a ∷ x) (b ∷ y) h = ap₂ _&&_ (byte-alone a b (and-left (alone b) (all alone y) h)) (name-alone x y (and-right (alone b) (all alone y) h))
 
 pub built-in-clash : (x y : List ℕ) → List·Memᴰ y built-ins → clash x y ≡ sameName x y
 unfolding clash
-built-in-clash x y m = refl
+built-in-clash x y m = name-alone x y (all-true (all alone) built-ins refl y m)
 
 -- a name clashes with none of a list
 abbrev pub fresh : List ℕ → List (List ℕ) → Bool

@@ -1,8 +1,8 @@
 -- Reference, Names: good names, the same name, names that clash.
 use Prim.Native.Nat.{ℕ}
 use Prim.Native.Char.{code}
-use mathlib.Core.Bool.{Bool, false, not, _&&_, _||_}
-use mathlib.Core.List.{List, [], _∷_}
+use mathlib.Core.Bool.{Bool, false, not, cond, _&&_, _||_}
+use mathlib.Core.List.{List, [], _∷_, map}
 use lib.Dec.{leb, eqb}
 use lib.ListN.{length, take}
 use Rattle.grammar.specs.Limits.{name-bytes}
@@ -25,6 +25,13 @@ goodName digits (b ∷ bs) =
 abbrev pub sameName : List ℕ → List ℕ → Bool
 sameName = same
 
--- Rules 6, 8 and 9: what two names of one list must not do: be equal. proofs/Clashes has all that is used of it.
+-- what a name becomes in C: QEMU's generator turns each - into _
+abbrev pub cByte : ℕ → ℕ
+cByte b = cond (eqb b (code "-")) (code "_") b
+
+abbrev pub cName : List ℕ → List ℕ
+cName x = map cByte x
+
+-- Rules 6, 8 and 9: what two names of one list must not do: be one name in C. proofs/Clashes has all that is used of it.
 unfoldable pub clash : List ℕ → List ℕ → Bool
-clash x y = same x y
+clash x y = same (cName x) (cName y)

@@ -1,6 +1,9 @@
 -- `hashes::hash_of` gives the hash of a name.
 -- Its four parts are below 256, so the sum fits.
+use Prim.Native.Nat.{_-_}
+use lib.ListN.{length}
 use Rattle.rows.specs.Hashes.{hashOf}
+use Rattle.rows.proofs.NameFacts.{c-length, c-byte}
 use borrow.Author.Needs.{needs}
 use Rattle.rows.proofs.hashes.hash_of.Statement.{statement}
 use Rattle.rows.proofs.hashes.hash_of.Tie as tie
@@ -55,7 +58,10 @@ add-result-3 c = search needs
 
 returns : tie.Need-returns
 unfolding hashOf
-returns c = rw (← c .before .before .before .byte-back .ensures, ← c .before .before .byte-back2 .ensures, ← c .before .byte-back3 .ensures, ← c .byte-back4 .ensures)
+returns c =
+    let x = c .before .before .before .before .before .args .name .now in
+    rw (c-length, c-byte x (length x - length x), c-byte x (length x - 1), c-byte x (length x - 2), c-byte x (length x - 3))
+    (rw (← c .before .before .before .byte-back .ensures, ← c .before .before .byte-back2 .ensures, ← c .before .byte-back3 .ensures, ← c .byte-back4 .ensures))
 
 pub hash-of-spec : {M : Type 1} → statement M
 hash-of-spec =
