@@ -99,11 +99,11 @@ struct answer compile(const struct text *schema, uint32_t *words, size_t room) {
         first = answer;
     }
     if (first.number > 13)
-        fail("a schema's number isn't one of the paper");
+        fail("a schema's number isn't an answer's");
     check_shape(first, WINDOSPRIO_ROW_WORDS);
     for (size_t i = 0; i < first.count; i++)
         if (first.words[i * WINDOSPRIO_ROW_WORDS] - 1 > 8)
-            fail("a row has no kind of the paper");
+            fail("a row's kind isn't one of 1 to 9");
     tally.schema[first.number]++;
     tally.calls += PLACES;
     return first;
@@ -145,7 +145,7 @@ struct answer check(const struct table *table, const struct text *schema, const 
         first = answer;
     }
     if (first.number != 0 && (first.number < 21 || first.number > 30))
-        fail("a message's number isn't one of the paper");
+        fail("a message's number isn't an answer's");
     check_shape(first, WINDOSPRIO_RECORD_WORDS);
     if (first.number == 0)
         check_records(first, table, message);

@@ -71,6 +71,7 @@ const char *const refused_schemas[] = {
     "{'enum':'q_e','data':[]}",
     "{'struct':'s','data':{'*':'int'}}",
     "{'enum':'e','data':['v','v']}",
+    "{'enum':'e','data':['v-1','v_1']}",
     "{'struct':'int','data':{}}",
     "{'command':'c','data':'none'}",
     "{'enum':'e','data':[]}{'struct':'s','base':'e','data':{}}",

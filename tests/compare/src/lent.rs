@@ -51,7 +51,7 @@ impl LentWords {
         let place = words.iter().zip(expected).position(|(word, expected)| word != expected);
         ensure(place.is_none() && count == expected.len(), || {
             let place = place.unwrap_or(0);
-            format!("word {place} of {count} lent: product {:?}, reference {:?}", words.get(place), expected.get(place))
+            format!("word {place} of {count} lent: got {:?}, expected {:?}", words.get(place), expected.get(place))
         })?;
         ensure(self.is_intact_around(), || format!("words beside the {count} lent were written"))
     }

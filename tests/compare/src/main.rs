@@ -1,10 +1,10 @@
 //! Compares the product with the independent reference, through its static libraries.
 //!
-//!     compare [texts] [schemas] [tables] [messages] [wrapper] [folders] [--cases ROUNDS] [--seed SEED]
+//!     compare [texts] [schemas] [tables] [messages] [wrapper] [cases] [--cases ROUNDS] [--seed SEED]
 
 #![forbid(unsafe_code)]
 
-mod folders;
+mod cases;
 mod lent;
 mod messages;
 mod rooms;
@@ -27,7 +27,7 @@ const PARTS: [(&str, Run); 6] = [
     ("tables", tables::run),
     ("messages", messages::run),
     ("wrapper", wrapper::run),
-    ("folders", folders::run),
+    ("cases", cases::run),
 ];
 
 fn main() -> ExitCode {

@@ -38,9 +38,9 @@ pub fn table_of(schema: &[u8]) -> Vec<u32> {
     answer.words
 }
 
-/// Schemas beside the limits and with each fault, each in rooms of every kind.
+/// Schemas beside the limits, with each fault and with names that meet or nearly do, each in rooms of every kind.
 fn compare_fixed(tally: &mut Tally) -> Check {
-    for case in schemas::limits().into_iter().chain(schemas::every_fault()) {
+    for case in schemas::limits().into_iter().chain(schemas::every_fault()).chain(schemas::every_pair()) {
         let answer = compare_schema(&case.bytes, case.room, 1, tally)?;
         check_number(&case, answer.number)?;
         for room in need(&case.bytes).every_room() {

@@ -1,4 +1,4 @@
-//! Seeded generators of test inputs for Windosprio, written from 01-scope.md alone. One seed reproduces everything.
+//! Seeded generators of test inputs for Windosprio, written from the rules alone. One seed reproduces everything.
 //!
 //! `texts` for the reader, `schemas` for compiling, `tables` for soundness, `messages` for checking. Where an input's
 //! answer follows from how it was made, the case carries it.
@@ -15,6 +15,8 @@ pub mod shrink;
 pub mod tree;
 
 pub mod texts;
+
+pub mod names;
 
 pub mod model;
 pub mod schemas;

@@ -1,7 +1,8 @@
 //! Schemas as definitions, before they are laid out and printed.
 
-use std::collections::{HashMap, HashSet};
+use std::collections::HashMap;
 
+use crate::names::{good_name, Names, Taken};
 use crate::Random;
 
 #[derive(Clone, Debug)]
@@ -143,59 +144,6 @@ impl Model {
     }
 }
 
-/// Names that are good and were not given before; nor are a few that faults refer to as missing.
-#[derive(Clone, Debug, Default)]
-pub struct Names {
-    used: HashSet<String>,
-}
-
-const STEMS: [&str; 12] = ["lot", "stop", "Line", "batch", "valve", "mode", "Tank", "pump", "a", "q", "has", "List"];
-
-impl Names {
-    pub fn new() -> Self {
-        let missing = ["QType", "Int"];
-        Names { used: BUILT_INS.into_iter().chain(missing).map(str::to_string).collect() }
-    }
-
-    /// Keeps a name from being given.
-    pub fn avoid(&mut self, name: &str) {
-        self.used.insert(name.to_string());
-    }
-
-    pub fn fresh(&mut self, random: &mut Random) -> String {
-        loop {
-            let name = good_name(random, false);
-            if self.used.insert(name.clone()) {
-                return name;
-            }
-        }
-    }
-}
-
-/// A good name; an enum value's may start with a digit.
-pub fn good_name(random: &mut Random, digit_first: bool) -> String {
-    let name = match random.below(12) {
-        0 => random_name(random, 1, digit_first),
-        1 => random_name(random, 63, digit_first),
-        2..=4 => {
-            let length = random.between(2, 9);
-            random_name(random, length, digit_first)
-        }
-        _ => format!("{}{}{}", random.pick(&STEMS), random.pick(&["", "-", "_"]), random.below(90)),
-    };
-    match name.starts_with("q_") {
-        true => good_name(random, digit_first),
-        false => name,
-    }
-}
-
-fn random_name(random: &mut Random, length: usize, digit_first: bool) -> String {
-    const LETTERS: &[u8] = b"abcdefghijklmnopqrstuvwxyzABCDEFGHIJKLMNOPQRSTUVWXYZ0123456789-_";
-    let first = if digit_first { 62 } else { 52 };
-    let letter = |place| char::from(*random.pick(&LETTERS[..if place == 0 { first } else { LETTERS.len() }]));
-    (0..length).map(letter).collect()
-}
-
 /// Makes a valid model: names first, so that every type may refer to every other.
 struct Maker<'a> {
     random: &'a mut Random,
@@ -234,10 +182,7 @@ impl<'a> Maker<'a> {
     fn make_enums(&mut self) {
         for (i, name) in self.enums.clone().into_iter().enumerate() {
             let count = self.random.between(usize::from(i == 0), self.longest);
-            let mut values: Vec<_> = (0..count).map(|_| good_name(self.random, true)).collect();
-            values.sort();
-            values.dedup();
-            self.random.shuffle(&mut values);
+            let values = Taken::default().take(self.random, count, true);
             self.model.definitions.push(Definition::Enum { name, values });
         }
     }
@@ -248,22 +193,17 @@ impl<'a> Maker<'a> {
             let base = (i > 0 && self.random.one_in(2)).then(|| self.random.pick(&self.structs[..i]).clone());
             let base = base.filter(|base| self.model.chain_length(base) < 16);
             let inherited = base.as_ref().map_or(Vec::new(), |base| self.model.members(base));
-            let taken = inherited.into_iter().map(|member| member.name.clone()).collect();
+            let taken = Taken::of(inherited.into_iter().map(|member| &*member.name));
             let members = self.members(taken);
             self.model.definitions.push(Definition::Struct { name, base, members });
         }
     }
 
     /// Members with names that aren't taken.
-    fn members(&mut self, mut taken: HashSet<String>) -> Vec<Member> {
-        let mut members = Vec::new();
-        for _ in 0..self.random.between(0, self.longest) {
-            let name = good_name(self.random, false);
-            if taken.insert(name.clone()) {
-                members.push(self.member(name));
-            }
-        }
-        members
+    fn members(&mut self, mut taken: Taken) -> Vec<Member> {
+        let count = self.random.between(0, self.longest);
+        let names = taken.take(self.random, count, false);
+        names.into_iter().map(|name| self.member(name)).collect()
     }
 
     /// Mandatory members of objects are rarer, so that most types have a finite value.
@@ -303,10 +243,11 @@ impl<'a> Maker<'a> {
         if self.random.one_in(2) && !self.discriminators(&named).is_empty() {
             return named;
         }
-        let mut members = self.members(HashSet::new());
+        let mut members = self.members(Taken::default());
+        let mut taken = Taken::of(members.iter().map(|member| &*member.name));
         let name = loop {
             let name = good_name(self.random, false);
-            if members.iter().all(|member| member.name != name) {
+            if taken.insert(&name) {
                 break name;
             }
         };
@@ -327,7 +268,7 @@ impl<'a> Maker<'a> {
 
     /// A struct that shares no member with the base; a new one if a few tries find none.
     fn branch_struct(&mut self, base: &Fields) -> String {
-        let taken: HashSet<String> = self.model.fields(base).into_iter().map(|member| member.name.clone()).collect();
+        let taken = Taken::of(self.model.fields(base).into_iter().map(|member| &*member.name));
         for _ in 0..self.random.below(6) {
             let name = self.random.pick(&self.structs);
             if self.model.members(name).iter().all(|member| !taken.contains(&member.name)) {
@@ -347,14 +288,9 @@ impl<'a> Maker<'a> {
             let mut kinds = [0, 1, 2, 3, 4];
             self.random.shuffle(&mut kinds);
             let count = self.random.between(1, kinds.len());
-            let mut taken = HashSet::new();
-            let mut alternatives = Vec::new();
-            for &kind in &kinds[..count] {
-                let name = good_name(self.random, false);
-                if taken.insert(name.clone()) {
-                    alternatives.push((name, self.type_of_kind(kind)));
-                }
-            }
+            let names = Taken::default().take(self.random, count, false);
+            let alternatives =
+                names.into_iter().zip(kinds).map(|(name, kind)| (name, self.type_of_kind(kind))).collect();
             self.model.definitions.push(Definition::Alternate { name, alternatives });
         }
     }
@@ -384,7 +320,7 @@ impl<'a> Maker<'a> {
             let data = match self.random.below(4) {
                 0 => None,
                 1 => Some(Fields::Named(self.random.pick(&self.structs).clone())),
-                _ => Some(Fields::Inline(self.members(HashSet::new()))),
+                _ => Some(Fields::Inline(self.members(Taken::default()))),
             };
             let returns = self.random.one_in(2).then(|| Type { name: self.any_object(), array: self.random.one_in(3) });
             let allow_oob = *self.random.pick(&[None, Some(true), Some(false)]);

@@ -4,15 +4,18 @@
 mod faults;
 mod layout;
 mod limits;
+mod meeting;
 
 use crate::damage::damage;
-use crate::model::{Model, Names};
+use crate::model::Model;
+use crate::names::Names;
 use crate::print::{print, Dialect, Style};
 use crate::texts;
 use crate::tree::{Shape, Tree};
 use crate::Random;
 
 pub use limits::{every_fault, limits};
+pub use meeting::{every_pair, every_respelled, Respelled};
 
 const MOST_BYTES: usize = 32_768;
 const MOST_ROWS: usize = 1_024;

@@ -1,6 +1,6 @@
 //! Tables beside schema bytes: compiled ones, ones with words changed, names moved or bytes added, and random words.
 
-use crate::model::good_name;
+use crate::names::{good_name, met};
 use crate::schemas::{pad, Schema};
 use crate::Random;
 
@@ -45,8 +45,7 @@ fn moved_names(random: &mut Random, schema: &Schema) -> TableCase {
     let mut case = TableCase { words: schema.words.clone(), schema: schema.bytes.clone(), sound: None };
     for _ in 0..random.between(1, 3) {
         let row = random.below(case.words.len() / ROW) * ROW;
-        let digit_first = random.one_in(4);
-        let name = good_name(random, digit_first);
+        let name = any_name(random, &case, row);
         if case.words[row + 2] > 0 || random.one_in(10) {
             case.words[row + 1] = case.schema.len() as u32;
             case.words[row + 2] = name.len() as u32;
@@ -58,6 +57,21 @@ fn moved_names(random: &mut Random, schema: &Schema) -> TableCase {
         pad(random, &mut case.schema, length);
     }
     case
+}
+
+/// A good name of any sort, or one that meets that of a row beside in C.
+fn any_name(random: &mut Random, case: &TableCase, row: usize) -> String {
+    let place = (row / ROW + random.below(5)).saturating_sub(2) * ROW;
+    let span = case.words.get(place + 1..place + 3).map(|span| (span[0] as usize, span[1] as usize));
+    let known = span.and_then(|(start, length)| case.schema.get(start..start + length));
+    let known = known.map(|name| String::from_utf8_lossy(name).into_owned()).filter(|_| random.one_in(2));
+    match known.and_then(|name| met(random, &name)) {
+        Some(name) => name,
+        None => {
+            let digit_first = random.one_in(4);
+            good_name(random, digit_first)
+        }
+    }
 }
 
 /// A compiled table changed once or more; it may still be sound.

@@ -31,16 +31,17 @@ impl Drop for PanicGuard {
     }
 }
 
-/// What a program has run so far: how many inputs passed and how many checks failed.
+/// What a program has run so far: how many inputs passed, how many checks failed, how many inputs can't be had here.
 pub struct Report {
     name: &'static str,
     passed: u64,
     failed: usize,
+    skipped: usize,
 }
 
 impl Report {
     pub fn new(name: &'static str) -> Self {
-        Report { name, passed: 0, failed: 0 }
+        Report { name, passed: 0, failed: 0, skipped: 0 }
     }
 
     /// Prints the counts of a part, and what went wrong in it or was never reached.
@@ -55,12 +56,38 @@ impl Report {
         self.failed += failures.len();
     }
 
+    /// Counts inputs that aren't run because they can't be had here.
+    pub fn skip(&mut self, inputs: usize) {
+        self.skipped += inputs;
+    }
+
+    fn last_line(&self) -> String {
+        format!("{}: {} passed, {} failed, {} skipped", self.name, self.passed, self.failed, self.skipped)
+    }
+
     /// Prints the last line.
     pub fn finish(self) -> ExitCode {
-        println!("{}: {} passed, {} failed", self.name, self.passed, self.failed);
+        println!("{}", self.last_line());
         match self.failed {
             0 => ExitCode::SUCCESS,
             _ => ExitCode::FAILURE,
         }
+    }
+}
+
+#[cfg(test)]
+mod tests {
+    use super::*;
+
+    #[test]
+    fn the_last_line_counts_what_passed_failed_and_was_skipped() {
+        let mut report = Report::new("eggs");
+        let mut tally = Tally::default();
+        tally.pass();
+        report.add(Ok(()), &tally);
+        report.skip(7);
+        assert_eq!(report.last_line(), "eggs: 1 passed, 0 failed, 7 skipped");
+        report.add(Err("rotten".to_string()), &Tally::default());
+        assert_eq!(report.last_line(), "eggs: 1 passed, 1 failed, 7 skipped");
     }
 }

@@ -25,6 +25,8 @@ pub struct Case {
     pub answer: String,
     /// Bytes of schema and message.
     pub size: usize,
+    /// A piece of the schema without which it is accepted.
+    pub fault: Option<String>,
 }
 
 impl Case {
@@ -49,6 +51,7 @@ impl Case {
             }
             ("words", "for rows") => self.row_words = Some(value.parse().ok()?),
             ("words", "for records") => self.record_words = Some(value.parse().ok()?),
+            ("accepted", "without") => self.fault = Some(value.to_string()),
             ("answer", "") => {
                 let (answer, size) = value.split_once(", size ")?;
                 self.answer = answer.to_string();
@@ -114,7 +117,8 @@ mod tests {
 
     #[test]
     fn any_other_line_is_refused() {
-        for line in ["", "schema", "schema x times: a", "scheme: a", "words for row: 1", "answer: 2 0", "table: x"] {
+        let form = ["", "schema", "schema x times: a", "scheme: a", "words for row: 1", "answer: 2 0", "table: x"];
+        for line in form.into_iter().chain(["accepted: a", "accepted with: a"]) {
             assert!(parse(&format!("```case\n{line}\n```\n")).is_err(), "{line}");
         }
     }

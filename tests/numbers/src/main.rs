@@ -1,5 +1,6 @@
 //! Runs the cases of docs/NUMBERS.md and the examples of README.md through the product's library. Each must have its
-//! number, each number must have a case and an example, and no case may be had with one byte or word less.
+//! number, each number must have a case and an example, and no case may be had with one byte or word less; a case that
+//! says what is at fault must be accepted without it.
 
 #![forbid(unsafe_code)]
 
@@ -38,10 +39,24 @@ fn check_case(case: &Case) -> Check {
     ensure(size == case.size, || format!("its size is {size}, not {}", case.size))?;
     let answer = calls::answer(case);
     ensure(answer == case.answer, || format!("the product answers {answer}"))?;
-    for less in with_less(case) {
-        ensure(calls::answer(&less) != case.answer, || format!("the same with less: {less:?}"))?;
+    match &case.fault {
+        Some(fault) => check_fault(case, fault),
+        None => check_smallest(case),
     }
-    Ok(())
+}
+
+fn check_smallest(case: &Case) -> Check {
+    with_less(case)
+        .try_for_each(|less| ensure(calls::answer(&less) != case.answer, || format!("the same with less: {less:?}")))
+}
+
+/// The piece stands in the schema once, and without it the schema is accepted.
+fn check_fault(case: &Case, fault: &str) -> Check {
+    let schema = String::from_utf8_lossy(&case.schema);
+    ensure(schema.matches(fault).count() == 1, || format!("{fault} doesn't stand there once"))?;
+    let without = Case { schema: schema.replace(fault, "").into_bytes(), ..case.clone() };
+    let answer = calls::answer(&without);
+    ensure(answer.starts_with("0 "), || format!("without {fault} the product answers {answer}"))
 }
 
 /// The case with each byte of its texts and each word of its table left out; of bytes alike side by side the last.
@@ -72,6 +87,16 @@ mod tests {
         assert!(check_case(&case("{}", "5 0")).is_err());
         assert!(check_case(&Case { size: 3, ..case("{}", "4 0") }).is_err());
         assert!(check_case(&case("{} ", "4 0")).is_err());
+    }
+
+    #[test]
+    fn a_piece_that_is_not_at_fault_is_noticed() {
+        let with =
+            |fault: &str| Case { fault: Some(fault.to_string()), ..case("{'enum':'a','data':['b','b']}{}", "4 0") };
+        assert_eq!(check_case(&Case { fault: Some("{}".to_string()), ..case("{'command':'a'}{}", "4 0") }), Ok(()));
+        for fault in ["{}", ",'b'", "'a'", "x", "b"] {
+            assert!(check_case(&with(fault)).is_err(), "{fault}");
+        }
     }
 
     #[test]

@@ -5,7 +5,7 @@ use std::path::{Path, PathBuf};
 use std::process::{self, Command, Stdio};
 use std::sync::atomic::{AtomicUsize, Ordering};
 
-/// The schema of the paper's first case, and its answer.
+/// The schema of P1, and its answer.
 pub const STOP_LOT: &[u8] = b"{'command':'stop-lot','data':{'lot':'str'}}";
 pub const STOP_LOT_ANSWER: &str = "0 3\n";
 

@@ -12,7 +12,7 @@ use crate::running::{reason, Running};
 use crate::Checks;
 
 pub const CHECKS: Checks = &[
-    ("the paper's first case", |program| answers(program, &format!("{STOP}\n"), STOPPED)),
+    ("P1", |program| answers(program, &format!("{STOP}\n"), STOPPED)),
     ("lines end at LF alone, and the last needs none", lines_end_at_lf),
     ("CR is a blank and counts", cr_is_a_blank),
     ("every byte value in a line", every_byte),

@@ -1,4 +1,4 @@
-//! The program of 01 over the two calls, the reference's or any others: answers a schema, then each message line.
+//! The program over the two calls, the reference's or any others: answers a schema, then each message line.
 
 #![forbid(unsafe_code)]
 

@@ -1,4 +1,4 @@
-//! The program of 01 over the reference: answers the file `schema.json`, then each message line of standard input.
+//! The program over the reference: answers the file `schema.json`, then each message line of standard input.
 
 #![forbid(unsafe_code)]
 

@@ -1,4 +1,4 @@
-//! The built-in types: names, numbers, and the JSON kinds each takes (01, "Schema text").
+//! The built-in types: names, numbers, and the JSON kinds each takes (docs/REFERENCE.md, Types).
 
 use crate::text::Kind;
 

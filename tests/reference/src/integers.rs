@@ -1,4 +1,4 @@
-//! Exact ranges of the integer types (01, "Message text").
+//! Exact ranges of the integer types (docs/REFERENCE.md, Integers and Types).
 
 use std::ops::RangeInclusive;
 

@@ -2,7 +2,7 @@
 
 use std::borrow::Cow;
 
-use crate::names::first_repeat;
+use crate::names::{first_repeat, Exact};
 use crate::strings::Token;
 use crate::text::{children, Kind, Node};
 
@@ -19,7 +19,7 @@ pub fn repeated_key(text: &[u8], nodes: &[Node]) -> Option<u32> {
 fn repeated_in<'a>(text: &'a [u8], nodes: &[Node], object: usize, keys: &mut Vec<Cow<'a, [u8]>>) -> Option<u32> {
     keys.clear();
     keys.extend(children(nodes, object).map(|key| Token::new(text, nodes[key]).meaning()));
-    let place = first_repeat(keys.iter().map(|key| &**key))?;
+    let place = first_repeat(keys.iter().map(|key| Exact(key)))?;
     children(nodes, object).nth(place).map(|key| nodes[key].start)
 }
 

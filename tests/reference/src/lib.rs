@@ -1,4 +1,5 @@
-//! An independent reference for Windosprio, written from 01-scope.md and the decisions on its open points alone.
+//! An independent reference for Windosprio: written from the project's scope and the decisions on its open points
+//! alone, not from specs/ or the code. docs/REFERENCE.md states the same rules.
 //!
 //! Modules in the order that data flows: `text` and its tokens, `keys`, the rows and the rules over them, then the two
 //! calls `schema::compile` and `message::check`, with `table::is_sound` between them.

@@ -1,7 +1,7 @@
-//! Names: which are good, and whether a list repeats one (numbers 5 and 6).
+//! Names: which are good (number 5), which two are one in C (6, 8 and 9), and whether a list repeats one.
 
 use std::collections::{HashMap, HashSet};
-use std::hash::{BuildHasherDefault, Hasher};
+use std::hash::{BuildHasherDefault, Hash, Hasher};
 
 /// Names of a set that are compared one by one.
 const FEW: usize = 32;
@@ -35,6 +35,56 @@ pub fn equal(one: &[u8], other: &[u8]) -> bool {
     one.len() == other.len() && one.last() == other.last() && one == other
 }
 
+/// A name by its bytes, or another byte string. Hashed by eight bytes at a time.
+#[derive(Clone, Copy, Debug, Eq)]
+pub struct Exact<'a>(pub &'a [u8]);
+
+impl PartialEq for Exact<'_> {
+    fn eq(&self, other: &Self) -> bool {
+        equal(self.0, other.0)
+    }
+}
+
+impl Hash for Exact<'_> {
+    fn hash<H: Hasher>(&self, hasher: &mut H) {
+        hasher.write(self.0);
+    }
+}
+
+/// A name as the generator writes it in C, where `-` can't stand in a name and becomes `_`.
+#[derive(Clone, Copy, Debug, Eq)]
+pub struct InC<'a>(pub &'a [u8]);
+
+fn byte_in_c(byte: u8) -> u8 {
+    match byte {
+        b'-' => b'_',
+        other => other,
+    }
+}
+
+impl PartialEq for InC<'_> {
+    fn eq(&self, other: &Self) -> bool {
+        let last = |name: &[u8]| name.last().map(|&byte| byte_in_c(byte));
+        let mut bytes = self.0.iter().zip(other.0);
+        self.0.len() == other.0.len()
+            && last(self.0) == last(other.0)
+            && bytes.all(|(&one, &other)| byte_in_c(one) == byte_in_c(other))
+    }
+}
+
+impl Hash for InC<'_> {
+    fn hash<H: Hasher>(&self, hasher: &mut H) {
+        let (words, rest) = self.0.as_chunks::<8>();
+        words.iter().for_each(|word| hasher.write(&word.map(byte_in_c)));
+        rest.iter().for_each(|&byte| hasher.write_u8(byte_in_c(byte)));
+    }
+}
+
+/// Whether two names become one in C.
+pub fn clash(one: &[u8], other: &[u8]) -> bool {
+    InC(one) == InC(other)
+}
+
 /// Mixes eight bytes at a time.
 #[derive(Default)]
 pub struct NameHasher {
@@ -63,31 +113,27 @@ impl Hasher for NameHasher {
 type BuildNameHasher = BuildHasherDefault<NameHasher>;
 
 /// Something for each of some names.
-pub type NameMap<'a, T> = HashMap<&'a [u8], T, BuildNameHasher>;
+pub type NameMap<N, T> = HashMap<N, T, BuildNameHasher>;
 
-/// A set of names, or of other byte strings: a few are compared one by one, the others are hashed.
-pub struct NameSet<'a> {
-    few: Vec<&'a [u8]>,
-    others: HashSet<&'a [u8], BuildNameHasher>,
+/// A set of names, as `Exact` or as `InC`: a few are compared one by one, the others are hashed.
+pub struct NameSet<N> {
+    few: Vec<N>,
+    others: HashSet<N, BuildNameHasher>,
 }
 
-impl<'a> NameSet<'a> {
+impl<N: Copy + Eq + Hash> NameSet<N> {
     /// An empty set with room for about as many names.
     fn with_room(count: usize) -> Self {
         NameSet { few: Vec::with_capacity(count.min(FEW)), others: HashSet::default() }
     }
 
-    pub fn contains(&self, name: &[u8]) -> bool {
-        self.is_among_few(name) || !self.others.is_empty() && self.others.contains(name)
-    }
-
-    fn is_among_few(&self, name: &[u8]) -> bool {
-        self.few.iter().any(|known| equal(known, name))
+    pub fn contains(&self, name: N) -> bool {
+        self.few.contains(&name) || !self.others.is_empty() && self.others.contains(&name)
     }
 
     /// Says whether the name is new.
-    pub fn insert(&mut self, name: &'a [u8]) -> bool {
-        if self.is_among_few(name) {
+    pub fn insert(&mut self, name: N) -> bool {
+        if self.few.contains(&name) {
             return false;
         }
         if self.few.len() == FEW {
@@ -98,8 +144,8 @@ impl<'a> NameSet<'a> {
     }
 }
 
-impl<'a> FromIterator<&'a [u8]> for NameSet<'a> {
-    fn from_iter<I: IntoIterator<Item = &'a [u8]>>(names: I) -> Self {
+impl<N: Copy + Eq + Hash> FromIterator<N> for NameSet<N> {
+    fn from_iter<I: IntoIterator<Item = N>>(names: I) -> Self {
         let names = names.into_iter();
         let mut set = NameSet::with_room(names.size_hint().0);
         for name in names {
@@ -110,7 +156,60 @@ impl<'a> FromIterator<&'a [u8]> for NameSet<'a> {
 }
 
 /// Index of the first name that equals one before it.
-pub fn first_repeat<'a>(mut names: impl Iterator<Item = &'a [u8]>) -> Option<usize> {
+pub fn first_repeat<N: Copy + Eq + Hash>(mut names: impl Iterator<Item = N>) -> Option<usize> {
     let mut seen = NameSet::with_room(names.size_hint().0);
     names.position(|name| !seen.insert(name))
+}
+
+#[cfg(test)]
+mod tests {
+    use super::*;
+
+    const MEET: [(&str, &str); 8] = [
+        ("a-", "a_"),
+        ("a-b", "a_b"),
+        ("a-b_c", "a_b-c"),
+        ("a-b_c", "a_b_c"),
+        ("a--b", "a__b"),
+        ("a-_", "a_-"),
+        ("seven-b", "seven_b"),
+        ("eight-bytes_and-more", "eight_bytes-and_more"),
+    ];
+    const APART: [(&str, &str); 8] = [
+        ("a-b", "a-c"),
+        ("a-b", "ab"),
+        ("a-b", "a-b-"),
+        ("a-b", "A-b"),
+        ("a-b", "amb"),
+        ("a_b", "aOb"),
+        ("eight-bytes", "eight_byteS"),
+        ("", "_"),
+    ];
+
+    #[test]
+    fn names_clash_when_equal_after_a_hyphen_becomes_an_underscore() {
+        for (one, other) in MEET {
+            assert!(
+                clash(one.as_bytes(), other.as_bytes()) && clash(other.as_bytes(), one.as_bytes()),
+                "{one} {other}"
+            );
+            assert!(!equal(one.as_bytes(), other.as_bytes()), "{one} {other}");
+        }
+        for (one, other) in APART {
+            assert!(!clash(one.as_bytes(), other.as_bytes()) && clash(one.as_bytes(), one.as_bytes()), "{one} {other}");
+        }
+    }
+
+    #[test]
+    fn few_names_and_many_are_searched_alike() {
+        for count in [0, 1, FEW - 1, FEW, FEW + 1, 3 * FEW] {
+            let before: Vec<_> = (0..count).map(|i| format!("n{i}")).collect();
+            for (one, other) in MEET.into_iter().chain(APART) {
+                let names = before.iter().map(String::as_str).chain([one, other]).map(str::as_bytes);
+                let meets = MEET.contains(&(one, other)).then_some(count + 1);
+                assert_eq!(first_repeat(names.clone().map(InC)), meets, "{one} {other}");
+                assert_eq!(first_repeat(names.map(Exact)), None, "{one} {other}");
+            }
+        }
+    }
 }

@@ -1,4 +1,5 @@
-//! Rows of a table: 8 words each, read beside the schema bytes that hold their names (01, "Rows").
+//! Rows of a table: 8 words each, read beside the schema bytes that hold their names (docs/REFERENCE.md,
+//! Rows).
 
 use std::iter;
 use std::ops::Range;
@@ -23,7 +24,7 @@ pub const ALTERNATE: u32 = 7;
 pub const ALTERNATIVE: u32 = 8;
 pub const COMMAND: u32 = 9;
 
-/// The rows of a table that is laid out as the paper says; `table` judges whether words are.
+/// The rows of a table that is laid out as the rules say; `table` judges whether words are.
 #[derive(Clone, Copy, Debug)]
 pub struct Rows<'a> {
     rows: &'a [[u32; ROW]],
@@ -48,7 +49,7 @@ impl<'a> Rows<'a> {
         0..self.count()
     }
 
-    /// A word by its place in the paper, 1 to 8.
+    /// A word by its place, 1 to 8: one more than in docs/REFERENCE.md.
     pub fn word(self, row: usize, place: usize) -> u32 {
         self.rows[row][place - 1]
     }

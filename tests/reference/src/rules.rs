@@ -2,7 +2,7 @@
 //! From 8 on, all references are filled in and fit.
 
 use crate::builtins;
-use crate::names::{self, NameMap, NameSet};
+use crate::names::{self, InC, NameMap, NameSet};
 use crate::rows::{Rows, ALTERNATE, BRANCH, COMMAND, ENUM, LONGEST_CHAIN, STRUCT, UNION, VALUE};
 
 /// 5: a bad name.
@@ -14,25 +14,38 @@ fn is_good_name(rows: Rows, row: usize) -> bool {
     names::is_good(rows.name(row), matches!(rows.kind(row), VALUE | BRANCH))
 }
 
-/// The definitions by name; none where 6 holds of their names.
-pub fn definitions_by_name(rows: Rows<'_>) -> Option<NameMap<'_, usize>> {
-    let mut definitions = NameMap::default();
-    for row in rows.numbers().filter(|&row| rows.is_definition(row)) {
-        let name = rows.name(row);
-        if builtins::number_of(name).is_some() || definitions.insert(name, row).is_some() {
-            return None;
-        }
-    }
-    Some(definitions)
+/// The definitions, of which no two have names that clash, nor one a built-in's.
+pub struct Definitions<'a> {
+    rows: Rows<'a>,
+    by_name: NameMap<InC<'a>, usize>,
 }
 
-/// 6: a list of children has one name twice.
+impl<'a> Definitions<'a> {
+    /// None where 6 holds of their names. Built-ins have no `-` and no `_`, so that only equal names clash with them.
+    pub fn new(rows: Rows<'a>) -> Option<Self> {
+        let mut by_name = NameMap::default();
+        for row in rows.numbers().filter(|&row| rows.is_definition(row)) {
+            let name = rows.name(row);
+            if builtins::number_of(name).is_some() || by_name.insert(InC(name), row).is_some() {
+                return None;
+            }
+        }
+        Some(Definitions { rows, by_name })
+    }
+
+    /// The row of the definition with exactly this name.
+    pub fn find(&self, name: &[u8]) -> Option<usize> {
+        self.by_name.get(&InC(name)).copied().filter(|&row| names::equal(self.rows.name(row), name))
+    }
+}
+
+/// 6: two names of a list of children clash.
 pub fn has_equal_names_in_a_list(rows: Rows) -> bool {
     let mut lists = rows.numbers().map(|row| rows.list(row)).filter(|list| list.len() > 1);
-    lists.any(|list| names::first_repeat(list.map(|row| rows.name(row))).is_some())
+    lists.any(|list| names::first_repeat(list.map(|row| InC(rows.name(row)))).is_some())
 }
 
-/// 8: going up from a struct doesn't end soon enough, or meets a member's name again.
+/// 8: going up from a struct doesn't end soon enough, or a member's name clashes with an inherited one's.
 pub fn has_bad_chain(rows: Rows) -> bool {
     let mut structs = rows.of_kind(STRUCT);
     structs.clone().any(|row| rows.whole_chain(row).nth(LONGEST_CHAIN).is_some())
@@ -44,11 +57,7 @@ fn repeats_inherited_member(rows: Rows, structure: usize) -> bool {
         return false;
     };
     let mut own = rows.list(structure);
-    own.any(|member| has_member_named(rows, base, rows.name(member)))
-}
-
-fn has_member_named(rows: Rows, structure: usize, name: &[u8]) -> bool {
-    rows.members(structure).any(|member| names::equal(rows.name(member), name))
+    own.any(|member| members_names(rows, base).any(|inherited| names::clash(inherited, rows.name(member))))
 }
 
 /// 9: a union without a branch, or with a bad discriminator or branch.
@@ -76,7 +85,7 @@ fn discriminator_enum(rows: Rows, member: usize) -> Option<usize> {
     Rows::referred(rows.type_reference(member)).filter(|&row| rows.kind(row) == ENUM)
 }
 
-/// Asked of unions with a good discriminator.
+/// A branch is found by exactly its name. Asked of unions with a good discriminator.
 fn has_branch_without_value(rows: Rows, union: usize) -> bool {
     let Some(values) = rows.discriminator(union).and_then(|member| discriminator_enum(rows, member)) else {
         return true;
@@ -84,10 +93,12 @@ fn has_branch_without_value(rows: Rows, union: usize) -> bool {
     rows.list(union).any(|branch| !rows.list(values).any(|value| names::equal(rows.name(value), rows.name(branch))))
 }
 
+/// A member of a branch clashes with one of the base; those of two branches may.
 fn has_branch_repeating_base(rows: Rows, union: usize) -> bool {
-    let base: NameSet = rows.union_base(union).into_iter().flat_map(|base| members_names(rows, base)).collect();
+    let base = rows.union_base(union).into_iter().flat_map(|base| members_names(rows, base));
+    let base: NameSet<_> = base.map(InC).collect();
     let mut structs = rows.list(union).filter_map(|branch| rows.branch_struct(branch));
-    structs.any(|row| members_names(rows, row).any(|name| base.contains(name)))
+    structs.any(|row| members_names(rows, row).any(|name| base.contains(InC(name))))
 }
 
 fn members_names<'a>(rows: Rows<'a>, structure: usize) -> impl Iterator<Item = &'a [u8]> {

@@ -75,7 +75,7 @@ fn table_of(schema: &[u8], lent: usize) -> Result<Vec<[u32; ROW]>, Refusal> {
 
     let rows = Rows::new(table.as_flattened(), schema);
     refuse_if(rules::has_bad_name(rows), Refusal::BadName)?;
-    let definitions = rules::definitions_by_name(rows).ok_or(Refusal::EqualNames)?;
+    let definitions = rules::Definitions::new(rows).ok_or(Refusal::EqualNames)?;
     refuse_if(rules::has_equal_names_in_a_list(rows), Refusal::EqualNames)?;
     let found = references::find_definitions(rows, &names, &definitions)?;
     references::write(&mut table, &found);

@@ -1,4 +1,4 @@
-//! The code points that strings mean (01, "Message text"). The tokens are those of a whole text.
+//! The code points that strings mean (docs/REFERENCE.md, Text of messages). The tokens are those of a whole text.
 
 use std::borrow::Cow;
 

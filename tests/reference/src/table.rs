@@ -120,7 +120,7 @@ fn links_to_fields(rows: Rows, owner: usize) -> bool {
 
 fn obeys_rules(rows: Rows) -> bool {
     !rules::has_bad_name(rows)
-        && rules::definitions_by_name(rows).is_some()
+        && rules::Definitions::new(rows).is_some()
         && !rules::has_equal_names_in_a_list(rows)
         && !rules::has_bad_chain(rows)
         && !rules::has_bad_union(rows)

@@ -1,4 +1,5 @@
-//! Bytes to nodes: one reader for schema text and for message text (01, "Schema text" and "Message text").
+//! Bytes to nodes: one reader for schema text and for message text (docs/REFERENCE.md, Structure to
+//! Longest starts).
 
 mod reader;
 mod tokens;

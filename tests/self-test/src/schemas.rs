@@ -10,7 +10,7 @@ use reference::table::is_sound;
 const WHOLE_ROOM: usize = 1_024 * 8;
 
 pub fn check_limits(tally: &mut Tally) -> Check {
-    let mut cases = schemas::limits().into_iter().chain(schemas::every_fault());
+    let mut cases = schemas::limits().into_iter().chain(schemas::every_fault()).chain(schemas::every_pair());
     cases.try_for_each(|case| check_case(&case, tally))
 }
 

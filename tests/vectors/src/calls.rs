@@ -5,7 +5,7 @@ use harness::{check_expected, ensure};
 use reference::{message, schema, table};
 use windosprio::calls;
 
-/// Words that the program of 01 lends, and what they hold before.
+/// Words that the program lends, and what they hold before.
 const SCHEMA_ROOM: usize = 1_024 * ROW;
 const MESSAGE_ROOM: usize = 4_096 * 4;
 const GARBAGE: u32 = 0xA5A5_A5A5;

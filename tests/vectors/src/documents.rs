@@ -1,4 +1,4 @@
-//! The examples of each document: where they stand, and the answers that 01 gives them.
+//! The examples of each document: where they stand, and the answers that the rules give them.
 //!
 //! An example stands alone as it does in the document; those that belong together are run joined too. One that leaves
 //! something out, or that only shows a form, isn't run.
@@ -86,6 +86,11 @@ impl Message {
 }
 
 impl Document {
+    /// How many checks it has: its examples, and that none of them is in no table.
+    pub fn checks(&self) -> usize {
+        self.schemas.len() + self.joined.len() + self.messages.len() + 1
+    }
+
     /// Fails at a place that looks like an example and is in none of the tables.
     pub fn check_listed(&self, text: &Text) -> Check {
         let schemas = self.schemas.iter().flat_map(Schema::pieces);

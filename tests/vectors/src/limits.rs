@@ -1,4 +1,4 @@
-//! Schemas and messages on either side of the limits of 01, from the schema to the records: the counts, and messages
+//! Schemas and messages on either side of the limits, from the schema to the records: the counts, and messages
 //! read with tables of such schemas. `compare` has further ones.
 
 use crate::calls::{check_message, check_schema};

@@ -1,4 +1,4 @@
-//! Fixed messages at the edges, each with its number by the paper.
+//! Fixed messages at the edges, each with its number by the rules.
 
 use harness::{check_expected, Check, Tally};
 
@@ -29,7 +29,7 @@ pub fn compare(tally: &mut Tally) -> Check {
 pub(super) fn check(call: Call, number: u32, tally: &mut Tally) -> Check {
     for seed in 0..3 {
         let answer = compare_call(call, seed, tally)?;
-        check_expected("by the paper", call.message, answer.number, number)?;
+        check_expected("by the rules", call.message, answer.number, number)?;
     }
     tally.pass();
     Ok(())
@@ -135,7 +135,9 @@ const SCHEMA: &str = "
     {'command':'c','data':'T'}
     {'command':'none'}
     {'command':'empty','data':{}}
-    {'command':'oob','allow-oob':true,'data':{'lot':'str'}}";
+    {'command':'oob','allow-oob':true,'data':{'lot':'str'}}
+    {'enum':'By-name','data':['to-day','a_b']}
+    {'command':'stop-lot','data':{'lot-id':'str','*by_name':'By-name'}}";
 
 const SMALL: &[(&str, u32)] = &[
     (r#"{"execute":"oob","arguments":{"lot":"007"}}"#, 0),
@@ -169,6 +171,19 @@ const SMALL: &[(&str, u32)] = &[
     (r#"{"exec-oob":"none","arguments":{"x":1}}"#, 28),
     (r#"{"exec-oob":"oob","arguments":{"lot":"\ud83d\ude00"}}"#, 0),
     (r#"{"exec-oob":"oob","arguments":{"lot":5}}"#, 29),
+    // Names that meet in C are found by exactly their own, and keys repeat by it.
+    (r#"{"execute":"stop-lot","arguments":{"lot-id":"","by_name":"to-day"}}"#, 0),
+    (r#"{"execute":"stop\u002dlot","arguments":{"lot\u002Did":"","by\u005fname":"a\u005Fb"}}"#, 0),
+    (r#"{"execute":"stop_lot","arguments":{"lot-id":""}}"#, 27),
+    (r#"{"execute":"stop\u005flot","arguments":{"lot-id":""}}"#, 27),
+    (r#"{"execute":"stop-lot","arguments":{"lot_id":""}}"#, 29),
+    (r#"{"execute":"stop-lot","arguments":{"lot-id":"","lot_id":""}}"#, 29),
+    (r#"{"execute":"stop-lot","arguments":{"lot-id":"","by-name":"to-day"}}"#, 29),
+    (r#"{"execute":"stop-lot","arguments":{"lot-id":"","by_name":"to_day"}}"#, 29),
+    (r#"{"execute":"stop-lot","arguments":{"lot-id":"","by_name":"a-b"}}"#, 29),
+    (r#"{"execute":"stop-lot","arguments":{"lot-id":"","lot\u002did":""}}"#, 25),
+    (r#"{"execute":"none","id":{"a-b":1,"a_b":2}}"#, 0),
+    (r#"{"execute":"none","id":{"a-b":1,"a_b":2,"a\u005fb":3}}"#, 25),
     // Arguments where the command has none, or none that it must have.
     (r#"{"execute":"none"}"#, 0),
     (r#"{"execute":"none","arguments":{ }}"#, 0),

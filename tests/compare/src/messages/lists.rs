@@ -26,12 +26,12 @@ fn schema_of(length: usize) -> String {
     let list = |item: &dyn Fn(usize) -> String| (0..length).map(item).collect::<Vec<_>>().join(",");
     let star = |i: usize| if is_mandatory(i) { "" } else { "*" };
     [
-        format!("{{'enum':'E','data':[{}]}}", list(&|i| format!("'v{i:03}'"))),
-        format!("{{'struct':'W','data':{{{}}}}}", list(&|i| format!("'{}m{i:03}':'int'", star(i)))),
+        format!("{{'enum':'E','data':[{}]}}", list(&|i| format!("'{}'", value(i)))),
+        format!("{{'struct':'W','data':{{{}}}}}", list(&|i| format!("'{}{}':'int'", star(i), member(i)))),
         "{'struct':'D','base':'W','data':{'own':'int'}}".to_string(),
         format!(
             "{{'union':'U','base':{{'kind':'E'}},'discriminator':'kind','data':{{{}}}}}",
-            list(&|i| format!("'v{i:03}':'W'"))
+            list(&|i| format!("'{}':'W'", value(i)))
         ),
         "{'command':'c','data':{'*w':'W','*d':'D','*e':'E','*u':'U'}}".to_string(),
     ]
@@ -42,10 +42,34 @@ fn is_mandatory(i: usize) -> bool {
     i.is_multiple_of(3)
 }
 
-/// A field of the struct; in every other one the key has its first letter escaped.
+/// A name with one of the two bytes that are one in C.
+fn name(first: char, i: usize) -> String {
+    format!("{first}{}{i:03}", if i.is_multiple_of(4) { '_' } else { '-' })
+}
+
+fn member(i: usize) -> String {
+    name('m', i)
+}
+
+fn value(i: usize) -> String {
+    name('v', i)
+}
+
+/// The name with the other one of these bytes.
+fn respelled(name: &str) -> String {
+    let other = |byte: char| if byte == '-' { '_' } else { '-' };
+    name.chars().map(|byte| if byte.is_ascii_alphanumeric() { byte } else { other(byte) }).collect()
+}
+
+/// With its first letter escaped.
+fn escaped(name: &str) -> String {
+    format!("\\u{:04x}{}", u32::from(name.as_bytes()[0]), &name[1..])
+}
+
+/// A field of the struct; in every other one the key is escaped.
 fn field(i: usize) -> String {
-    let first = if i.is_multiple_of(2) { "m" } else { "\\u006d" };
-    format!("\"{first}{i:03}\":{i}")
+    let name = member(i);
+    format!("\"{}\":{i}", if i.is_multiple_of(2) { name } else { escaped(&name) })
 }
 
 fn call(name: &str, value: &str) -> String {
@@ -66,11 +90,13 @@ fn members(length: usize) -> Vec<(String, u32)> {
             mandatory.iter().enumerate().filter(|(i, _)| *i != lacking).map(|(_, f)| f.clone()).collect();
         cases.push((without, 29));
     }
-    for other in ["m", "m0000", "M000", "v000", "kind", "w", "W", ""] {
-        cases.push(([all.clone(), vec![format!("\"{other}\":1")]].concat(), 29));
+    let more = |key: &str| [all.clone(), vec![format!("\"{key}\":1")]].concat();
+    for other in ["m", "m_0000", "M_000", "v_000", "kind", "w", "W", ""] {
+        cases.push((more(other), 29));
     }
-    cases.push(([all.clone(), vec![format!("\"m{length:03}\":1")]].concat(), 29));
-    cases.push(([all.clone(), vec!["\"m000\":1".to_string()]].concat(), 25));
+    cases.push((more(&member(length)), 29));
+    cases.extend((0..length).step_by(7).map(|i| (more(&respelled(&member(i))), 29)));
+    cases.push((more(&member(0)), 25));
     let own = |fields: &[String]| object(&[fields, &["\"own\":1".to_string()]].concat());
     let derived = cases.iter().map(|(fields, number)| (call("d", &own(fields)), *number));
     let lacks_own = [(call("d", &object(&all)), 29)];
@@ -78,15 +104,12 @@ fn members(length: usize) -> Vec<(String, u32)> {
 }
 
 fn values(length: usize) -> Vec<(String, u32)> {
-    let named =
-        (0..length).flat_map(|i| [format!("\"v{i:03}\""), format!("\"\\u0076{i:03}\"")]).map(|value| (value, 0));
-    let others = [
-        format!("\"v{length:03}\""),
-        "\"m000\"".to_string(),
-        "\"V000\"".to_string(),
-        "\"\"".to_string(),
-        "0".to_string(),
-    ];
+    let string = |text: &str| format!("\"{text}\"");
+    let named = (0..length).flat_map(|i| {
+        let value = value(i);
+        [(string(&value), 0), (string(&escaped(&value)), 0), (string(&respelled(&value)), 29)]
+    });
+    let others = [string(&value(length)), string(&member(0)), string("V_000"), string(""), "0".to_string()];
     named.chain(others.map(|value| (value, 29))).map(|(value, number)| (call("e", &value), number)).collect()
 }
 
@@ -95,11 +118,9 @@ fn branches(length: usize) -> Vec<(String, u32)> {
     let mandatory: Vec<_> = (0..length).filter(|&i| is_mandatory(i)).map(field).collect();
     let with =
         |kind: String, fields: &[String]| call("u", &object(&[fields, &[format!("\"kind\":\"{kind}\"")]].concat()));
-    let chosen = (0..length)
-        .step_by(7)
-        .chain([length - 1])
-        .flat_map(|i| [(with(format!("v{i:03}"), &mandatory), 0), (with(format!("v{i:03}"), &mandatory[1..]), 29)]);
-    chosen
-        .chain([(with(format!("v{length:03}"), &mandatory), 29), (with("m000".to_string(), &mandatory), 29)])
-        .collect()
+    let chosen = (0..length).step_by(7).chain([length - 1]).flat_map(|i| {
+        let met = with(respelled(&value(i)), &mandatory);
+        [(with(value(i), &mandatory), 0), (with(value(i), &mandatory[1..]), 29), (met, 29)]
+    });
+    chosen.chain([(with(value(length), &mandatory), 29), (with(member(0), &mandatory), 29)]).collect()
 }

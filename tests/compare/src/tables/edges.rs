@@ -1,7 +1,8 @@
-//! Fixed tables at the edges, each sound or not by the paper.
+//! Fixed tables at the edges, each sound or not by the rules.
 
 use std::time::{Duration, Instant};
 
+use generate::schemas::{every_respelled, Respelled};
 use harness::{ensure, Check, Tally};
 
 use super::compare_table;
@@ -28,7 +29,9 @@ pub fn compare(tally: &mut Tally) -> Check {
     check_spans(&mut check)?;
     check_endless_counts(&mut check)?;
     check_room_of_a_compiled_table(&mut check)?;
-    check_relinked_tables(&mut check)
+    check_relinked_tables(&mut check)?;
+    check_respelled_schemas(&mut check)?;
+    check_renamed_rows(&mut check)
 }
 
 /// Every span of 1 to 63 bytes is a good name.
@@ -114,6 +117,31 @@ fn check_relinked_tables(check: &mut impl FnMut(&[u32], &[u8], bool) -> Check) -
     Ok(())
 }
 
+/// Compiled tables beside bytes in which two of their names meet in C.
+fn check_respelled_schemas(check: &mut impl FnMut(&[u32], &[u8], bool) -> Check) -> Check {
+    for Respelled { schema, bytes, sound } in every_respelled() {
+        let table = table_of(&schema);
+        check(&table, &schema, true)?;
+        check(&table, &bytes, sound)?;
+    }
+    Ok(())
+}
+
+/// Compiled tables in which one row has another name, written after the schema.
+fn check_renamed_rows(check: &mut impl FnMut(&[u32], &[u8], bool) -> Check) -> Check {
+    for (row, renamed) in RENAMED {
+        for (name, sound) in *renamed {
+            let mut table = table_of(MEETING.as_bytes());
+            let bytes = format!("{MEETING}{name}").into_bytes();
+            check(&table, &bytes, true)?;
+            table[row * 8 + 1] = MEETING.len() as u32;
+            table[row * 8 + 2] = name.len() as u32;
+            check(&table, &bytes, *sound)?;
+        }
+    }
+    Ok(())
+}
+
 fn commands(count: u32) -> (Vec<u32>, Vec<u8>) {
     let names = (0..count.min(4_000)).flat_map(|i| format!("c{i:05}").into_bytes()).collect();
     ((0..count).flat_map(|i| [9, i % 4_000 * 6, 6, 0, 0, 0, 0, 0]).collect(), names)
@@ -131,6 +159,7 @@ fn cycle(length: u32) -> Vec<u32> {
 
 type Rows = &'static [[u32; 8]];
 type Words = &'static [(u32, bool)];
+type Spellings = &'static [(&'static str, bool)];
 
 /// A schema, a row and a place from 1 on; the words there, each with whether the table is then sound.
 const RELINKED: &[(&str, usize, usize, Words)] = &[
@@ -179,6 +208,32 @@ const RELINKED: &[(&str, usize, usize, Words)] = &[
         6,
         &[(17, true), (16, false), (18, false), (19, false), (20, false), (15, false), (0, false)],
     ),
+];
+
+/// A schema of names with `-`. Its rows: 0 kind-of, 1 one-a, 2 two-b; 3 base-s, 4 type-t, 5 more-m; 6 own-s, 7 own-m;
+/// 8 free-s, 9 free-m; 10 the-union, 11 one-a; 12 the-alternate, 13 alt-n, 14 alt-z; 15 the-command, 16 inline, 17
+/// arg-x.
+const MEETING: &str = "{'enum':'kind-of','data':['one-a','two-b']}
+    {'struct':'base-s','data':{'type-t':'kind-of','more-m':'int'}}
+    {'struct':'own-s','base':'base-s','data':{'own-m':'int'}}{'struct':'free-s','data':{'free-m':'int'}}
+    {'union':'the-union','base':'own-s','discriminator':'type-t','data':{'one-a':'free-s'}}
+    {'alternate':'the-alternate','data':{'alt-n':'int','alt-z':'null'}}
+    {'command':'the-command','data':{'arg-x':'int'}}";
+
+/// A row of that schema's table, and names; each with whether the table is sound where the row has it.
+const RENAMED: &[(usize, Spellings)] = &[
+    // A definition meets any other one, but no name of a list.
+    (0, &[("kind_of", true), ("base_s", false), ("the_union", false), ("the_command", false), ("one_a", true)]),
+    (15, &[("the_command", true), ("the_alternate", false), ("free_s", false), ("arg_x", true), ("own_m", true)]),
+    // A value meets the other; a branch is found by exactly its name.
+    (1, &[("one_a", false), ("two_b", false), ("one-a", true)]),
+    (2, &[("one_a", false), ("two_b", true), ("free_m", true)]),
+    (11, &[("one_a", false), ("two_b", false), ("two-b", true), ("one-a", true)]),
+    // A member meets the other one of its struct, an inherited one, and one of the base where its struct is a branch's.
+    (4, &[("type_t", true), ("more_m", false), ("own_m", false), ("free_m", false), ("arg_x", true)]),
+    (7, &[("type_t", false), ("more_m", false), ("own_m", true), ("free_m", false)]),
+    (9, &[("type_t", false), ("more_m", false), ("own_m", false), ("free_m", true), ("one_a", true)]),
+    (13, &[("alt_n", true), ("alt_z", false), ("int_n", true)]),
 ];
 
 /// Tables over `NAMES`.

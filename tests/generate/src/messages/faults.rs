@@ -4,6 +4,7 @@ use super::types::Types;
 use super::{Draft, MOST_BYTES, MOST_LEVELS};
 use crate::integers::range;
 use crate::model::{Definition, Member};
+use crate::names::met;
 use crate::print::Dialect;
 use crate::texts;
 use crate::tree::{Shape, Tree};
@@ -110,6 +111,7 @@ fn unknown_command(random: &mut Random, types: &Types, draft: &mut Draft) {
     let own = draft.name;
     names.extend(["", "str", "no-such-command", "é", "\u{0}", "execute"].map(str::to_string));
     names.extend([format!("{own}x"), format!("{own}\u{0}"), format!(" {own}"), own[1..].to_string()]);
+    names.extend(met(random, own));
     names.retain(|name| !is_command(name));
     let name = random.pick(&names);
     for (key, value) in &mut draft.envelope {
@@ -169,13 +171,22 @@ fn break_value(
         14 => strings(&["false", "0", "\"null\"", "[]", "{}", "\"\""]),
         15 => return false,
         _ => match types.referred(reference) {
-            Some(Definition::Enum { .. }) => strings(&["\"no such value\"", "0", "null", "[]", "{}", "\"\\u0000\""]),
+            Some(Definition::Enum { values, .. }) => wrong_values(random, values),
             Some(Definition::Alternate { .. }) => strings(&["[]", "[null]", "[{}]"]),
             _ => return break_object(random, types, value, reference, arguments),
         },
     };
     *value = Tree::raw(random.pick(&wrong));
     true
+}
+
+/// What is no value of an enum: one that only meets a value in C, sometimes.
+fn wrong_values(random: &mut Random, values: &[String]) -> Vec<String> {
+    let value = random.pick(values);
+    match met(random, value).filter(|_| random.one_in(2)) {
+        Some(other) => vec![format!("\"{other}\"")],
+        None => strings(&["\"no such value\"", "0", "null", "[]", "{}", "\"\\u0000\""]),
+    }
 }
 
 fn strings(texts: &[&str]) -> Vec<String> {
@@ -196,11 +207,13 @@ pub fn wrong_integers(reference: u32) -> Vec<String> {
     wrong
 }
 
-/// A struct's or union's object with a member too many, one too few, or no object.
+/// A struct's or union's object with a member too many, one too few, one under a name that only meets its own in C; or
+/// no object.
 fn break_object(random: &mut Random, types: &Types, value: &mut Tree, reference: u32, arguments: bool) -> bool {
-    match random.below(3) {
+    match random.below(4) {
         0 if !arguments => *value = Tree::raw(*random.pick(&["[]", "null", "\"\"", "0", "[{}]", "true"])),
         1 => return drop_mandatory_member(random, &mandatory_members(types, reference), value),
+        2 => return respell_member(random, value),
         _ => add_unknown_member(random, value),
     }
     true
@@ -222,6 +235,20 @@ fn drop_mandatory_member(random: &mut Random, mandatory: &[String], value: &mut 
     let before = members.len();
     members.retain(|(key, _)| key.as_text() != Some(name));
     members.len() < before
+}
+
+/// Gives a member another name that meets its own in C: no member has it.
+fn respell_member(random: &mut Random, value: &mut Tree) -> bool {
+    let Some(members) = value.members_mut().filter(|members| !members.is_empty()) else {
+        return false;
+    };
+    let place = random.below(members.len());
+    let key = &mut members[place].0;
+    match met(random, key.as_text().unwrap_or_default()) {
+        Some(other) => *key = Tree::text(other),
+        None => return false,
+    }
+    true
 }
 
 fn add_unknown_member(random: &mut Random, value: &mut Tree) {

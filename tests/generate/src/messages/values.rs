@@ -5,6 +5,7 @@ use std::collections::HashSet;
 use super::types::Types;
 use crate::integers::range;
 use crate::model::{built_in, Definition, Fields, Member, Type};
+use crate::names::meeting_pair;
 use crate::print::Dialect;
 use crate::texts;
 use crate::tree::{Shape, Tree};
@@ -149,12 +150,16 @@ impl<'a, 'b> Maker<'a, 'b> {
         }
     }
 
-    /// Any value without a repeated key, sometimes of as many levels as there may be.
+    /// Any value without a repeated key, sometimes of as many levels as there may be, or with keys that meet in C.
     pub fn any(&mut self, levels: usize) -> Tree {
         let mut size = self.random.below(6);
-        let mut tree = match self.random.one_in(12) {
-            true => texts::nested_value(self.random, Dialect::Message, levels),
-            false => texts::value(self.random, Dialect::Message, levels.min(4), &mut size),
+        let mut tree = match self.random.below(12) {
+            0 => texts::nested_value(self.random, Dialect::Message, levels),
+            1 if levels > 0 => {
+                let (one, other) = meeting_pair(self.random);
+                Tree::object([one, other].map(|key| (Tree::text(key), Tree::raw("0"))).to_vec())
+            }
+            _ => texts::value(self.random, Dialect::Message, levels.min(4), &mut size),
         };
         drop_repeated_keys(&mut tree);
         tree

@@ -1,20 +1,22 @@
 //! Definitions that are each refused with one number, whatever valid schema they stand in.
 
-use std::collections::HashSet;
-
-use crate::model::Names;
+use super::meeting;
+use crate::names::{met, Names};
 use crate::tree::{parse_schema, Tree};
 use crate::Random;
 
-/// Trees with one fault of a number from 3 to 11; `%a` to `%d` stand for names not yet used.
+/// Trees with one fault of a number from 3 to 11; `%a` to `%d` stand for names not yet used, `%1` and `%2` for two such
+/// that meet in C.
 pub fn trees(random: &mut Random, names: &mut Names, number: u32) -> Vec<Tree> {
-    let texts = texts(number);
-    let text = match (number, random.one_in(4)) {
-        (3, true) => long_object(random),
-        (5, true) => bad_name_anywhere(random),
-        (6, true) => long_list(random),
-        (8, true) => long_chain(random),
-        _ => random.pick(texts).to_string(),
+    let text = match (number, random.below(4)) {
+        (3, 0) => long_object(random),
+        (5, 0) => bad_name_anywhere(random),
+        (6, 0) => long_list(random),
+        (8, 0) => long_chain(random),
+        (8, 1) => long_inheritance(random),
+        (9, 1) => long_union(random),
+        (_, 2) => meeting::fault(random, number).unwrap_or_else(|| random.pick(texts(number)).to_string()),
+        _ => random.pick(texts(number)).to_string(),
     };
     parse_schema(&with_names(random, names, text))
 }
@@ -47,6 +49,10 @@ fn with_names(random: &mut Random, names: &mut Names, mut text: String) -> Strin
             text = text.replace(place, &names.fresh(random));
         }
     }
+    if text.contains("%1") {
+        let (one, other) = names.fresh_pair(random);
+        text = text.replace("%1", &one).replace("%2", &other);
+    }
     text
 }
 
@@ -60,28 +66,59 @@ pub fn many_rows(random: &mut Random, names: &mut Names) -> Tree {
 
 /// Many keys of which one is there twice.
 fn long_object(random: &mut Random) -> String {
-    let members: Vec<_> = long_names(random).iter().map(|name| format!("'{name}':'int'")).collect();
-    format!("{{'struct':'%a','data':{{{}}}}}", members.join(","))
-}
-
-/// Many names of which one is there twice: in an enum, or in a struct once with and once without `*`.
-fn long_list(random: &mut Random) -> String {
-    let names = long_names(random);
-    if random.one_in(2) {
-        return format!("{{'enum':'%a','data':['{}']}}", names.join("','"));
-    }
-    let mut seen = HashSet::new();
-    let star = |name: &String| if seen.insert(name.clone()) { "" } else { "*" };
-    let members: Vec<_> =
-        names.iter().map(star).zip(&names).map(|(star, name)| format!("'{star}{name}':'int'")).collect();
-    format!("{{'struct':'%a','data':{{{}}}}}", members.join(","))
-}
-
-fn long_names(random: &mut Random) -> Vec<String> {
-    let mut names: Vec<_> = (0..random.between(20, 120)).map(|i| format!("n{i}")).collect();
+    let mut names = long_names(random);
     let again = random.pick(&names).clone();
     names.insert(random.below(names.len() + 1), again);
-    names
+    format!("{{'struct':'%a','data':{{{}}}}}", members(&names))
+}
+
+/// Many names of which one is there twice, or two meet: in an enum, or in a struct once with and once without `*`.
+fn long_list(random: &mut Random) -> String {
+    let names = long_names(random);
+    let place = random.below(names.len());
+    let again = met(random, &names[place]).filter(|_| random.one_in(2)).unwrap_or_else(|| names[place].clone());
+    let (earlier, later) = names.split_at(random.between(place, names.len()));
+    if random.one_in(2) {
+        return format!("{{'enum':'%a','data':['{}']}}", [earlier, &[again], later].concat().join("','"));
+    }
+    let again = format!("*{again}");
+    format!("{{'struct':'%a','data':{{{}}}}}", members(&[earlier, &[again], later].concat()))
+}
+
+/// A struct and its base with many members, two of which are equal or meet.
+fn long_inheritance(random: &mut Random) -> String {
+    let (own, inherited) = clashing_lists(random);
+    let (own, inherited) = (members(&own), members(&inherited));
+    format!("{{'struct':'%a','data':{{{inherited}}}}}{{'struct':'%b','base':'%a','data':{{{own}}}}}")
+}
+
+/// A union's base and its branch with many members, two of which are equal or meet.
+fn long_union(random: &mut Random) -> String {
+    let (branch, base) = clashing_lists(random);
+    let (branch, base) = (members(&branch), members(&base));
+    format!(
+        "{{'enum':'%a','data':['x']}}{{'struct':'%b','data':{{{branch}}}}}
+         {{'union':'%c','base':{{{base},'t':'%a'}},'discriminator':'t','data':{{'x':'%b'}}}}"
+    )
+}
+
+/// Two lists of many names, apart but for one name that stands in both, or meets in C.
+fn clashing_lists(random: &mut Random) -> (Vec<String>, Vec<String>) {
+    let [mut one, other] = [(); 2].map(|_| long_names(random));
+    one.iter_mut().for_each(|name| name.insert(0, 'k'));
+    let shared = random.pick(&other).clone();
+    let place = random.below(one.len());
+    one[place] = met(random, &shared).unwrap_or(shared);
+    (one, other)
+}
+
+/// Many names, apart; most have one of the two bytes that are one in C.
+fn long_names(random: &mut Random) -> Vec<String> {
+    (0..random.between(20, 120)).map(|i| format!("n{}{i}", random.pick(&["", "-", "_"]))).collect()
+}
+
+fn members(names: &[String]) -> String {
+    names.iter().map(|name| format!("'{name}':'int'")).collect::<Vec<_>>().join(",")
 }
 
 /// 17 structs or more, in a row that ends or that doesn't.

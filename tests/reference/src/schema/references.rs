@@ -1,20 +1,20 @@
-//! Names that refer, found (number 7, and the discriminators of 9). Good names have no backslash, so one with an
-//! escape equals none.
+//! Names that refer, found (number 7, and the discriminators of 9), each by exactly its bytes. Good names have no
+//! backslash, so one with an escape equals none.
 
 use super::layout::{Reference, Span, Target};
 use super::Refusal;
 use crate::builtins;
-use crate::names::NameMap;
 use crate::rows::{Rows, FIRST_ROW_REFERENCE, ROW};
+use crate::rules::Definitions;
 
 /// A word to be written: row, place, word.
 pub type Found = (usize, usize, u32);
 
 /// The types and structs that names refer to.
-pub fn find_definitions(rows: Rows, names: &[Reference], definitions: &NameMap<usize>) -> Result<Vec<Found>, Refusal> {
+pub fn find_definitions(rows: Rows, names: &[Reference], definitions: &Definitions) -> Result<Vec<Found>, Refusal> {
     let find = |reference: &Reference| {
         let name = bytes(rows, reference.name);
-        let row = || definitions.get(name).copied();
+        let row = || definitions.find(name);
         match reference.target {
             Target::Type => builtins::number_of(name).or_else(|| type_reference(rows, row()?)),
             _ => row().filter(|&row| rows.is_named_struct(row)).map(|row| row as u32 + 1),

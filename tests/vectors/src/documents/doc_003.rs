@@ -89,7 +89,7 @@ const JOINED: &[Schema] = &[
     Rows(&[BLOCK_STATS, QUERY_BLOCKSTATS], 6),
     Rows(&[MY_COMMAND], 7),
     Refused(&[Lines(1424, 1431)], 4, "events are left out"),
-    // All of the document that 01 has: 4, 4, 4, 9, 5, 3, 4, 1, 3, 2, 3, 3 and 7 rows.
+    // All of the document that isn't left out: 4, 4, 4, 9, 5, 3, 4, 1, 3, 2, 3, 3 and 7 rows.
     Rows(
         &[
             MY_ENUM,

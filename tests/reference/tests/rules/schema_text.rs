@@ -1,4 +1,4 @@
-//! Schema text and the shapes of definitions: the open points, in their order.
+//! Schema text and the shapes of definitions: the points that are easily read past.
 
 use crate::common::*;
 

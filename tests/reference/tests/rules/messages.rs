@@ -1,4 +1,4 @@
-//! Messages: the open points, in their order.
+//! Messages: the points that are easily read past.
 
 use crate::common::*;
 use reference::message::check;
@@ -104,6 +104,20 @@ fn a_string_that_names_no_command_is_27() {
     let types = "{'struct':'s','data':{}}{'enum':'e','data':['v']}";
     assert_eq!(message_number(types, r#"{"execute":"s"}"#), 27);
     assert_eq!(message_number(types, r#"{"execute":"v"}"#), 27);
+}
+
+#[test]
+fn names_that_meet_in_c_are_told_apart() {
+    let schema = "{'enum':'e','data':['to-day']}{'command':'stop-lot','data':{'lot-id':'e','*any':'any'}}";
+    let message = |command: &str, member: &str, value: &str| {
+        format!(r#"{{"execute":"{command}","arguments":{{"{member}":"{value}"}}}}"#)
+    };
+    assert_eq!(message_number(schema, message("stop-lot", "lot-id", "to-day")), 0);
+    assert_eq!(message_number(schema, message("stop_lot", "lot-id", "to-day")), 27);
+    assert_eq!(message_number(schema, message("stop-lot", "lot_id", "to-day")), 29);
+    assert_eq!(message_number(schema, message("stop-lot", "lot-id", "to_day")), 29);
+    all_are(0, &[r#"{"execute":"c","id":{"a-b":1,"a_b":2},"arguments":{"a":{"-":1,"_":2}}}"#]);
+    all_are(25, &[r#"{"execute":"c","id":{"a-b":1,"a_b":2,"a\u002db":3}}"#]);
 }
 
 #[test]

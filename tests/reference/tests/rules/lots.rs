@@ -1,4 +1,4 @@
-//! P1 to P12 of 01, and its cases at the limits.
+//! P1 to P12 of docs/REFERENCE.md, Cases, and cases at the limits.
 
 use crate::common::*;
 use reference::message::{check, check_into};

@@ -1,4 +1,4 @@
-//! Names, and numbers 5 to 13: the open points, in their order.
+//! Names, and numbers 5 to 13: the points that are easily read past.
 
 use crate::common::*;
 
@@ -103,6 +103,65 @@ fn six_looks_at_a_list_s_own_names() {
     all_are(6, &[&union("{'t':'E','*t':'E'}", "t", "'v':'S'")]);
     all_are(8, &["{'struct':'s','base':'S','data':{'*m':'int'}}"]);
     all_are(0, &["{'enum':'e','data':['e','E','str']}", "{'struct':'s','data':{'s':'s','int':'int'}}"]);
+}
+
+#[test]
+fn names_that_meet_in_c_are_equal_in_every_list() {
+    for (one, other) in [("a-b", "a_b"), ("a-", "a_"), ("a-b_c", "a_b-c"), ("a--b", "a__b"), ("a-b_c", "a_b_c")] {
+        all_are(6, &[&format!("{{'command':'{one}'}}{{'struct':'{other}','data':{{}}}}")]);
+        all_are(6, &[&format!("{{'enum':'e','data':['{one}','x','{other}']}}")]);
+        all_are(6, &[&format!("{{'struct':'s','data':{{'{one}':'int','*{other}':'int'}}}}")]);
+        all_are(6, &[&format!("{{'command':'c','data':{{'*{one}':'int','{other}':'int'}}}}")]);
+        all_are(6, &[&union(&format!("{{'t':'E','{one}':'int','{other}':'int'}}"), "t", "'v':'T'")]);
+        all_are(6, &[&union("{'t':'E'}", "t", &format!("'{one}':'T','{other}':'T'"))]);
+        all_are(6, &[&format!("{{'alternate':'a','data':{{'{one}':'null','{other}':'bool'}}}}")]);
+    }
+    all_are(0, &["{'enum':'e','data':['a-b','a-c','ab','A-b','a--b','a-b-','amb','aOb','0-b','0b']}"]);
+    all_are(6, &["{'enum':'e','data':['0-b','0_b']}", "{'struct':'s','data':{'a-b':'None','a_b':'None'}}"]);
+}
+
+#[test]
+fn a_member_meets_inherited_ones_and_a_branch_s_those_of_the_base() {
+    let base = "{'struct':'b','data':{'lot-id':'int'}}{'struct':'c','base':'b','data':{}}";
+    for name in ["lot_id", "*lot_id", "lot-id"] {
+        all_are(8, &[&format!("{base}{{'struct':'s','base':'b','data':{{'x':'int','{name}':'int'}}}}")]);
+        all_are(8, &[&format!("{base}{{'struct':'s','base':'c','data':{{'{name}':'int'}}}}")]);
+        for branch in ["b", "c"] {
+            let over = union(&format!("{{'t':'E','{name}':'int'}}"), "t", &format!("'v':'{branch}'"));
+            all_are(9, &[&format!("{base}{over}")]);
+        }
+    }
+    all_are(0, &[&format!("{base}{{'struct':'s','base':'c','data':{{'lotid':'int','lot-':'int'}}}}")]);
+    let over = union("{'t':'E'}", "t", "'v':'b','w':'d'");
+    all_are(0, &[&format!("{base}{{'struct':'d','data':{{'lot_id':'int'}}}}{over}")]);
+}
+
+#[test]
+fn names_that_refer_are_exact() {
+    let types = "{'struct':'a-b','data':{'k-k':'e-e'}}{'enum':'e-e','data':['x-x']}";
+    let wrong = [
+        "{'struct':'s','data':{'x':'a_b'}}",
+        "{'struct':'s','base':'a_b','data':{}}",
+        "{'command':'c','data':'a_b'}",
+        "{'command':'c','returns':'a_b'}",
+        "{'alternate':'a','data':{'x':'e_e'}}",
+    ];
+    for text in wrong {
+        all_are(7, &[&format!("{types}{text}")]);
+        all_are(0, &[&format!("{types}{}", text.replace('_', "-"))]);
+    }
+    let over = |base: &str, discriminator: &str, branch: &str, of: &str| {
+        format!("{types}{}", union(&format!("'{base}'"), discriminator, &format!("'{branch}':'{of}'")))
+    };
+    all_are(0, &[&over("a-b", "k-k", "x-x", "T")]);
+    all_are(7, &[&over("a_b", "k-k", "x-x", "T"), &over("a-b", "k-k", "x-x", "a_b")]);
+    all_are(9, &[&over("a-b", "k_k", "x-x", "T"), &over("a-b", "k-k", "x_x", "T")]);
+}
+
+#[test]
+fn keys_that_meet_in_c_are_two_keys() {
+    all_are(4, &["{'a-b':true,'a_b':true}"]);
+    all_are(3, &["{'a-b':true,'a_b':true,'a-b':true}"]);
 }
 
 #[test]

@@ -1,4 +1,4 @@
-//! Rows and sound tables: the open points, in their order.
+//! Rows and sound tables: the points that are easily read past.
 
 use crate::common::*;
 use reference::table::is_sound;
@@ -160,6 +160,27 @@ fn a_discriminator_of_equal_name_elsewhere_is_unsound() {
         {'union':'u','base':{'t':'E'},'discriminator':'t','data':{'v':'S'}}";
     assert_eq!(table(schema.as_bytes())[5 * 8 + 5], 8);
     assert!(!sound_with(schema, &[(5, 6, 4)]));
+}
+
+#[test]
+fn a_table_whose_names_meet_in_c_is_unsound() {
+    let sound = |schema: &str, apart: &str, met: &str| {
+        let rows = table(schema.replace('!', apart).as_bytes());
+        assert!(is_sound(&rows, schema.replace('!', apart).as_bytes()), "{schema}");
+        is_sound(&rows, schema.replace('!', met).as_bytes())
+    };
+    assert!(!sound("{'enum':'a-b','data':[]}{'command':'!'}", "axb", "a_b"));
+    assert!(!sound("{'enum':'E','data':['a-b','!']}", "axb", "a_b"));
+    assert!(!sound("{'struct':'S','data':{'a-b':'int','*!':'int'}}", "axb", "a_b"));
+    assert!(!sound("{'struct':'S','data':{'a-b':'int'}}{'struct':'T','base':'S','data':{'!':'int'}}", "axb", "a_b"));
+    let union = "{'enum':'E','data':['v']}{'struct':'S','data':{'!':'int'}}
+        {'union':'u','base':{'a-b':'E'},'discriminator':'a-b','data':{'v':'S'}}";
+    assert!(!sound(union, "axb", "a_b"));
+    assert!(sound("{'struct':'S','data':{'a-b':'int'}}{'struct':'T','data':{'!':'int'}}", "axb", "a_b"));
+    let branch = "{'enum':'E','data':['a-b','x']}{'struct':'S','data':{}}
+        {'union':'u','base':{'t':'E'},'discriminator':'t','data':{'a-b':'S'}}";
+    let rows = table(branch.as_bytes());
+    assert!(!is_sound(&rows, branch.replace("'a-b':", "'a_b':").as_bytes()), "a branch is found exactly");
 }
 
 #[test]
