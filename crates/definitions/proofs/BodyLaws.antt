@@ -11,7 +11,7 @@ use Rattle.grammar.specs.Tree.{Json, Fields, startOf, endOf, kindOf}
 use Rattle.grammar.specs.Tree.Kind.{string}
 use Rattle.grammar.specs.Serving.Machine.Schema.{schema}
 use Rattle.lookups.specs.Lookups.{FindsValue}
-use Rattle.rules.specs.Kinds.{alternative-kind}
+use Rattle.rules.specs.Kinds.{enum-kind, struct-kind, alternate-kind, alternative-kind}
 use Rattle.rules.specs.Types.{sameKind}
 use Rattle.rules.specs.Definitions.{Name, Body, quoted, asName, asNames, asMembers, asPairs, asData, must, may}
 use Rattle.rules.specs.Definitions.{enumBody, structBody, alternateBody}
@@ -91,22 +91,22 @@ module _ {s w : List ℕ} {k v n : ℕ} where
       ≡ (must (childRows (kind + 1)) (valueAt (text "data") (h .fs)) >>= λ rs. some (countedRows kind (h .name .start) (h .name .size) link rs)) → ListAt s w kind link k v o
   list-of kind link o h e = record { fs = h .fs; fields = h .fields; name = h .name; named = h .named; are = h .are ∙ e }
 
-  pub enum-list : (o : Option (List ℕ)) → BodyAt s w enumBody k v n o → ListAt s w 1 0 k v o
-  enum-list o h = list-of 1 0 o h (counted-body valueRow 1 0 n (h .name) enum (λ l. rw (length-map l valueRow)) asNames (valueAt (text "data") (h .fs)))
+  pub enum-list : (o : Option (List ℕ)) → BodyAt s w enumBody k v n o → ListAt s w enum-kind 0 k v o
+  enum-list o h = list-of enum-kind 0 o h (counted-body valueRow enum-kind 0 n (h .name) enum (λ l. rw (length-map l valueRow)) asNames (valueAt (text "data") (h .fs)))
 
-  pub alternate-list : (o : Option (List ℕ)) → BodyAt s w alternateBody k v n o → ListAt s w 7 0 k v o
-  alternate-list o h = list-of 7 0 o h (counted-body (pairRow alternative-kind) 7 0 n (h .name) alternate (λ l. rw (length-map l (pairRow alternative-kind))) asPairs (valueAt (text "data") (h .fs)))
+  pub alternate-list : (o : Option (List ℕ)) → BodyAt s w alternateBody k v n o → ListAt s w alternate-kind 0 k v o
+  alternate-list o h = list-of alternate-kind 0 o h (counted-body (pairRow alternative-kind) alternate-kind 0 n (h .name) alternate (λ l. rw (length-map l (pairRow alternative-kind))) asPairs (valueAt (text "data") (h .fs)))
 
   pub struct-list : {base link : ℕ} {r : Bool} → FindsValue schema s w k (text "base") base → BaseFits w base r → r ≡ true → Links w base n link
-      → (o : Option (List ℕ)) → BodyAt s w structBody k v n o → ListAt s w 3 link k v o
+      → (o : Option (List ℕ)) → BodyAt s w structBody k v n o → ListAt s w struct-kind link k v o
   struct-list {link = link} u e t l o h =
       let b = valueAt (text "base") (h .fs) in
       let f = found-at (h .fields) u in
       let x = is-true (may asName b) (λ _. true) (e .told s b f ∙ t) in
       let y : link ≡ ifAbsent 0 packed (x .0) = l .told s b f (x .0 >>= λ i. some (named i)) (base-data b (x .0) (x .1)) ∙ base-link n (x .0) in
-      list-of 3 link o h
+      list-of struct-kind link o h
       (ap (λ (i : Option (Option Name)). (must asMembers (valueAt (text "data") (h .fs)) >>= λ ms. i >>= λ b. some (struct b ms)) >>= λ b. some (bodyRows n (h .name) b)) (x .1)
-      ∙ counted-body memberRow 3 link n (h .name) (λ ms. struct (x .0) ms) (λ ms. rw (y, length-map ms memberRow)) asMembers (valueAt (text "data") (h .fs)))
+      ∙ counted-body memberRow struct-kind link n (h .name) (λ ms. struct (x .0) ms) (λ ms. rw (y, length-map ms memberRow)) asMembers (valueAt (text "data") (h .fs)))
 
 pub struct-refused : {s w : List ℕ} {k v n base : ℕ} {r : Bool} → FindsValue schema s w k (text "base") base → BaseFits w base r → r ≡ false
     → (o : Option (List ℕ)) → BodyAt s w structBody k v n o → o ≡ none

@@ -48,7 +48,7 @@ member-row : (x e : ℕ) (b : Bool) (t : TypeText)
 member-row x e true t = refl
 member-row x e false t = refl
 
-same-row : {p q r i j k : ℕ} (n : Name) → p ≡ i → q ≡ j → r ≡ k → row 4 n j k i 0 ≡ row member-kind n q r p 0
+same-row : {p q r i j k : ℕ} (n : Name) → p ≡ i → q ≡ j → r ≡ k → row member-kind n j k i 0 ≡ row member-kind n q r p 0
 same-row n e f g = cc
 
 type-of : {s w : List ℕ} {a : ℕ} {r x : TypeRead} {o : Option (List ℕ)} → TakesType w (a + 1) r → r ≡ x → (v : FieldAt s w memberField a o) → TypeTold (asType (v .value)) x
@@ -59,7 +59,7 @@ module _ {s w old : List ℕ} {a n : ℕ} where
     pub value-refused : t ≡ false → PutsRows (ValueAt s w a) old old n 1 Refused
     value-refused f = refused refl (λ (o : Option (List ℕ)) (v : ValueAt s w a o). v .are ∙ rw (no-name (v .held) q f))
 
-    pub value-put : {new : List ℕ} → t ≡ true → NamedRowPut w old new a 0 n 2 0 0 0 0 → PutsRows (ValueAt s w a) old new n 1 (Rows (n + 1))
+    pub value-put : {new : List ℕ} → t ≡ true → NamedRowPut w old new a 0 n value-kind 0 0 0 0 → PutsRows (ValueAt s w a) old new n 1 (Rows (n + 1))
     value-put f h = one-row h (λ (o : Option (List ℕ)) (v : ValueAt s w a o). let u = is-name (v .held) q f in (u .name, u .named, v .are ∙ rw (u .is)))
 
   module _ (kind : ℕ) {b : ℕ} {t : Bool} (e : b ≡ a + 1) (q : t ≡ stringKind (nodeKind w b)) where
@@ -77,7 +77,7 @@ module _ {s w old : List ℕ} {a n : ℕ} where
     pub member-refused : r ≡ Types.Refused → PutsRows (FieldAt s w memberField a) old old n 1 Refused
     member-refused e = refused refl (λ (o : Option (List ℕ)) (v : FieldAt s w memberField a o). v .are ∙ rw (type-of h e v))
 
-    pub member-put : {new : List ℕ} {place list star : ℕ} → r ≡ Types.Taken place list → Star s w a star → NamedRowPut w old new a star n 4 place list star 0
+    pub member-put : {new : List ℕ} {place list star : ℕ} → r ≡ Types.Taken place list → Star s w a star → NamedRowPut w old new a star n member-kind place list star 0
         → PutsRows (FieldAt s w memberField a) old new n 1 (Rows (n + 1))
     member-put {place = place} {list} {star} e g m =
         one-row m (λ (o : Option (List ℕ)) (v : FieldAt s w memberField a o).

@@ -12,7 +12,7 @@ use Rattle.grammar.specs.Tree.{Json}
 use Rattle.grammar.proofs.Booleans.{none-not-some, some-is}
 use Rattle.text.specs.Nodes.{nodeKind}
 use Rattle.lookups.specs.Lookups.{stringKind}
-use Rattle.rules.specs.Kinds.{value-kind, member-kind}
+use Rattle.rules.specs.Kinds.{value-kind, struct-kind, member-kind}
 use Rattle.rules.specs.Definitions.{Member, Data, asNames, asMembers, asPairs, asData, must, may}
 use Rattle.rules.specs.Definitions.Data.{inline}
 use Rattle.rules.specs.Values.{_>>=_}
@@ -108,7 +108,7 @@ module _ {A : Type 0} (f : A → List ℕ) (kind start size link : ℕ) (rows : 
 
 -- members written out
 inline-rows : (x : Option (List Member))
-    → (((x >>= λ ms. some (inline ms)) >>= λ d. some (some d)) >>= λ d. some (inlineWords d)) ≡ ((x >>= λ ms. some (map memberRow ms)) >>= λ rs. some (countedRows 3 0 0 0 rs))
+    → (((x >>= λ ms. some (inline ms)) >>= λ d. some (some d)) >>= λ d. some (inlineWords d)) ≡ ((x >>= λ ms. some (map memberRow ms)) >>= λ rs. some (countedRows struct-kind 0 0 0 rs))
 inline-rows none = refl
 inline-rows (some ms) = rw (length-map ms memberRow)
 
@@ -128,10 +128,10 @@ module _ {s w : List ℕ} {k : ℕ} where
         go none f q = absurd (z (f .found))
         go (some j) f q = let u = is-name (held-there f) e y in q ∙ rw (u .kind)
 
-    pub inline-members : t ≡ false → (o : Option (List ℕ)) → InlineAt s w k o → CountedAt s w 3 0 0 0 k o
+    pub inline-members : t ≡ false → (o : Option (List ℕ)) → InlineAt s w k o → CountedAt s w struct-kind 0 0 0 k o
     inline-members y o v = record { value = v .value; found = v .found; are = go (v .value) (v .found) (v .are) }
       where
-        go : (x : Option Json) → Found s w x k → o ≡ (may asData x >>= λ d. some (inlineWords d)) → o ≡ (must (childRows 4) x >>= λ rs. some (countedRows 3 0 0 0 rs))
+        go : (x : Option Json) → Found s w x k → o ≡ (may asData x >>= λ d. some (inlineWords d)) → o ≡ (must (childRows member-kind) x >>= λ rs. some (countedRows struct-kind 0 0 0 rs))
         go none f q = absurd (z (f .found))
         go (some j) f q =
             q ∙ rw (no-string (held-there f) e y) (inline-rows (asMembers j))

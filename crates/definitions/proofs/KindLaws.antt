@@ -13,7 +13,7 @@ use Rattle.grammar.specs.Keys.{keysOf, keysOnce, keysOnceF}
 use Rattle.grammar.specs.Serving.Machine.Schema.{schema}
 use Rattle.text.specs.Nodes.{nodeKind}
 use Rattle.lookups.specs.Lookups.{stringKind, FindsValue, NoOtherKeys}
-use Rattle.rules.specs.Kinds.{enum-kind, struct-kind, union-kind, alternate-kind}
+use Rattle.rules.specs.Kinds.{enum-kind, struct-kind, union-kind, alternate-kind, command-kind}
 use Rattle.rules.specs.Definitions.{Name, Body, Definition, only, commandBody, asDefinition}
 use Rattle.rules.specs.Values.{_>>=_, asFields, anyOf, valueAt}
 use Rattle.definitions.specs.declared.definitions.KindKey.{KindKey}
@@ -78,42 +78,42 @@ there-at {name = name} {fs = fs} h f z = somewhere (valueAt name fs) (found-at h
 
 -- a definition has the kind of the first kind key that it has
 module _ (fs : Fields) {j : Json} where
-  is-enum : valueAt (text "enum") fs ≡ some j → asDefinition fs ≡ kindOnly 1 fs j
+  is-enum : valueAt (text "enum") fs ≡ some j → asDefinition fs ≡ kindOnly enum-kind fs j
   is-enum e = rw e
 
   module _ (a : valueAt (text "enum") fs ≡ none) where
-    is-struct : valueAt (text "struct") fs ≡ some j → asDefinition fs ≡ kindOnly 3 fs j
+    is-struct : valueAt (text "struct") fs ≡ some j → asDefinition fs ≡ kindOnly struct-kind fs j
     is-struct e = rw (a, e)
 
     module _ (b : valueAt (text "struct") fs ≡ none) where
-      is-union : valueAt (text "union") fs ≡ some j → asDefinition fs ≡ kindOnly 5 fs j
+      is-union : valueAt (text "union") fs ≡ some j → asDefinition fs ≡ kindOnly union-kind fs j
       is-union e = rw (a, b, e)
 
       module _ (c : valueAt (text "union") fs ≡ none) where
-        is-alternate : valueAt (text "alternate") fs ≡ some j → asDefinition fs ≡ kindOnly 7 fs j
+        is-alternate : valueAt (text "alternate") fs ≡ some j → asDefinition fs ≡ kindOnly alternate-kind fs j
         is-alternate e = rw (a, b, c, e)
 
-        is-command : valueAt (text "alternate") fs ≡ none → valueAt (text "command") fs ≡ some j → asDefinition fs ≡ kindOnly 9 fs j
+        is-command : valueAt (text "alternate") fs ≡ none → valueAt (text "command") fs ≡ some j → asDefinition fs ≡ kindOnly command-kind fs j
         is-command d e = rw (a, b, c, d, e)
 
 module _ {s w : List ℕ} {k e : ℕ} (f : FindsValue schema s w k (text "enum") e) where
-  pub kind-enum : (e ≡ 0 → ⊥) → FindsKind s w k (Key 1 e)
+  pub kind-enum : (e ≡ 0 → ⊥) → FindsKind s w k (Key enum-kind e)
   kind-enum z = record { told = λ fs h. let v = there-at h f z in (v .value, held-there (v .found), is-enum fs (v .is)) }
 
   module _ {t : ℕ} (a : e ≡ 0) (g : FindsValue schema s w k (text "struct") t) where
-    pub kind-struct : (t ≡ 0 → ⊥) → FindsKind s w k (Key 3 t)
+    pub kind-struct : (t ≡ 0 → ⊥) → FindsKind s w k (Key struct-kind t)
     kind-struct z = record { told = λ fs h. let v = there-at h g z in (v .value, held-there (v .found), is-struct fs (absent-at h f a) (v .is)) }
 
     module _ {u : ℕ} (b : t ≡ 0) (l : FindsValue schema s w k (text "union") u) where
-      pub kind-union : (u ≡ 0 → ⊥) → FindsKind s w k (Key 5 u)
+      pub kind-union : (u ≡ 0 → ⊥) → FindsKind s w k (Key union-kind u)
       kind-union z = record { told = λ fs h. let v = there-at h l z in (v .value, held-there (v .found), is-union fs (absent-at h f a) (absent-at h g b) (v .is)) }
 
       module _ {x : ℕ} (c : u ≡ 0) (m : FindsValue schema s w k (text "alternate") x) where
-        pub kind-alternate : (x ≡ 0 → ⊥) → FindsKind s w k (Key 7 x)
+        pub kind-alternate : (x ≡ 0 → ⊥) → FindsKind s w k (Key alternate-kind x)
         kind-alternate z = record { told = λ fs h. let v = there-at h m z in (v .value, held-there (v .found), is-alternate fs (absent-at h f a) (absent-at h g b) (absent-at h l c) (v .is)) }
 
         module _ {y : ℕ} (d : x ≡ 0) (p : FindsValue schema s w k (text "command") y) where
-          pub kind-command : (y ≡ 0 → ⊥) → FindsKind s w k (Key 9 y)
+          pub kind-command : (y ≡ 0 → ⊥) → FindsKind s w k (Key command-kind y)
           kind-command z =
               record { told = λ fs h. let v = there-at h p z in (v .value, held-there (v .found), is-command fs (absent-at h f a) (absent-at h g b) (absent-at h l c) (absent-at h m d) (v .is)) }
 

@@ -48,7 +48,7 @@ scalar-small s a e (num true t) = omega arith
 scalar-small s a e (num false t) = omega arith
 scalar-small s a e (str cs) = go (plainString s a e)
   where
-    go : (b : Bool) → cond b plain-string-node other-string-node < 8
+    go : (b : Bool) → cond b plain-string-node other-string-node < array-node
     go true = omega arith
     go false = omega arith
 

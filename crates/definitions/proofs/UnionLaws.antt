@@ -93,7 +93,7 @@ module _ {s w : List ℕ} {k v n b : ℕ} (f : FindsValue schema s w k (text "ba
           }
 
 same-union : {l c t i j k : ℕ} {rs : List (List ℕ)} (ps : List Pair) (name : Name) (xs : List ℕ) → l ≡ i → c ≡ j → t ≡ k → rs ≡ map (pairRow branch-kind) ps
-    → row 5 name l c t 0 ++ (xs ++ concat rs) ≡ row union-kind name i j k 0 ++ xs ++ concat (map (pairRow branch-kind) ps)
+    → row union-kind name l c t 0 ++ (xs ++ concat rs) ≡ row union-kind name i j k 0 ++ xs ++ concat (map (pairRow branch-kind) ps)
 same-union {i = i} {j} {k} ps name xs e f g h = cc (append-assoc (row union-kind name i j k 0) xs (concat (map (pairRow branch-kind) ps)))
 
 -- the rows of a union, out of what was put
@@ -101,7 +101,7 @@ module _ {s w : List ℕ} {v b t d n : ℕ} {old mid : List ℕ} {next most : �
   pub union-bad-base : r ≡ Refused → (o : Option (List ℕ)) → UnionAt s w v b t d n o → o ≡ none
   union-bad-base q o u = u .are ∙ rw (none-of some (asData (u .base)) (inline-none h (u .base-found) q))
 
-  module _ {first : ℕ} (q : r ≡ Rows first) {late : List ℕ} {more : ℕ} {p : Put} (g : PutsRows (ChildrenAt s w 6 d) mid late first more p) where
+  module _ {first : ℕ} (q : r ≡ Rows first) {late : List ℕ} {more : ℕ} {p : Put} (g : PutsRows (ChildrenAt s w branch-kind d) mid late first more p) where
     pub union-bad-branches : p ≡ Refused → (o : Option (List ℕ)) → UnionAt s w v b t d n o → o ≡ none
     union-bad-branches y o u =
         let x : must asPairs (u .branches) ≡ none = none-of (map (pairRow branch-kind)) (must asPairs (u .branches)) (sym (must-then (map (pairRow branch-kind)) asPairs (u .branches)) ∙ children-none g (u .branches-found) y) in
@@ -122,7 +122,7 @@ module _ {s w : List ℕ} {v b t d n : ℕ} {old mid : List ℕ} {next most : �
         let j : discriminator ≡ packed (u .discriminator) = z .told (u .discriminator) (u .discriminator-at) in
         let own : RowPut late new n (row union-kind (u .name) link count discriminator 0) = k .told (u .name) (u .named) in
         let all : RowPut old new n (row union-kind (u .name) link count discriminator 0 ++ (inlineWords (some (base .0)) ++ concat (x .rs))) = put-under (omega arith) (put-after inline-size inline-words (x .put)) own in
-        let same : row 5 (u .name) link count discriminator 0 ++ (inlineWords (some (base .0)) ++ concat (x .rs)) ≡ bodyRows n (u .name) (union (base .0) (u .discriminator) (ps .0)) =
+        let same : row union-kind (u .name) link count discriminator 0 ++ (inlineWords (some (base .0)) ++ concat (x .rs)) ≡ bodyRows n (u .name) (union (base .0) (u .discriminator) (ps .0)) =
         same-union (ps .0) (u .name) (inlineWords (some (base .0))) a f j (ps .2) in
         record {
           xs = bodyRows n (u .name) (union (base .0) (u .discriminator) (ps .0));

@@ -23,7 +23,7 @@ use Rattle.definitions.specs.declared.definitions.KindKey.{KindKey}
 use Rattle.definitions.specs.declared.definitions.KindKey.the-variants.{Key, NoKey}
 use Rattle.definitions.specs.Places.{Held, Found, Keyed, Named}
 
--- one child: a value of an enum, a member, a branch (6) or an alternative (8)
+-- one child: a value of an enum, a member, a branch or an alternative
 abbrev pub valueRow : Name → List ℕ
 valueRow v = row value-kind v 0 0 0 0
 

@@ -6,11 +6,12 @@ use lookups::counts::two_keys;
 use rules::kind;
 use strings::dialects::Dialect;
 ghost use Rattle.grammar.specs.Serving.Machine.Schema.{schema};
+ghost use Rattle.rules.specs.Kinds.{struct-kind};
 ghost use Rattle.lookups.specs.Lookups.{FindsKeys, NoOtherKeys};
 ghost use Rattle.definitions.specs.Parts.{keysFor};
 
 fn struct_keys(s: &[u8], nodes: &[u32], k: usize) -> usize
-    ensures { λ r. ⌜ FindsKeys schema (now (s .entry)) (now (nodes .entry)) k (keysFor 3) r ⌝ }
+    ensures { λ r. ⌜ FindsKeys schema (now (s .entry)) (now (nodes .entry)) k (keysFor struct-kind) r ⌝ }
 {
     let named = one_key(s, Dialect::Schema, nodes, k, b"struct");
     named + two_keys(s, Dialect::Schema, nodes, k, b"data", b"base")

@@ -1,6 +1,7 @@
 -- `definitions::put_body` meets its contract: kind by kind.
 use native.Mathlib.Omega.{arith}
 use borrow.Author.Needs.{needs}
+use Rattle.rules.specs.Kinds.{enum-kind, struct-kind, union-kind, alternate-kind}
 use Rattle.definitions.proofs.KindLaws.{body-kind, body-last}
 use Rattle.definitions.proofs.BodyLaws.{enum-list, alternate-list}
 use Rattle.definitions.proofs.Stores.{handed}
@@ -26,25 +27,25 @@ same-length : tie.Need-same-length
 same-length c = search needs
 
 returns : tie.Need-returns
-returns c = handed (omega arith) (λ o h. enum-list o (body-kind _ 1 (c .before .before .before .before .match .keys1) o h)) (c .before .before .put-list .ensures)
+returns c = handed (omega arith) (λ o h. enum-list o (body-kind _ enum-kind (c .before .before .before .before .match .keys1) o h)) (c .before .before .put-list .ensures)
 
 same-length-2 : tie.Need-same-length-2
 same-length-2 c = search needs
 
 returns-2 : tie.Need-returns-2
-returns-2 c = handed (omega arith) (body-kind _ 3 (c .before .before .before .before .match .keys2)) (c .before .before .put-struct .ensures)
+returns-2 c = handed (omega arith) (body-kind _ struct-kind (c .before .before .before .before .match .keys2)) (c .before .before .put-struct .ensures)
 
 same-length-3 : tie.Need-same-length-3
 same-length-3 c = search needs
 
 returns-3 : tie.Need-returns-3
-returns-3 c = handed (omega arith) (body-kind _ 5 (c .before .before .before .before .match .keys3)) (c .before .before .put-union .ensures)
+returns-3 c = handed (omega arith) (body-kind _ union-kind (c .before .before .before .before .match .keys3)) (c .before .before .put-union .ensures)
 
 same-length-4 : tie.Need-same-length-4
 same-length-4 c = search needs
 
 returns-4 : tie.Need-returns-4
-returns-4 c = handed (omega arith) (λ o h. alternate-list o (body-kind _ 7 (c .before .before .before .before .match .keys4) o h)) (c .before .before .put-list2 .ensures)
+returns-4 c = handed (omega arith) (λ o h. alternate-list o (body-kind _ alternate-kind (c .before .before .before .before .match .keys4) o h)) (c .before .before .put-list2 .ensures)
 
 same-length-5 : tie.Need-same-length-5
 same-length-5 c = search needs

@@ -1,5 +1,6 @@
 -- `keys::keys_of_kind` meets its contract: kind by kind.
 use borrow.Author.Needs.{needs}
+use Rattle.rules.specs.Kinds.{enum-kind, struct-kind, union-kind, alternate-kind}
 use Rattle.definitions.proofs.KeyLaws.{keys-kind, keys-other}
 use Rattle.definitions.proofs.keys.keys_of_kind.Statement.{statement}
 use Rattle.definitions.proofs.keys.keys_of_kind.Tie as tie
@@ -56,16 +57,16 @@ four-keys-requires-2 : tie.Need-four-keys-requires-2
 four-keys-requires-2 c κs = search needs
 
 returns : tie.Need-returns
-returns c = keys-kind _ 1 (c .before .before .before .match .keys1) (c .two-keys .ensures)
+returns c = keys-kind _ enum-kind (c .before .before .before .match .keys1) (c .two-keys .ensures)
 
 returns-2 : tie.Need-returns-2
-returns-2 c = keys-kind _ 3 (c .before .match .keys2) (c .struct-keys .ensures)
+returns-2 c = keys-kind _ struct-kind (c .before .match .keys2) (c .struct-keys .ensures)
 
 returns-3 : tie.Need-returns-3
-returns-3 c = keys-kind _ 5 (c .before .before .before .before .before .match .keys3) (c .four-keys .ensures)
+returns-3 c = keys-kind _ union-kind (c .before .before .before .before .before .match .keys3) (c .four-keys .ensures)
 
 returns-4 : tie.Need-returns-4
-returns-4 c = keys-kind _ 7 (c .before .before .before .match .keys4) (c .two-keys2 .ensures)
+returns-4 c = keys-kind _ alternate-kind (c .before .before .before .match .keys4) (c .two-keys2 .ensures)
 
 returns-5 : tie.Need-returns-5
 returns-5 c = let n = c .before .before .before .before .before .match .rest in keys-other _ (n .0 .0 .0 .1) (n .0 .0 .1) (n .0 .1) (n .1) (c .four-keys2 .ensures)
