@@ -1,7 +1,8 @@
 //! The cases of docs/NUMBERS.md: for each number the smallest input that gives it.
 //!
 //! A case is a fenced block `case` of lines `KEY: VALUE`. Text is added to the schema or the message by `schema: TEXT`,
-//! `schema N times: TEXT` or `schema for @ in CHARACTERS: TEXT`, and likewise `message`.
+//! `schema N times: TEXT` or `schema for @ in CHARACTERS: TEXT`, and likewise `message`. A line that four spaces begin
+//! goes on with the line before it.
 
 #![forbid(unsafe_code)]
 
@@ -84,9 +85,16 @@ fn parse(document: &str) -> Result<Vec<Case>, String> {
     let mut cases = Vec::new();
     let mut lines = document.lines().zip(1..);
     while lines.any(|(line, _)| line == "```case") {
-        let mut case = Case::default();
+        let mut entries: Vec<(String, usize)> = Vec::new();
         for (line, number) in lines.by_ref().take_while(|(line, _)| *line != "```") {
-            case.add(line).ok_or_else(|| format!("docs/NUMBERS.md, line {number}: no line of a case: {line}"))?;
+            match (line.strip_prefix("    "), entries.last_mut()) {
+                (Some(more), Some((entry, _))) => entry.push_str(more),
+                _ => entries.push((line.to_string(), number)),
+            }
+        }
+        let mut case = Case::default();
+        for (line, number) in entries {
+            case.add(&line).ok_or_else(|| format!("docs/NUMBERS.md, line {number}: no line of a case: {line}"))?;
         }
         cases.push(case);
     }
@@ -100,7 +108,7 @@ mod tests {
     #[test]
     fn texts_are_joined_and_repeated() {
         let document =
-            "x\n```case\nschema: {': '\nschema 3 times: ab\nschema for @ in xyz: '@@'\nanswer: 2 0, size 9\n```\n";
+            "x\n```case\nschema: {': '\nschema 3 times: a\n    b\nschema for @ in xyz: '@@'\nanswer: 2 0, size 9\n```\n";
         let case =
             Case { schema: b"{': 'ababab'xx''yy''zz'".to_vec(), answer: "2 0".to_string(), size: 9, ..Case::default() };
         assert_eq!(parse(document), Ok(vec![case]));
