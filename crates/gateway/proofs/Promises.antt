@@ -89,7 +89,7 @@ module _ {S T m old new : List ℕ} {number row records : ℕ} (h : Checked S T 
     accepts = λ a ts r k. let e = checked-demand .accepts a ts r k in (h .number-is ∙ ap Messages.answerNumber e, h .row-is ∙ ap Messages.answerRow e, h .records-are ∙ ap Messages.answerRecords e);
     gives = λ e. checked-demand .gives row records (is-accepted e);
     only-one = checked-demand .only-one;
-    unquoted = λ e x i. checked-demand .unquoted row records (is-accepted e) x i;
+    digits-apart = λ e x i. checked-demand .digits-apart row records (is-accepted e) x i;
     zero = λ n. go (messageResult S T m (length old) .answer) (h .number-is) (h .row-is) (h .records-are) (checked-demand .outcome) n;
     enough = λ room e. records-suffice S T m .enough room (checked-demand .outcome) (message-refused _ M.NoRoom (sym (h .number-is) ∙ e));
   }

@@ -18,7 +18,7 @@ use Rattle.rules.specs.SchemaAnswers as Schemas
 use Rattle.rules.specs.SchemaAnswers.{SchemaOutcome}
 use Rattle.rules.specs.MessageAnswers as Messages
 use Rattle.rules.specs.MessageAnswers.{MessageOutcome, Readable, Held}
-use Rattle.rules.specs.Demands.{Unquoted, Gives}
+use Rattle.rules.specs.Demands.{DigitsApart, Gives}
 
 -- windosprio_compile_schema(schema S, rows, count): the number, the count of rows
 pub record CompileCall (S old new : List ℕ) (number rows : ℕ) : Type 0 where
@@ -48,7 +48,7 @@ pub record CheckCall (S T m old new : List ℕ) (number row records : ℕ) : Typ
   -- where all but the room is so, the message asks for one thing, and there is only one reading
   pub only-one : (a b : Asked) (ts us : List Typed) → Readable S T m a ts → Readable S T m b us → (a ≡ b) × (ts ≡ us)
   -- no quoted digits are taken for a number, nor a number for quoted digits
-  pub unquoted : (e : number ≡ 0) (x : Typed) → List·Memᴰ x (gives e .reading) → Unquoted T x
+  pub digits-apart : (e : number ≡ 0) (x : Typed) → List·Memᴰ x (gives e .reading) → DigitsApart T x
   -- a refusal leaves the row, the count and every lent word zero
   pub zero : (number ≡ 0 → ⊥) → (row ≡ 0) × (records ≡ 0) × (new ≡ replicate (length old) 0)
   -- as many records as the message has bytes are never too few

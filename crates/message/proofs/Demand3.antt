@@ -11,7 +11,7 @@ use Rattle.rules.specs.Serving.Answers.{MessageResult, messageResult}
 use Rattle.rules.specs.Demands.{Gives, Demand3}
 use Rattle.rules.proofs.MessageOutcome.{message-outcome}
 use Rattle.rules.proofs.Acceptance.{accepted-gives, gives-accepted, one-reading, refused-zero}
-use Rattle.rules.proofs.NoQuotedDigits.{reads-unquoted}
+use Rattle.rules.proofs.NoQuotedDigits.{digits-apart}
 use Rattle.message.specs.Stages.{Answered}
 
 module _ {S T m old new : List ℕ} {r : MessageAnswer} (a : Answered S T m old new r) where
@@ -31,6 +31,6 @@ module _ {S T m old new : List ℕ} {r : MessageAnswer} (a : Answered S T m old 
         accepts = λ a ts h k. sym answer-is ∙ gives-accepted S T m (length old) h k;
         gives = given;
         only-one = λ a b ts us h k. one-reading S T m h k;
-        unquoted = λ c n e x i. reads-unquoted S T (given c n e .readable-so .reads) x i;
+        digits-apart = λ c n e x i. digits-apart S T (given c n e .readable-so .reads) x i;
         zero = λ x e. sym words-are ∙ refused-zero S T m (length old) x (answer-is ∙ e);
       }

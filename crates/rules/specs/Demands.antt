@@ -29,7 +29,7 @@ pub record Demand2 (S : List ℕ) (room : ℕ) (answer : SchemaAnswer) (words : 
   pub sound-rows : (n : ℕ) → answer ≡ SA.Accepted n → sound S (take (row-words * n) words) ≡ true
 
 -- A value and its type are not quoted digits at a number's type (2 to 12), nor a number at `str` (1) or at an enum.
-pub record Unquoted (T : List ℕ) (x : Typed) : Type 0 where
+pub record DigitsApart (T : List ℕ) (x : Typed) : Type 0 where
   pub string-not-number : (a e : ℕ) (cs : List ℕ) → x .value ≡ leaf a e (str cs) → 2 ≤ x .ref → x .ref ≤ 12 → ⊥
   pub number-not-string : (a e : ℕ) (i : Bool) (token : List ℕ) → x .value ≡ leaf a e (num i token) → x .ref ≡ 1 → ⊥
   pub number-not-enum : (a e : ℕ) (i : Bool) (token : List ℕ) (r : ℕ) → x .value ≡ leaf a e (num i token) → x .ref ≡ first-row + r → kind T r ≡ enum-kind → ⊥
@@ -56,6 +56,6 @@ pub record Demand3 (S T m : List ℕ) (room : ℕ) (answer : MessageAnswer) (wor
   -- where all but the room is so, it asks for one thing, and there is only one reading
   pub only-one : (a b : Asked) (ts us : List Typed) → Readable S T m a ts → Readable S T m b us → (a ≡ b) × (ts ≡ us)
   -- no quoted digits are taken for a number, nor a number for quoted digits
-  pub unquoted : (c n : ℕ) (e : answer ≡ Accepted c n) (x : Typed) → List·Memᴰ x (gives c n e .reading) → Unquoted T x
+  pub digits-apart : (c n : ℕ) (e : answer ≡ Accepted c n) (x : Typed) → List·Memᴰ x (gives c n e .reading) → DigitsApart T x
   -- a refusal leaves every lent word zero
   pub zero : (x : MessageRefusal) → answer ≡ Refused x → words ≡ replicate room 0
