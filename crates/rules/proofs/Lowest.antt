@@ -5,7 +5,9 @@ use mathlib.Core.Bool.{Bool, true, _&&_}
 use mathlib.Core.List.{List, [], _∷_, map, List·Memᴰ, List·Memᴰ·cases-cons}
 use mathlib.Core.Logic.{⊎-elim}
 use native.Mathlib.Omega.{arith}
+use mathlib.Core.Option.{some}
 use lib.Dec.{ltb}
+use lib.ListN.{getElem?}
 use borrow.Author.Tests.{ltb-true}
 use Rattle.rules.specs.declared.SchemaRefusal.{SchemaRefusal}
 use Rattle.rules.specs.declared.MessageRefusal.{MessageRefusal}
@@ -15,6 +17,7 @@ use Rattle.rules.specs.SchemaAnswers.{schemaOrder}
 use Rattle.rules.specs.SchemaAnswers as Schemas
 use Rattle.rules.specs.MessageAnswers.{messageOrder}
 use Rattle.rules.specs.MessageAnswers as Messages
+use Rattle.rules.specs.Serving.Answers.{rankIn}
 use Rattle.rules.proofs.Lists.{and-left, and-right}
 use Rattle.rules.proofs.First.{nth}
 use Rattle.rules.proofs.SchemaOutcome.{listed}
@@ -52,17 +55,21 @@ module _ {A : Type 0} (number : A → ℕ) where
       (λ i. ⊎-elim (λ (q : y ≡ z). absurd (omega (arith, ap number q, above-in (number z) zs x up i)))
       (λ j. number-only zs x y (and-right (above (number z) (map number zs)) (rising (map number zs)) r) i j e) (List·Memᴰ·cases-cons k)) (List·Memᴰ·cases-cons m)
 
+-- every refusal of a message is in the order, at its rank
+message-ranked : (x : MessageRefusal) → getElem? messageOrder (rankIn Messages.refusalNumber messageOrder x) ≡ some x
+message-ranked M.UnsoundTable = refl
+message-ranked M.TooLong = refl
+message-ranked M.NotText = refl
+message-ranked M.TooDeep = refl
+message-ranked M.RepeatedKey = refl
+message-ranked M.NotEnvelope = refl
+message-ranked M.UnknownCommand = refl
+message-ranked M.NotOutOfBand = refl
+message-ranked M.NoReading = refl
+message-ranked M.NoRoom = refl
+
 message-listed : (x : MessageRefusal) → List·Memᴰ x messageOrder
-message-listed M.UnsoundTable = nth messageOrder 0 M.UnsoundTable refl
-message-listed M.TooLong = nth messageOrder 1 M.TooLong refl
-message-listed M.NotText = nth messageOrder 2 M.NotText refl
-message-listed M.TooDeep = nth messageOrder 3 M.TooDeep refl
-message-listed M.RepeatedKey = nth messageOrder 4 M.RepeatedKey refl
-message-listed M.NotEnvelope = nth messageOrder 5 M.NotEnvelope refl
-message-listed M.UnknownCommand = nth messageOrder 6 M.UnknownCommand refl
-message-listed M.NotOutOfBand = nth messageOrder 7 M.NotOutOfBand refl
-message-listed M.NoReading = nth messageOrder 8 M.NoReading refl
-message-listed M.NoRoom = nth messageOrder 9 M.NoRoom refl
+message-listed x = nth messageOrder (rankIn Messages.refusalNumber messageOrder x) x (message-ranked x)
 
 pub schema-lowest : (P : SchemaRefusal → Type 0) (x y : SchemaRefusal) → FirstOf P schemaOrder x → P y → Schemas.refusalNumber x ≤ Schemas.refusalNumber y
 schema-lowest P x y h p = first-lowest Schemas.refusalNumber P schemaOrder x y refl h (listed y) p

@@ -48,9 +48,12 @@ abbrev pub before : {A : Type 0} → (A → Bool) → List A → ℕ
 before f [] = 0
 before f (x ∷ xs) = cond (f x) 0 (suc (before f xs))
 
--- the place of a schema's refusal in their order
+-- the place of a refusal in an order, told by its number; and of a schema's in theirs
+abbrev pub rankIn : {A : Type 0} → (A → ℕ) → List A → A → ℕ
+rankIn number order x = before (λ y. eqb (number y) (number x)) order
+
 unfoldable pub rank : SchemaRefusal → ℕ
-rank x = before (λ y. eqb (refusalNumber y) (refusalNumber x)) schemaOrder
+rank x = rankIn refusalNumber schemaOrder x
 
 -- an outcome: the answer and the lent words
 pub record SchemaResult : Type 0 where
