@@ -19,7 +19,7 @@ use Rattle.grammar.specs.Serving.Machine.Schema.{schema}
 use Rattle.grammar.proofs.Booleans.{none-not-some, some-is}
 use Rattle.strings.specs.Strings.{plainString}
 use Rattle.tokens.specs.NodeKinds.{false-node, true-node, plain-string-node, other-string-node, array-node, object-node}
-use Rattle.tokens.specs.Tokens.{scalarNode}
+use Rattle.tokens.proofs.ScalarNodes.{scalar-kind}
 use Rattle.text.specs.Nodes.{next, Holds, HoldsItems, nodeKind}
 use Rattle.text.proofs.KeyLaws.{goes-on}
 use Rattle.lookups.specs.Lookups.{stringKind}
@@ -39,18 +39,6 @@ use Rattle.definitions.specs.Places.{Held, Found, Named, NameWord, TextT
 use Rattle.definitions.specs.Parts.{FieldsAt}
 use Rattle.definitions.proofs.shapes.TypeText.{enum}
 use Rattle.definitions.proofs.NameLaws.{is-name, no-string, no-name}
-
-scalar-small : (s : List ℕ) (a e : ℕ) (v : Scalar) → scalarNode s a e v < array-node
-scalar-small s a e null = omega arith
-scalar-small s a e (bool true) = omega arith
-scalar-small s a e (bool false) = omega arith
-scalar-small s a e (num true t) = omega arith
-scalar-small s a e (num false t) = omega arith
-scalar-small s a e (str cs) = go (plainString s a e)
-  where
-    go : (b : Bool) → cond b plain-string-node other-string-node < array-node
-    go true = omega arith
-    go false = omega arith
 
 pub held-there : {s w : List ℕ} {j : Json} {k : ℕ} → Found s w (some j) k → Held s w j k
 held-there f = record { small = f .small; level = f .level; holds = f .found .1 }
@@ -72,12 +60,12 @@ pub record ObjectAt (s w : List ℕ) (j : Json) (k : ℕ) : Type 0 where
 
 module _ {s w : List ℕ} {k : ℕ} where
   pub as-array : (j : Json) → Held s w j k → nodeKind w k ≡ array-node → ArrayAt s w j k
-  as-array (leaf a e v) h q = absurd (omega (arith, h .holds .0 .has-kind, scalar-small s a e v))
+  as-array (leaf a e v) h q = absurd (omega (arith, h .holds .0 .has-kind, scalar-kind s a e v .1))
   as-array (arr a e js) h q = record { small = h .small; items = js; level = h .level - 1; on = h .holds .1; holds = h .holds .3; is = refl }
   as-array (obj a e fs) h q = absurd (omega (arith, h .holds .0 .has-kind))
 
   pub as-object : (j : Json) → Held s w j k → nodeKind w k ≡ object-node → ObjectAt s w j k
-  as-object (leaf a e v) h q = absurd (omega (arith, h .holds .0 .has-kind, scalar-small s a e v))
+  as-object (leaf a e v) h q = absurd (omega (arith, h .holds .0 .has-kind, scalar-kind s a e v .1))
   as-object (arr a e js) h q = absurd (omega (arith, h .holds .0 .has-kind))
   as-object (obj a e fs) h q = record { fs = fs; on = h .holds .1; fields = record { small = h .small; level = h .level - 1; holds = h .holds .3 }; is = refl }
 

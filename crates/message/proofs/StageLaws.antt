@@ -28,10 +28,9 @@ use Rattle.rules.specs.Envelope as Spec
 use Rattle.rules.specs.Serving.Answers as Answers
 use Rattle.rules.specs.Serving.Answers.{MessageResult, asking, askedReading, refusedBy, readingResult, askedResult, textResult, soundResult, messageResult}
 use Rattle.rules.specs.Serving.ReadingOf.{readingOf}
-use Rattle.strings.specs.Strings.{plainString}
-use Rattle.tokens.specs.NodeKinds.{plain-string-node, other-string-node, object-node}
-use Rattle.tokens.specs.Tokens.{scalarNode}
-use Rattle.text.specs.Nodes.{node-words, next, Holds, nodeKind}
+use Rattle.tokens.specs.NodeKinds.{object-node}
+use Rattle.tokens.proofs.ScalarNodes.{scalar-kind}
+use Rattle.text.specs.Nodes.{node-words, text-bound, Holds, nodeKind}
 use Rattle.text.specs.Keys.{KeysOnce}
 use Rattle.text.specs.Texts.{MessageTold, ReadsMessage}
 use Rattle.text.proofs.KeyLaws.{goes-on}
@@ -127,20 +126,8 @@ module _ {S T m w ix : List ℕ} (g : IndexedTable S T ix) (v : ValueRead m w) {
       go (Answers.Asking.refuses z) p t = absurd t
 
 -- a node that holds a value is there
-scalar-some : (s : List ℕ) (a e : ℕ) (v : Scalar) → 0 < scalarNode s a e v
-scalar-some s a e null = omega arith
-scalar-some s a e (bool true) = omega arith
-scalar-some s a e (bool false) = omega arith
-scalar-some s a e (num true t) = omega arith
-scalar-some s a e (num false t) = omega arith
-scalar-some s a e (str cs) = go (plainString s a e)
-  where
-    go : (b : Bool) → 0 < cond b plain-string-node other-string-node
-    go true = omega arith
-    go false = omega arith
-
 kind-some : (m w : List ℕ) (j : Json) (l k : ℕ) → Holds message m w j l k → 0 < nodeKind w k
-kind-some m w (leaf a e v) l k h = omega (arith, h .0 .has-kind, scalar-some m a e v)
+kind-some m w (leaf a e v) l k h = omega (arith, h .0 .has-kind, scalar-kind m a e v .0)
 kind-some m w (arr a e js) l k h = omega (arith, h .0 .has-kind)
 kind-some m w (obj a e fs) l k h = omega (arith, h .0 .has-kind)
 

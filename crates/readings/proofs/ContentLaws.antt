@@ -21,9 +21,8 @@ use Rattle.rules.specs.Readings.{Typed, typed}
 use Rattle.rules.specs.Serving.ReadingOf.{under, enumHas, mandatoryThere, fieldsReading}
 use Rattle.rules.proofs.Lists.{clash, and-left}
 use Rattle.rules.proofs.ReadingParts.{plain-built-in, enum-has}
-use Rattle.strings.specs.Strings.{plainString}
-use Rattle.tokens.specs.NodeKinds.{plain-string-node, other-string-node}
-use Rattle.tokens.specs.Tokens.{scalarNode}
+use Rattle.tokens.specs.NodeKinds.{array-node, object-node}
+use Rattle.tokens.proofs.ScalarNodes.{scalar-kind}
 use Rattle.text.specs.Nodes.{Holds, nodeKind}
 use Rattle.lookups.specs.Lookups.{stringKind}
 use Rattle.lookups.proofs.NodeLaws.{string-node}
@@ -142,24 +141,12 @@ module _ {S T m w ix : List ℕ} {k t f : ℕ} where
         go v a e fs d y = rw (v, z, d)
 
 -- the content of a value, by its node's kind
-scalar-below : (m : List ℕ) (a e : ℕ) (v : Scalar) → scalarNode m a e v < 8
-scalar-below m a e null = omega arith
-scalar-below m a e (bool true) = omega arith
-scalar-below m a e (bool false) = omega arith
-scalar-below m a e (num true t) = omega arith
-scalar-below m a e (num false t) = omega arith
-scalar-below m a e (str cs) = go (plainString m a e)
-  where
-    go : (b : Bool) → cond b plain-string-node other-string-node < 8
-    go true = omega arith
-    go false = omega arith
-
 module _ (S T m w : List ℕ) {ix : List ℕ} {k t f y : ℕ} {x : Content} {i : Bool} (p : AtBuiltIn t f i) (n : i ≡ false) (q : y ≡ nodeKind w k) where
   pub content-array : y ≡ 8 → ArrayContent f x → ContentAt S T m w ix k t f x
   content-array e g = record { told = λ j l o h once. go j l h }
     where
       go : (j : Json) (l : ℕ) → Holds message m w j l k → ContentTold S T j t f x
-      go (leaf a z v) l h = absurd (omega (arith, scalar-below m a z v, h .0 .has-kind))
+      go (leaf a z v) l h = absurd (omega (arith, scalar-kind m a z v .1, h .0 .has-kind))
       go (arr a z js) l h = g .told t (sym (p .told) ∙ n) S T a z js
       go (obj a z fs) l h = absurd (omega (arith, h .0 .has-kind))
 
@@ -167,7 +154,7 @@ module _ (S T m w : List ℕ) {ix : List ℕ} {k t f y : ℕ} {x : Content} {i :
   content-object e g = record { told = λ j l o h once. go j l o h once }
     where
       go : (j : Json) (l : ℕ) → IndexedTable S T ix → Holds message m w j l k → keysOnce j ≡ true → ContentTold S T j t f x
-      go (leaf a z v) l o h once = absurd (omega (arith, scalar-below m a z v, h .0 .has-kind))
+      go (leaf a z v) l o h once = absurd (omega (arith, scalar-kind m a z v .1, h .0 .has-kind))
       go (arr a z js) l o h once = absurd (omega (arith, h .0 .has-kind))
       go (obj a z fs) l o h once = g .told (sym (p .told) ∙ n) a z fs o (record { levels = l - 1; holds = h .3; once = and-left (apart same (keysOf fs)) (keysOnceF fs) once })
 

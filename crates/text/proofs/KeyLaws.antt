@@ -17,6 +17,7 @@ use Rattle.grammar.specs.Keys.{keysOf, keysOnce, keysOnceI, keysOnceF}
 use Rattle.grammar.specs.Serving.Machine.{Dialect}
 use Rattle.strings.specs.Strings.{plainString}
 use Rattle.tokens.specs.NodeKinds.{plain-string-node, other-string-node, object-node, plain-key-node, other-key-node}
+use Rattle.tokens.proofs.ScalarNodes.{scalar-kind}
 use Rattle.tokens.specs.Tokens.{scalarNode, keyNode}
 use Rattle.text.specs.Nodes.{next, Holds, HoldsItems, HoldsFields, nodeKind}
 use Rattle.text.specs.Keys.{KeyAt}
@@ -33,16 +34,7 @@ and-false true b e = e
 and-false false b e = refl
 
 pub scalar-no-object : (s : List ℕ) (a e : ℕ) (v : Scalar) → scalarNode s a e v ≡ object-node → ⊥
-scalar-no-object s a e null h = omega arith
-scalar-no-object s a e (bool true) h = omega arith
-scalar-no-object s a e (bool false) h = omega arith
-scalar-no-object s a e (num true t) h = omega arith
-scalar-no-object s a e (num false t) h = omega arith
-scalar-no-object s a e (str cs) h = go (plainString s a e) h
-  where
-    go : (b : Bool) → _≡_ {A = ℕ} (cond b plain-string-node other-string-node) object-node → ⊥
-    go true h = omega arith
-    go false h = omega arith
+scalar-no-object s a e v h = omega (arith, scalar-kind s a e v .1)
 
 key-no-object : (s : List ℕ) (a e : ℕ) → keyNode s a e ≡ object-node → ⊥
 key-no-object s a e h = go (plainString s a e) h

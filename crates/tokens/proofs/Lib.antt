@@ -6,6 +6,7 @@ pub mod NumberStates
 pub mod NumberRuns
 pub mod WordRuns
 pub mod StringTokens
+pub mod ScalarNodes
 pub mod ScalarReads
 pub mod KeyReads
 pub mod IntegerValues
