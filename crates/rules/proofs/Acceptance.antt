@@ -1,7 +1,6 @@
 -- Demand 3 as one theorem: a message is accepted exactly when it is readable and the room can hold its reading; there is only one; the answer is it.
 -- The idea: MessageOutcome gives one outcome, accepted where no refusal applies; each part of Readable is that a refusal does not apply.
-use Prim.Native.Nat.{ℕ, _-_, _/_, _≤_, _<_}
-use native.Mathlib.Decide.{decLt}
+use Prim.Native.Nat.{ℕ, _-_, _/_, _≤_}
 use native.Mathlib.Omega.{arith}
 use mathlib.Core.Path.{_≡_, refl, sym, ap, _∙_, subst}
 use mathlib.Core.List.{List, _++_}
@@ -19,6 +18,7 @@ use Rattle.rules.specs.MessageAnswers.{AsksIn, ReadsAsked, MessageApplie
 use Rattle.rules.specs.MessageAnswers.MessageOutcome.{accepted, refused}
 use Rattle.rules.specs.Demands.{Gives}
 use Rattle.rules.specs.Serving.Answers.{messageResult}
+use Rattle.rules.proofs.Lists.{not-less}
 use Rattle.rules.proofs.SoundFacts.{sound-facts}
 use Rattle.rules.proofs.ReadingExact.{unique}
 use Rattle.rules.proofs.MessageOutcome.{true-of, same-asked, unrefused, message-outcome, message-outcome-only}
@@ -36,18 +36,15 @@ module _ (S T m : List ℕ) where
     readable {a} {ts} h g k = (
       record {
         sound-table = true-of (sound S T) (k M.UnsoundTable);
-        short = not-lt (k M.TooLong);
+        short = not-less (k M.TooLong);
         value = h .value;
         is-text = h .is-text;
         keys-once = true-of (keysOnce (h .value)) (λ e. k M.RepeatedKey (h .value, h .is-text, e));
         asks = h .asks;
         reads = g;
       },
-      not-lt (λ l. k M.NoRoom (a, h, ts, g, l)),
+      not-less (λ l. k M.NoRoom (a, h, ts, g, l)),
     )
-      where
-        not-lt : {a b : ℕ} → (a < b → ⊥) → b ≤ a
-        not-lt {a} {b} f = elim (decLt a b) [ yes y ↦ absurd (f y) | no n ↦ omega arith ]
 
     -- an acceptance gives the reading, as the words
     pub accepted-gives : (c n : ℕ) → messageResult S T m room .answer ≡ Accepted c n → Gives S T m room c n (messageResult S T m room .words)

@@ -37,7 +37,7 @@ use Rattle.rules.specs.MessageAnswers.MessageOutcome.{accepted, refused}
 use Rattle.rules.specs.Serving.Answers.{schemaResult, messageResult}
 use Rattle.rules.specs.Serving.Cells.{Entry, blank, entries, wordsFrom, entryName, owns, EntryNames}
 use Rattle.rules.specs.Serving.Cells.Entry.{enumRow, alternateRow, valueRow, structRow, inlineRow, memberRow, unionRow, branchRow, alternativeRow, commandRow}
-use Rattle.rules.proofs.Lists.{clash, none-not-some, and-left, and-right, and-of, or-cases, all-of, any-true, is-true, upFrom-bounds}
+use Rattle.rules.proofs.Lists.{clash, not-less, none-not-some, and-left, and-right, and-of, or-cases, all-of, any-true, is-true, upFrom-bounds}
 use Rattle.rules.proofs.TableRows.{fit-child, laid-fit}
 use Rattle.rules.proofs.Cells.{table-words, length-words, entry-names, every-at, entries-follow, names-weaken}
 use Rattle.rules.proofs.CellRows.{Behind, rows-are, start-is, size-is, kind-past, owns-is}
@@ -193,9 +193,6 @@ unrefused-sound S room ds s none-applies =
     (true-of (allRefer S ds) (λ e. none-applies R.UnknownName (ds, s, e))))
     (not-less (none-applies R.TooLong)) (not-less (λ l. none-applies R.TooManyRows (ds, s, l))) (keeps goodNames (none-applies R.BadName)) (keeps distinctNames (none-applies R.RepeatedName))
     (keeps goodChains (none-applies R.BadChain)) (keeps goodUnions (none-applies R.BadUnion)) (keeps goodAlternates (none-applies R.BadAlternate)) (keeps goodReturns (none-applies R.BadReturn))
-  where
-    not-less : {a b : ℕ} → (a < b → ⊥) → b ≤ a
-    not-less {a} {b} k = elim (decLt a b) [ yes y ↦ absurd (k y) | no y ↦ omega arith ]
 
 -- Reference, Sound tables: the table of an accepted schema is sound
 pub accepted-sound : (S : List ℕ) (room n : ℕ) → schemaResult S room .answer ≡ SA.Accepted n

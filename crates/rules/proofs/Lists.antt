@@ -7,6 +7,7 @@ use mathlib.Core.Logic.{_↔_, _⊎_, inl, inr, ⊎-elim}
 use mathlib.Core.List.{List, [], _∷_, _++_, map, List·Memᴰ, List·Memᴰ·head, List·Memᴰ·tail, List·Memᴰ·cases-cons}
 use mathlib.Core.Option.{Option, none, some}
 use native.Mathlib.Nat.{eq-or-lt-of-le}
+use native.Mathlib.Decide.{decLt}
 use native.Mathlib.Omega.{arith}
 pub use Rattle.grammar.proofs.Booleans.{clash, none-not-some}
 pub use Rattle.grammar.proofs.Lists.{same-true, same-refl, same-is, all-true, all-of}
@@ -17,6 +18,10 @@ use Rattle.grammar.specs.Keys.{keysOf}
 use Rattle.rules.specs.Values.{valueAt, anyOf}
 use Rattle.rules.specs.Rows.{upFrom}
 use Rattle.rules.specs.Rules.{any, those, is}
+
+-- numbers
+pub not-less : {a b : ℕ} → (a < b → ⊥) → b ≤ a
+not-less {a} {b} h = elim (decLt a b) [ yes y ↦ absurd (h y) | no n ↦ omega arith ]
 
 -- tests
 pub and-left : (a b : Bool) → a && b ≡ true → a ≡ true

@@ -1,7 +1,6 @@
 -- More room never changes an acceptance: the same answer, and the same words with zeros after them.
 -- The idea: of the numbers only `NoRoom` looks at the room, and it applies less where there is more; what is accepted is no longer than the room.
 use Prim.Native.Nat.{ℕ, _+_, _-_, _*_, _/_, _%_, _≤_}
-use native.Mathlib.Decide.{decLt}
 use native.Mathlib.Omega.{arith}
 use mathlib.Core.Path.{_≡_, refl, sym, ap, _∙_}
 use mathlib.Core.List.{List, [], _∷_, _++_, append-assoc}
@@ -19,6 +18,7 @@ use Rattle.rules.specs.SchemaAnswers.SchemaOutcome.{accepted, refused}
 use Rattle.rules.specs.Readings.{Typed, recordsOf}
 use Rattle.rules.specs.Serving.Cells.{entries}
 use Rattle.rules.specs.Serving.Answers.{schemaResult, messageResult}
+use Rattle.rules.proofs.Lists.{not-less}
 use Rattle.rules.proofs.Cells.{table-words, length-words}
 use Rattle.rules.proofs.SchemaOutcome.{schema-outcome, schema-outcome-only}
 use Rattle.rules.proofs.Acceptance.{one-reading, accepted-gives, more-room}
@@ -52,7 +52,7 @@ accepted-table S room n e = go (schema-outcome S room)
     fits : (ds : List Definition) → Says S ds → (SchemaApplies R.NoRoom S room → ⊥) → length (table S ds) ≤ room
     fits ds s f =
         let w = whole-rows S ds in
-        let z : rowCount (table S ds) ≤ room / row-words = elim (decLt (room / row-words) (rowCount (table S ds))) [ yes y ↦ absurd (f (ds, s, y)) | no y ↦ omega arith ] in
+        let z : rowCount (table S ds) ≤ room / row-words = not-less (λ y. f (ds, s, y)) in
         omega arith
 
     go : SchemaOutcome S room (schemaResult S room .answer) (schemaResult S room .words) → TableOf S room n (schemaResult S room .words)

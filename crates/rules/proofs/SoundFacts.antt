@@ -39,6 +39,8 @@ pub record SoundFacts (S T : List ℕ) : Type 0 where
   pub command-link : (r : ℕ) → kind T r ≡ command-kind → StructLink T (dataStruct T r)
   pub branch-link : (r b : ℕ) → kind T r ≡ union-kind → List·Memᴰ b (children T r) → StructLink T (branchStruct T b)
   pub discriminator-link : (r : ℕ) → kind T r ≡ union-kind → (d : ℕ) × (discriminator T r ≡ suc d)
+  -- a struct's chain ends in time, with names apart
+  pub chain-fits : (r : ℕ) → kind T r ≡ struct-kind → chainFits S T r ≡ true
   -- names that one object may have as keys, and names of one list
   pub children-apart : (r : ℕ) → apart same (namesOf S T (children T r)) ≡ true
   pub struct-apart : (r : ℕ) (ms : List ℕ) → kind T r ≡ struct-kind → members T chain-structs (suc r) ≡ some ms → apart same (namesOf S T ms) ≡ true
@@ -247,6 +249,7 @@ sound-facts S T h = record {
   command-link = command-to S T h;
   branch-link = branch-to S T h;
   discriminator-link = discriminator-to S T h;
+  chain-fits = inherits S T h;
   children-apart = λ r. apart-same (namesOf S T (children T r)) (own-apart S T h r);
   struct-apart = λ r ms k e. apart-same (namesOf S T ms) (chain-apart S T h chain-structs (suc r) (λ s q. subst (λ x. kind T x ≡ struct-kind) (let z : r ≡ s = cc in z) k) ms e);
   union-apart = λ r ms k e. apart-same (namesOf S T ms) (chain-apart S T h chain-structs (unionBase T r) (union-to S T h r k) ms e);

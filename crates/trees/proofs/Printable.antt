@@ -14,7 +14,7 @@ use Rattle.grammar.specs.Limits.{name-bytes}
 use Rattle.grammar.specs.Notation.{text, all}
 use Rattle.grammar.proofs.Booleans.{both}
 use Rattle.rules.specs.Types.{first-row}
-use Rattle.rules.proofs.Lists.{and-of}
+use Rattle.rules.proofs.Lists.{and-of, or-left}
 use Rattle.rules.specs.Rows.{isStruct, nameOf}
 use Rattle.walker.specs.declared.records.Seen.{Seen}
 use Rattle.walker.specs.declared.records.Seen.the-variants.{Record, Nothing}
@@ -29,11 +29,6 @@ use Rattle.trees.specs.TreeText.{deepest, indentText, valueShown, valueT
 -- what a terminal may have
 abbrev pub clean : ℕ → Bool
 clean b = printable b || eqb b 10
-
-or-left : (a b : Bool) → a ≡ true → a || b ≡ true
-or-left true b p = refl
-or-left false true p = refl
-or-left false false p = p
 
 pub joined : (xs ys : List ℕ) → all clean xs ≡ true → all clean ys ≡ true → all clean (xs ++ ys) ≡ true
 joined [] ys p q = q
