@@ -8,6 +8,7 @@ use lib.Seq.{sets}
 use Rattle.grammar.specs.Limits.{row-words}
 use Rattle.rules.specs.Definitions.{Name}
 use Rattle.rules.specs.SchemaTable.{row}
+use Rattle.text.specs.Nodes.{text-bound}
 use Rattle.definitions.specs.declared.writing.Put.{Put}
 use Rattle.definitions.specs.declared.writing.Put.the-variants.{Rows, Refused}
 use Rattle.definitions.specs.Places.{Named}
@@ -15,7 +16,7 @@ use Rattle.definitions.specs.Places.{Named}
 -- Bounds below which rows are counted, so that no count goes past a number of the machine. A row comes from a node of its own, and a schema has
 -- fewer nodes than this: so many rows at most stand before a definition, and the link to the row after the next fits in a word.
 abbrev pub node-bound : ℕ
-node-bound = 2 ^ 31
+node-bound = text-bound
 
 -- the most rows of a definition: its own and two lists, each with one row for a node that a word numbers
 abbrev pub definition-rows : ℕ

@@ -80,7 +80,7 @@ module _ {m v w : List ℕ} {x : Text} (r : ReadsMessage m v w x) where
   deeper p = let z = message-too-deep (subst (λ (y : Text). MessageTold m w y) p (r .told)) in record { told = λ S T room. rw z }
 
   pub never : x ≡ Texts.TooLong → NodesFit m v → ⊥
-  never p h = let z : 2 ^ 31 ≤ length m = subst (λ (y : Text). MessageTold m w y) p (r .told) in omega (arith, h .enough, h .small)
+  never p h = let z : text-bound ≤ length m = subst (λ (y : Text). MessageTold m w y) p (r .told) in omega (arith, h .enough, h .small)
 
   pub whole-text : {n : ℕ} → x ≡ Texts.Whole n → NodesFit m v → WholeText m w n
   whole-text {n} e h =

@@ -1,5 +1,5 @@
 -- The first refusals: the length, the text, its keys, its definitions.
-use Prim.Native.Nat.{ℕ, _-_, _*_, _≤_, _<_, _^_}
+use Prim.Native.Nat.{ℕ, _-_, _*_, _≤_, _<_}
 use native.Mathlib.Omega.{arith}
 use mathlib.Core.Path.{_≡_, refl, sym, ap, _∙_, subst}
 use mathlib.Core.Bool.{Bool, true, false, not}
@@ -9,7 +9,7 @@ use lib.ListN.{length, take, replicate, length-replicate}
 use lib.Seq.{length-take-le}
 use borrow.Author.Tests.{lt-ltb, le-ltb}
 use Rattle.grammar.specs.Limits.{schema-bytes, row-words}
-use Rattle.text.specs.Nodes.{node-words}
+use Rattle.text.specs.Nodes.{node-words, text-bound}
 use Rattle.grammar.specs.Tree.{Items}
 use Rattle.grammar.specs.SchemaText.{SchemaText}
 use Rattle.grammar.specs.Serving.Machine.Out.{whole}
@@ -84,7 +84,7 @@ module _ {S : List ℕ} where
     deeper {w = w} z h p = no-objects z (rw (schema-too-deep (subst (λ (y : Text). SchemaTold S w y) p (h .told))) refl)
 
     pub never : {v w : List ℕ} {x : Text} {r : SchemaAnswer} → length S ≤ schema-bytes → ReadsSchema S v w x → x ≡ Texts.TooLong → Answered S NotText old old r
-    never {w = w} h t p = let z : 2 ^ 31 ≤ length S = subst (λ (y : Text). SchemaTold S w y) p (t .told) in absurd (omega arith)
+    never {w = w} h t p = let z : text-bound ≤ length S = subst (λ (y : Text). SchemaTold S w y) p (t .told) in absurd (omega arith)
 
     module _ {w : List ℕ} {count : ℕ} (t : TextRead S w count) where
       pub text-on : {new : List ℕ} {r : SchemaAnswer} → Answered S RepeatedKey old new r → Answered S NotText old new r

@@ -1,6 +1,6 @@
 -- Whole texts: one law for each return of `read_message` and `read_objects`, and what their calls ask.
 -- The run from the start of the text to its answer is the machine's, and the machine's answers are the grammar's (grammar, Texts).
-use Prim.Native.Nat.{ℕ, _*_, _^_, _≤_, _<_}
+use Prim.Native.Nat.{ℕ, _*_, _≤_, _<_}
 use Prim.Native.Char.{code}
 use native.Mathlib.Omega.{arith}
 use mathlib.Core.Path.{_≡_, refl, ap, _∙_}
@@ -28,7 +28,7 @@ use Rattle.text.proofs.Places.{Runs, Ends, then, then-ends, blanks, byt
 use Rattle.text.proofs.Inside.{value-told}
 use Rattle.text.proofs.Values.{stood, missed}
 use Rattle.text.proofs.Entries.{HeldEntries, held-none, held-entry}
-use Rattle.text.specs.Nodes.{node-words}
+use Rattle.text.specs.Nodes.{node-words, text-bound}
 
 -- messages
 message-answers : {s : List ℕ} {o : Out} → Ends message s message-levels AtValue (bottom no-items) 0 o → readMessage s ≡ o
@@ -151,7 +151,7 @@ module _ {s old w : List ℕ} {i n p : ℕ} {t : Bool} (a : ObjectsAt s old w i 
   object-opens : Runs schema s schema-levels AtObject (bottom no-items) 0 AtValue (bottom (a .items)) p
   object-opens = let b = stood f e in then (objects-past a x) (byte-alike (b .0) (b .1) (between-opens (a .items) p))
 
-  pub object-ready : length s < 2 ^ 31 → Ready s p n
+  pub object-ready : length s < text-bound → Ready s p n
   object-ready h = record { short = h; within = omega (arith, stood f e); few = omega (arith, x .on, a .few) }
 
   module _ {new : List ℕ} {r : Read} (v : ReadsValue (spare (getD s p 0)) schema s w new p n schema-levels r) where

@@ -1,5 +1,5 @@
 -- What the nodes of a text say: the index that every later stage walks. One predicate says that nodes hold a tree.
-use Prim.Native.Nat.{ℕ, suc, _-_, _<_}
+use Prim.Native.Nat.{ℕ, suc, _-_, _^_, _<_}
 use mathlib.Core.Path.{_≡_}
 use mathlib.Core.List.{List, [], _∷_}
 use Rattle.grammar.specs.Notation.{wordOf, putItem}
@@ -16,6 +16,10 @@ abbrev pub node-words : ℕ
 node-words = 4
 
 -- word i of node k: its kind, its start, its end, and the first node after it and what is inside it
+-- a text has fewer bytes than this, so that its places and the numbers of its nodes, and of those after them, fit a word
+abbrev pub text-bound : ℕ
+text-bound = 2 ^ 31
+
 abbrev pub node : List ℕ → ℕ → ℕ → ℕ
 node w k i = wordOf node-words w k i
 

@@ -1,5 +1,5 @@
 -- Serves contracts: what the readers of values, containers and entries do, by the machine of the grammar.
-use Prim.Native.Nat.{ℕ, suc, _+_, _*_, _^_, _≤_, _<_}
+use Prim.Native.Nat.{ℕ, suc, _+_, _*_, _≤_, _<_}
 use mathlib.Core.Path.{_≡_}
 use mathlib.Core.Bool.{Bool, true, false, cond}
 use mathlib.Core.List.{List}
@@ -13,7 +13,7 @@ use Rattle.text.specs.declared.reader.Read.{Read}
 use Rattle.text.specs.declared.reader.Read.the-variants.{Past, Fault, Deep}
 use Rattle.text.specs.declared.containers.Container.{Container}
 use Rattle.text.specs.declared.containers.Container.the-variants.{Object}
-use Rattle.text.specs.Nodes.{node-words, next, Holds}
+use Rattle.text.specs.Nodes.{node-words, text-bound, next, Holds}
 use Rattle.text.specs.Containers.{opening, Entries, KeyOf, no-entries, entry, HoldsEntries, atEntry, aroundEntry, aroundValue}
 
 -- words written from node k up to node n, and no others
@@ -80,7 +80,7 @@ pub record ReadsEntry (c : Container) (D : Dialect) (s old new : List ℕ) (i k 
 
 -- where a reader may begin: the places of the text fit a word, and there are no more nodes than bytes so far
 pub record Ready (s : List ℕ) (i k : ℕ) : Type 0 where
-  pub short : length s < 2 ^ 31
+  pub short : length s < text-bound
   pub within : i ≤ length s
   pub few : k ≤ i
 

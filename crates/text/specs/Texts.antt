@@ -1,5 +1,5 @@
 -- What the readers of whole texts answer, by the grammar. In every case the lent words keep their number.
-use Prim.Native.Nat.{ℕ, _+_, _*_, _^_, _≤_}
+use Prim.Native.Nat.{ℕ, _+_, _*_, _≤_}
 use mathlib.Core.Path.{_≡_}
 use mathlib.Core.List.{List}
 use lib.ListN.{length}
@@ -11,7 +11,7 @@ use Rattle.grammar.specs.Starts.{TooDeep}
 use Rattle.grammar.specs.Serving.Faults.{Broken}
 use Rattle.grammar.specs.Serving.Machine.Schema.{schema}
 use Rattle.grammar.specs.Serving.Machine.Message.{message}
-use Rattle.text.specs.Nodes.{node-words, next, Holds, HoldsItems}
+use Rattle.text.specs.Nodes.{node-words, text-bound, next, Holds, HoldsItems}
 use Rattle.text.specs.declared.texts.Text.{Text}
 use Rattle.text.specs.declared.texts.Text.the-variants.{Whole, Fault, Deep, TooLong}
 
@@ -35,14 +35,14 @@ abbrev pub MessageTold : List ℕ → List ℕ → Text → Type 0
 MessageTold s words (Whole n) = MessageRead s words n
 MessageTold s words (Fault e) = Broken message-lexis message-levels s e
 MessageTold s words (Deep e) = TooDeep message-lexis message-levels s e
-MessageTold s words TooLong = 2 ^ 31 ≤ length s
+MessageTold s words TooLong = text-bound ≤ length s
 
 -- Reference, Schema answers 2 (Fault and Deep)
 abbrev pub SchemaTold : List ℕ → List ℕ → Text → Type 0
 SchemaTold s words (Whole n) = SchemaRead s words n
 SchemaTold s words (Fault e) = Broken schema-lexis schema-levels s e
 SchemaTold s words (Deep e) = TooDeep schema-lexis schema-levels s e
-SchemaTold s words TooLong = 2 ^ 31 ≤ length s
+SchemaTold s words TooLong = text-bound ≤ length s
 
 pub record ReadsMessage (s old new : List ℕ) (r : Text) : Type 0 where
   pub same-length : length new ≡ length old

@@ -3,19 +3,17 @@ use crate::reader::Read;
 use crate::reader::read_at;
 use crate::reader::read_value;
 use crate::reader::stands;
+use grammar::MESSAGE_LEVELS;
+use grammar::SCHEMA_LEVELS;
 use strings::classes::class_table;
 use strings::dialects::Dialect;
 use tokens::blanks::skip_blanks;
 ghost use mathlib.Core.Path.{_≡_};
-ghost use Prim.Native.Nat.{_^_, _<_};
+ghost use Prim.Native.Nat.{_<_};
 ghost use lib.ListN.{length};
 ghost use Rattle.strings.specs.Classes.{classOf, tabulate};
+ghost use Rattle.text.specs.Nodes.{text-bound};
 ghost use Rattle.text.specs.Texts.{ReadsMessage, ReadsSchema};
-
-// The most levels of brackets; an outermost bracket is level 1.
-pub const MESSAGE_LEVELS: usize = 32;
-
-const SCHEMA_LEVELS: usize = 8;
 
 // The most bytes whose places a node's words can hold.
 const MOST_BYTES: usize = 0x7FFF_FFFF;
@@ -51,7 +49,7 @@ pub fn read_message(s: &[u8], nodes: &mut [u32]) -> Text
 
 // The objects of a schema, one after the other.
 fn read_objects(s: &[u8], classes: &[u8; 256], nodes: &mut [u32]) -> Text
-    requires { ⌜ (now classes ≡ tabulate classOf 0 256) × (length (now s) < 2 ^ 31) ⌝ }
+    requires { ⌜ (now classes ≡ tabulate classOf 0 256) × (length (now s) < text-bound) ⌝ }
     ensures { λ r. ⌜ ReadsSchema (now (s .entry)) (now (nodes .entry)) (now (nodes .exit)) r ⌝ }
 {
     let mut i = 0;
