@@ -9,7 +9,7 @@ use mathlib.Core.Option.{Option, none}
 use lib.ListN.{length, set, length-append}
 use lib.Seq.{sets, set-comm, length-sets}
 use Rattle.grammar.specs.Limits.{row-words}
-use Rattle.grammar.specs.Notation.{putItem}
+use Rattle.words.specs.Items.{putItem}
 use Rattle.words.proofs.WordLaws.{four-fits}
 use Rattle.definitions.specs.declared.writing.Put.{Put}
 use Rattle.definitions.specs.declared.writing.Put.the-variants.{Rows, Refused}

@@ -3,11 +3,10 @@ use Prim.Native.Nat.{ℕ, _+_, _*_}
 use Prim.Native.String.{String}
 use Prim.Native.String as Quoted
 use Prim.Native.Char.{code}
-use mathlib.Core.Bool.{Bool, true, false, not, cond, _&&_}
+use mathlib.Core.Bool.{Bool, true, false, not, _&&_}
 use mathlib.Core.List.{List, [], _∷_}
 use lib.Dec.{leb, eqb}
-use lib.ListN.{length, getD}
-use lib.Seq.{sets}
+use lib.ListN.{getD}
 
 -- the bytes of a quoted text (all of them ASCII here)
 abbrev pub text : String → List ℕ
@@ -42,7 +41,3 @@ apart f (x ∷ xs) = all (λ y. not (f x y)) xs && apart f xs
 -- word i of item k, in items of `width` words, both counted from 0; 0 past the end
 abbrev pub wordOf : ℕ → List ℕ → ℕ → ℕ → ℕ
 wordOf width w k i = getD w (width * k + i) 0
-
--- the words after item k is written, if all of it fits
-unfoldable pub putItem : ℕ → List ℕ → ℕ → List ℕ → List ℕ
-putItem width w k xs = cond (leb (width * k + width) (length w)) (sets w (width * k) xs) w

@@ -9,7 +9,7 @@ use lib.ListN.{length, take, drop, replicate, length-append}
 use lib.Seq.{take-at, length-take-le, sets-eq}
 use borrow.Author.Tests.{le-leb, lt-ltb, le-ltb}
 use Rattle.grammar.specs.Limits.{record-words}
-use Rattle.grammar.specs.Notation.{putItem}
+use Rattle.words.specs.Items.{putItem}
 use Rattle.rules.specs.declared.MessageRefusal.{MessageRefusal}
 use Rattle.rules.specs.declared.MessageRefusal.the-variants as M
 use Rattle.rules.specs.declared.MessageAnswer.{MessageAnswer}

@@ -11,7 +11,7 @@ use lib.ListN.{length, length-append}
 use lib.Seq.{sets, length-sets}
 use mathlib.Core.Bool.{Bool, true, false, cond}
 use Rattle.grammar.specs.Limits.{record-words}
-use Rattle.grammar.specs.Notation.{putItem}
+use Rattle.words.specs.Items.{putItem}
 use Rattle.grammar.specs.Tree.{Json, startOf, endOf}
 use Rattle.grammar.specs.Tree.Json.{leaf, arr, obj}
 use Rattle.grammar.specs.Serving.Machine.Message.{message}

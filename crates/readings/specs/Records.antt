@@ -6,7 +6,7 @@ use mathlib.Core.List.{List, [], _∷_}
 use mathlib.Core.Option.{Option, none, some}
 use lib.ListN.{length}
 use Rattle.grammar.specs.Limits.{message-levels, record-words}
-use Rattle.grammar.specs.Notation.{putItem}
+use Rattle.words.specs.Items.{putItem}
 use Rattle.grammar.specs.Tree.{Json}
 use Rattle.grammar.specs.Keys.{keysOnce}
 use Rattle.grammar.specs.Serving.Machine.Message.{message}

@@ -15,7 +15,7 @@ use Rattle.grammar.specs.Tree.Items.{no-items, item}
 use Rattle.grammar.specs.Tree.Fields.{no-fields, field}
 use Rattle.grammar.specs.Serving.Machine.{Dialect}
 use Rattle.grammar.proofs.Booleans.{by}
-use Rattle.grammar.specs.Notation.{putItem}
+use Rattle.words.specs.Items.{putItem}
 use Rattle.text.specs.Nodes.{node-words, node, putNode, Node, next, Holds, HoldsItems, HoldsFields}
 use Rattle.text.specs.Containers.{containerNode, Entries, container, HoldsEntries}
 use Rattle.text.specs.Readers.{Wrote}

@@ -2,12 +2,13 @@
 use Prim.Native.Nat.{ℕ, suc, _-_, _^_, _<_}
 use mathlib.Core.Path.{_≡_}
 use mathlib.Core.List.{List, [], _∷_}
-use Rattle.grammar.specs.Notation.{wordOf, putItem}
+use Rattle.grammar.specs.Notation.{wordOf}
 use Rattle.grammar.specs.Tree.{Json, Items, Fields}
 use Rattle.grammar.specs.Tree.Json.{leaf, arr, obj}
 use Rattle.grammar.specs.Tree.Items.{no-items, item}
 use Rattle.grammar.specs.Tree.Fields.{no-fields, field}
 use Rattle.grammar.specs.Serving.Machine.{Dialect}
+use Rattle.words.specs.Items.{putItem}
 use Rattle.strings.specs.Strings.{Means}
 use Rattle.tokens.specs.NodeKinds.{array-node, object-node}
 use Rattle.tokens.specs.Tokens.{scalarNode, keyNode, ScalarAt}

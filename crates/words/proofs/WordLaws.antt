@@ -7,7 +7,7 @@ use mathlib.Core.List.{List, [], _∷_, _++_}
 use lib.ListN.{length, take, drop, getD, set, replicate}
 use lib.Seq.{sets, take-length}
 use borrow.Author.Tests.{le-leb, lt-leb}
-use Rattle.grammar.specs.Notation.{putItem}
+use Rattle.words.specs.Items.{putItem}
 
 -- where item k begins among n words
 module _ (n : ℕ) {width k : ℕ} (h : 0 < width) where

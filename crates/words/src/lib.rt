@@ -3,7 +3,8 @@ ghost use mathlib.Core.Path.{_≡_};
 ghost use mathlib.Core.List.{[], _∷_, _++_};
 ghost use Prim.Native.Nat.{_-_, _≤_, _<_};
 ghost use lib.ListN.{length, take, drop, replicate};
-ghost use Rattle.grammar.specs.Notation.{wordOf, putItem};
+ghost use Rattle.grammar.specs.Notation.{wordOf};
+ghost use Rattle.words.specs.Items.{putItem};
 
 // Word i of item k, in items of `width` words; 0 past the end.
 pub fn word_of(words: &[u32], width: usize, k: usize, i: usize) -> u32
