@@ -6,7 +6,7 @@ pub mod Lexis
 pub mod Grammar
 pub mod SchemaText
 pub mod MessageText
+pub mod Starts
 pub mod Integers
 pub mod Keys
-pub mod Starts
 pub mod Serving
