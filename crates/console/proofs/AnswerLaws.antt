@@ -9,6 +9,7 @@ use lib.ListN.{length, take}
 use lib.Seq.{take-all, take-length}
 use native.Mathlib.Omega.{arith}
 use borrow.Author.Tests.{leb-true, leb-false}
+use Rattle.grammar.specs.Limits.{record-words}
 use Rattle.rules.specs.declared.SchemaAnswer.{SchemaAnswer}
 use Rattle.rules.specs.declared.MessageAnswer.{MessageAnswer}
 use Rattle.rules.specs.SchemaAnswers as Schemas
@@ -40,16 +41,16 @@ take-least n l false e =
     let h : length l ≤ n = le-of-lt (leb-false n (length l) e) in
     ap (λ (k : ℕ). take k l) (min-eq-right h) ∙ take-length l ∙ sym (take-all n l h)
 
-counted : {k c z : ℕ} (w : List ℕ) → k ≡ c → z ≡ min (4 * k) (length w) → take z w ≡ take (4 * c) w
-counted {k} w e f = ap (λ (x : ℕ). take x w) f ∙ take-least (4 * k) w (leb (4 * k) (length w)) refl ∙ ap (λ (x : ℕ). take (4 * x) w) e
+counted : {k c z : ℕ} (w : List ℕ) → k ≡ c → z ≡ min (record-words * k) (length w) → take z w ≡ take (record-words * c) w
+counted {k} w e f = ap (λ (x : ℕ). take x w) f ∙ take-least (record-words * k) w (leb (record-words * k) (length w)) refl ∙ ap (λ (x : ℕ). take (record-words * x) w) e
 
-pub puts-numbers : (w : List ℕ) (a : MessageAnswer) {n r k z at e : ℕ} {old new : List ℕ} → n ≡ Messages.answerNumber a → r ≡ Messages.answerRow a → k ≡ Messages.answerRecords a → z ≡ min (4 * k) (length w)
+pub puts-numbers : (w : List ℕ) (a : MessageAnswer) {n r k z at e : ℕ} {old new : List ℕ} → n ≡ Messages.answerNumber a → r ≡ Messages.answerRow a → k ≡ Messages.answerRecords a → z ≡ min (record-words * k) (length w)
     → Puts (lineText n (r ∷ k ∷ take (z - 0) w)) at old new e → Puts (resultLine (record { answer = a; words = w })) at old new e
 unfolding resultLine
 puts-numbers w a {n} {r} {k} {z} p q o y x =
     puts-as
-    (ap (λ (l : List ℕ). lineText n (r ∷ k ∷ l)) (ap (λ (i : ℕ). take i w) (sub-zero z) ∙ counted w o y) ∙ ap (λ (i : ℕ). lineText i (r ∷ k ∷ take (4 * Messages.answerRecords a) w)) p
-    ∙ ap (λ (i : ℕ). lineText (Messages.answerNumber a) (i ∷ k ∷ take (4 * Messages.answerRecords a) w)) q ∙ ap (λ (i : ℕ). lineText (Messages.answerNumber a) (Messages.answerRow a ∷ i ∷ take (4 * Messages.answerRecords a) w)) o)
+    (ap (λ (l : List ℕ). lineText n (r ∷ k ∷ l)) (ap (λ (i : ℕ). take i w) (sub-zero z) ∙ counted w o y) ∙ ap (λ (i : ℕ). lineText i (r ∷ k ∷ take (record-words * Messages.answerRecords a) w)) p
+    ∙ ap (λ (i : ℕ). lineText (Messages.answerNumber a) (i ∷ k ∷ take (record-words * Messages.answerRecords a) w)) q ∙ ap (λ (i : ℕ). lineText (Messages.answerNumber a) (Messages.answerRow a ∷ i ∷ take (record-words * Messages.answerRecords a) w)) o)
     x
 
 pub no-lines : (S T : List ℕ) (room : ℕ) (m ws : List ℕ) → treeLines S T room m (take 0 ws) ≡ []
@@ -66,7 +67,7 @@ module _ {s : Style} {S T m before w : List ℕ} {a : MessageAnswer} (h : Answer
       let l : List ℕ = resultLine (record { answer = a; words = w }) in
       record { text = l; puts = x; rest = said q ∙ sym (append-nil l) ∙ ap (λ (t : List ℕ). l ++ t) (sym (no-lines S T (length before) m w)); few = omega arith }
 
-  pub says-tree : {k z at e : ℕ} {old new : List ℕ} → s ≡ Tree → Puts (messageHead S T a) at old new e → k ≡ Messages.answerRecords a → (z ≡ min (4 * k) (length w)) × (z ≤ length w) → Says s S T (length before) m at old new w z e
+  pub says-tree : {k z at e : ℕ} {old new : List ℕ} → s ≡ Tree → Puts (messageHead S T a) at old new e → k ≡ Messages.answerRecords a → (z ≡ min (record-words * k) (length w)) × (z ≤ length w) → Says s S T (length before) m at old new w z e
   says-tree q x o y = record {
     text = messageHead S T a;
     puts = x;

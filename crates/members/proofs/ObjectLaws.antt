@@ -184,4 +184,4 @@ module _ (S T m w : List ℕ) {ix : List ℕ} {k t : ℕ} where
 
     pub structs-other : (y ≡ struct-kind → ⊥) → (y ≡ union-kind → ⊥) → StructsAt S T m w ix k t NoObject
     unfolding membersAt
-    structs-other e f = record { told = λ fs o u. rw (ne-eqb t 0 (omega arith), le-ltb t first-row h, ← p, ← q, ne-eqb y 3 e, ne-eqb y 5 f) }
+    structs-other e f = record { told = λ fs o u. rw (ne-eqb t 0 (omega arith), le-ltb t first-row h, ← p, ← q, ne-eqb y struct-kind e, ne-eqb y union-kind f) }

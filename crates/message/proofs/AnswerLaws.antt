@@ -30,7 +30,7 @@ put-front w n t h =
     let e : length (take (record-words * n) w ++ recordOf t) ≡ record-words * suc n = go in
     rw (le-leb (record-words * n + record-words) (length w) h)
     (ap (take (record-words * suc n)) (sets-eq (recordOf t) w (record-words * n) h)
-    ∙ take-at (take (record-words * n) w ++ recordOf t) (drop (record-words * n + 4) w) (record-words * suc n) e)
+    ∙ take-at (take (record-words * n) w ++ recordOf t) (drop (record-words * n + record-words) w) (record-words * suc n) e)
   where
     go : length (take (record-words * n) w ++ recordOf t) ≡ record-words * suc n
     go = let a = length-take-le (record-words * n) w (omega arith) in let b = length-append (take (record-words * n) w) (recordOf t) in omega arith

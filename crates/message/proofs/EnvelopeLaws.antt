@@ -47,7 +47,7 @@ pub absent : (w : List ℕ) {k : ℕ} → k ≡ 0 → true ≡ properArguments w
 unfolding properArguments
 absent w {k} e = rw (eq-eqb k 0 e) refl
 
-pub present : (w : List ℕ) {k i : ℕ} → (k ≡ 0 → ⊥) → i ≡ nodeKind w k → eqb i 9 ≡ properArguments w k
+pub present : (w : List ℕ) {k i : ℕ} → (k ≡ 0 → ⊥) → i ≡ nodeKind w k → eqb i object-node ≡ properArguments w k
 unfolding properArguments
 present w {k} h e = rw (ne-eqb k 0 h) (ap (λ (n : ℕ). eqb n object-node) e)
 

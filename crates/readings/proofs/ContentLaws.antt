@@ -15,6 +15,7 @@ use Rattle.grammar.specs.Tree.Kind.{string}
 use Rattle.grammar.specs.Notation.{same, apart}
 use Rattle.grammar.specs.Keys.{keysOf, keysOnce, keysOnceF}
 use Rattle.grammar.specs.Serving.Machine.Message.{message}
+use Rattle.rules.specs.Kinds.{enum-kind}
 use Rattle.rules.specs.Types.{first-row, sameKind}
 use Rattle.rules.specs.Rows.{kind, children}
 use Rattle.rules.specs.Readings.{Typed, typed}
@@ -44,11 +45,11 @@ module _ {S T m w ix : List ℕ} {k t : ℕ} where
   below-enums h = record { told = λ a e l v d x. rw (lt-leb first-row t h) }
 
   module _ (h : first-row ≤ t) {r y : ℕ} (p : r ≡ t - first-row) (q : y ≡ kind T r) where
-    pub no-enum : (y ≡ 1 → ⊥) → EnumHas S T m w ix k t false
+    pub no-enum : (y ≡ enum-kind → ⊥) → EnumHas S T m w ix k t false
     unfolding enumHas
-    no-enum n = record { told = λ a e l v d x. rw (le-leb first-row t h, ← p, ← q, ne-eqb y 1 n) }
+    no-enum n = record { told = λ a e l v d x. rw (le-leb first-row t h, ← p, ← q, ne-eqb y enum-kind n) }
 
-    module _ (o : y ≡ 1) {s : Bool} (i : s ≡ stringKind (nodeKind w k)) where
+    module _ (o : y ≡ enum-kind) {s : Bool} (i : s ≡ stringKind (nodeKind w k)) where
       pub no-string : s ≡ false → EnumHas S T m w ix k t false
       unfolding enumHas
       no-string f = record { told = λ a e l v d x. go a e l v x (sym (string-node message m w (leaf a e v) l k x) ∙ sym i ∙ f) }
@@ -142,7 +143,7 @@ module _ {S T m w ix : List ℕ} {k t f : ℕ} where
 
 -- the content of a value, by its node's kind
 module _ (S T m w : List ℕ) {ix : List ℕ} {k t f y : ℕ} {x : Content} {i : Bool} (p : AtBuiltIn t f i) (n : i ≡ false) (q : y ≡ nodeKind w k) where
-  pub content-array : y ≡ 8 → ArrayContent f x → ContentAt S T m w ix k t f x
+  pub content-array : y ≡ array-node → ArrayContent f x → ContentAt S T m w ix k t f x
   content-array e g = record { told = λ j l o h once. go j l h }
     where
       go : (j : Json) (l : ℕ) → Holds message m w j l k → ContentTold S T j t f x
@@ -150,7 +151,7 @@ module _ (S T m w : List ℕ) {ix : List ℕ} {k t f y : ℕ} {x : Content} {i :
       go (arr a z js) l h = g .told t (sym (p .told) ∙ n) S T a z js
       go (obj a z fs) l h = absurd (omega (arith, h .0 .has-kind))
 
-  pub content-object : y ≡ 9 → ObjectContent S T m w ix k t f x → ContentAt S T m w ix k t f x
+  pub content-object : y ≡ object-node → ObjectContent S T m w ix k t f x → ContentAt S T m w ix k t f x
   content-object e g = record { told = λ j l o h once. go j l o h once }
     where
       go : (j : Json) (l : ℕ) → IndexedTable S T ix → Holds message m w j l k → keysOnce j ≡ true → ContentTold S T j t f x
@@ -158,7 +159,7 @@ module _ (S T m w : List ℕ) {ix : List ℕ} {k t f y : ℕ} {x : Content} {i :
       go (arr a z js) l o h once = absurd (omega (arith, h .0 .has-kind))
       go (obj a z fs) l o h once = g .told (sym (p .told) ∙ n) a z fs o (record { levels = l - 1; holds = h .3; once = and-left (apart same (keysOf fs)) (keysOnceF fs) once })
 
-  pub content-scalar : (y ≡ 8 → ⊥) → (y ≡ 9 → ⊥) → ScalarContent S T m w ix k t f x → ContentAt S T m w ix k t f x
+  pub content-scalar : (y ≡ array-node → ⊥) → (y ≡ object-node → ⊥) → ScalarContent S T m w ix k t f x → ContentAt S T m w ix k t f x
   content-scalar d e g = record { told = λ j l o h once. go j l o h }
     where
       go : (j : Json) (l : ℕ) → IndexedTable S T ix → Holds message m w j l k → ContentTold S T j t f x

@@ -22,18 +22,18 @@ use Rattle.builtins.specs.Ranges.{rangeAs}
 use Rattle.builtins.specs.declared.ranges.Range.{Range}
 use Rattle.builtins.specs.declared.ranges.Range.the-variants.{From, Any}
 use Rattle.builtins.proofs.RangeLaws.{NoneFrom, between}
-use Rattle.tokens.specs.NodeKinds.{plain-string-node, other-string-node}
+use Rattle.tokens.specs.NodeKinds.{null-node, integer-node, other-number-node, plain-string-node, other-string-node, object-node}
 use Rattle.tokens.specs.Tokens.{scalarNode}
 use Rattle.text.specs.Nodes.{Holds, nodeEnd, nodeKind, nodeStart}
 use Rattle.readings.specs.Parts.{node-kinds, columnOf, NumberFits, BuiltInTakes}
 
 -- columns
-pub column-rest : (k : ℕ) → NoneFrom k 1 9 → no-column ≡ columnOf k
-column-rest k h = go (leb 10 k) refl
+pub column-rest : (k : ℕ) → NoneFrom k null-node object-node → no-column ≡ columnOf k
+column-rest k h = go (leb (suc object-node) k) refl
   where
-    go : (b : Bool) → leb 10 k ≡ b → no-column ≡ columnOf k
-    go true e = sym (ap kindColumn (List·getD-eq-default node-kinds none {n = k} (leb-true 10 k e)))
-    go false e = let z : k ≡ 0 = omega (arith, between k 1 9 h (omega (arith, leb-false 10 k e))) in rw z
+    go : (b : Bool) → leb (suc object-node) k ≡ b → no-column ≡ columnOf k
+    go true e = sym (ap kindColumn (List·getD-eq-default node-kinds none {n = k} (leb-true (suc object-node) k e)))
+    go false e = let z : k ≡ 0 = omega (arith, between k null-node object-node h (omega (arith, leb-false (suc object-node) k e))) in rw z
 
 scalar-column : (m : List ℕ) (a e : ℕ) (v : Scalar) → columnOf (scalarNode m a e v) ≡ column (scalarKind v)
 scalar-column m a e null = refl
@@ -58,14 +58,14 @@ module _ (m w : List ℕ) {k b : ℕ} {x : Range} (p : rangeAs x ≡ getD (none 
   number-free q = record { told = λ a e l i token h. rw (← p, q) }
 
   module _ {low high : ℕ} (q : x ≡ From low high) {c : ℕ} (n : c ≡ nodeKind w k) where
-    pub number-other : (c ≡ 4 → ⊥) → NumberFits m w k b false
+    pub number-other : (c ≡ integer-node → ⊥) → NumberFits m w k b false
     number-other f = record { told = λ a e l i token h. go i token (n ∙ h .0 .has-kind) }
       where
-        go : (i : Bool) (token : List ℕ) → c ≡ cond i 4 5 → false ≡ numberFits (getD (none ∷ ranges) b none) i token
+        go : (i : Bool) (token : List ℕ) → c ≡ cond i integer-node other-number-node → false ≡ numberFits (getD (none ∷ ranges) b none) i token
         go true token z = absurd (f z)
         go false token z = rw (← p, q)
 
-    pub number-within : c ≡ 4 → {s z : ℕ} → s ≡ nodeStart w k → z ≡ nodeEnd w k → {r : Bool}
+    pub number-within : c ≡ integer-node → {s z : ℕ} → s ≡ nodeStart w k → z ≡ nodeEnd w k → {r : Bool}
         → r ≡ leb (decimal 0 (unsignedPart (take (z - s) (drop s m)))) (cond (negative (take (z - s) (drop s m))) low high) → NumberFits m w k b r
     unfolding inRange
     number-within f {s} {z} u v {r} g = record {
@@ -73,7 +73,7 @@ module _ (m w : List ℕ) {k b : ℕ} {x : Range} (p : rangeAs x ≡ getD (none 
           (h .2 ∙ ap₂ (λ (y t : ℕ). take (t - y) (drop y m)) (sym (u ∙ h .0 .has-start)) (sym (v ∙ h .0 .has-end)));
     }
       where
-        go : (i : Bool) (token : List ℕ) → _≡_ {A = ℕ} (cond i 4 5) 4 → token ≡ take (z - s) (drop s m) → r ≡ numberFits (getD (none ∷ ranges) b none) i token
+        go : (i : Bool) (token : List ℕ) → _≡_ {A = ℕ} (cond i integer-node other-number-node) integer-node → token ≡ take (z - s) (drop s m) → r ≡ numberFits (getD (none ∷ ranges) b none) i token
         go true token y t = g ∙ rw (← p, q, t)
         go false token y t = absurd (omega arith)
 

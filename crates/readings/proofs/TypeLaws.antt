@@ -8,6 +8,7 @@ use native.Mathlib.Omega.{arith}
 use lib.Dec.{eqb}
 use borrow.Author.Tests.{eq-eqb, ne-eqb, le-leb, lt-leb}
 use Rattle.grammar.specs.Tree.{Kind, kindOf}
+use Rattle.rules.specs.Kinds.{alternate-kind}
 use Rattle.rules.specs.Types.{first-row, column, sameKind}
 use Rattle.rules.specs.Rows.{kind, typeRef, children, typeKind}
 use Rattle.rules.specs.Rules.{is}
@@ -62,11 +63,11 @@ module _ (T w : List ℕ) {k t f : ℕ} where
     direct-below l = record { told = λ S m j x h. rw (z, lt-leb first-row t l) }
 
     module _ (l : first-row ≤ t) {r y : ℕ} (p : r ≡ t - first-row) (q : y ≡ kind T r) where
-      pub direct-other : (y ≡ 7 → ⊥) → TypeFor T w k t f Itself
+      pub direct-other : (y ≡ alternate-kind → ⊥) → TypeFor T w k t f Itself
       unfolding typeChoice
-      direct-other n = record { told = λ S m j x h. rw (z, le-leb first-row t l, ← p, ← q, ne-eqb y 7 n) }
+      direct-other n = record { told = λ S m j x h. rw (z, le-leb first-row t l, ← p, ← q, ne-eqb y alternate-kind n) }
 
-      pub by-alternative : y ≡ 7 → {c d : ℕ} {x : Choice} → c ≡ columnOf d → d ≡ nodeKind w k → AlternativeOf T r c x → TypeFor T w k t f x
+      pub by-alternative : y ≡ alternate-kind → {c d : ℕ} {x : Choice} → c ≡ columnOf d → d ≡ nodeKind w k → AlternativeOf T r c x → TypeFor T w k t f x
       unfolding typeChoice
       by-alternative e {c} {d} {x} u v g = record {
         told = λ S m j i h.

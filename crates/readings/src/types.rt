@@ -11,7 +11,7 @@ use rules::row;
 use table::alternates::type_kind;
 use text::nodes::NODE_KIND;
 use text::nodes::node_word;
-ghost use Prim.Native.Nat.{_<_, _^_};
+ghost use Rattle.rows.specs.Rows.{Near};
 ghost use Rattle.readings.specs.Parts.{AlternativeOf, TypeFor};
 
 pub enum Choice {
@@ -22,7 +22,7 @@ pub enum Choice {
 
 // The first alternative of row r with the JSON kind k.
 fn alternative(rows: &[u32], r: usize, k: u32) -> Choice
-    requires { ⌜ r < 2 ^ 39 ⌝ }
+    requires { ⌜ Near r ⌝ }
     ensures { λ x. ⌜ AlternativeOf (now (rows .entry)) r k x ⌝ }
 {
     let mut i = first_child(rows, r);

@@ -30,7 +30,7 @@ use Rattle.table.proofs.DistinctLaws.{few-rows}
 use Rattle.references.specs.Lookups.{nameIn, fitting, findRow, refersTo, wordRefers, Heads, Finds, Refers}
 
 -- kinds that may be meant
-pub fit-type : (s : Bool) {k n : ℕ} → k ≡ n → eqb n 3 ≡ false → (eqb n 1 || eqb n 3 || eqb n 5 || eqb n 7) ≡ true → not s ≡ fitting s k
+pub fit-type : (s : Bool) {k n : ℕ} → k ≡ n → eqb n struct-kind ≡ false → (eqb n enum-kind || eqb n struct-kind || eqb n union-kind || eqb n alternate-kind) ≡ true → not s ≡ fitting s k
 fit-type true e p q = rw (e, p)
 fit-type false e p q = rw (e, q)
 

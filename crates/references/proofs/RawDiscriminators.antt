@@ -109,14 +109,14 @@ module _ (S : List ℕ) (ds : List Definition) (short : length S ≤ schema-byte
         let e : Entry = unionRow n b discriminator c in
         let s : EntryNames (Spans S) e = subst (EntryNames (Spans S)) p (every-at (EntryNames (Spans S)) blank es (entry-names (Spans S) ds spans) r l) in
         let w : getD (U r) (row-words * r + discriminator-word) 0 ≡ packed discriminator =
-        word-is SL TN (mixed r) es r 5 l (omega arith) ∙ ap (λ x. getD (wordsOf SL TN (mixed r) r x) 5 0) p ∙ mixed-above r r discriminator (omega arith) in
+        word-is SL TN (mixed r) es r discriminator-word l (omega arith) ∙ ap (λ x. getD (wordsOf SL TN (mixed r) r x) discriminator-word 0) p ∙ mixed-above r r discriminator (omega arith) in
         let v : mixed (suc r) r discriminator ≡ discriminatorFound S r (U r) = mixed-below (suc r) r discriminator (omega arith) ∙ sym (discriminator-at r discriminator (s .2) w) in
         let k : length (A r) ≡ row-words * r = length-below SL TN (mixed r) es r (omega arith) in
         sym (union-put S (U r) r (kind-there e p) refl v)
         ∙ join e p (set (U r) (row-words * r + discriminator-word) (mixed (suc r) r discriminator))
         (ap (λ u. set u (row-words * r + discriminator-word) (mixed (suc r) r discriminator)) (parts r ∙ ap (λ x. A r ++ (wordsOf SL TN (mixed r) r x ++ B r)) p)
-        ∙ ap (λ i. set (A r ++ (wordsOf SL TN (mixed r) r e ++ B r)) (i + 5) (mixed (suc r) r discriminator)) (sym k)
-        ∙ set-behind (A r) (wordsOf SL TN (mixed r) r e ++ B r) 5 (mixed (suc r) r discriminator)
+        ∙ ap (λ i. set (A r ++ (wordsOf SL TN (mixed r) r e ++ B r)) (i + discriminator-word) (mixed (suc r) r discriminator)) (sym k)
+        ∙ set-behind (A r) (wordsOf SL TN (mixed r) r e ++ B r) discriminator-word (mixed (suc r) r discriminator)
         ∙ ap (λ w. A r ++ w) (union-words SL TN (mixed r) (mixed (suc r)) r n b discriminator c (B r)))
 
     by-entry : (e : Entry) → getD es r blank ≡ e → putDiscriminator S r (U r) ≡ U (suc r)

@@ -18,7 +18,7 @@ use Rattle.rules.specs.Rows.{kind}
 use Rattle.rules.specs.Rows as Rows
 use Rattle.rules.specs.Serving.Cells.{Entry, wordsOf, isInline, owns, EntryNames}
 use Rattle.rules.specs.Serving.Cells.Entry.{enumRow, alternateRow, valueRow, structRow, inlineRow, memberRow, unionRow, branchRow, alternativeRow, commandRow}
-use Rattle.references.specs.NamedWords.{returns-word}
+use Rattle.references.specs.NamedWords.{base-word, type-word, branch-word, owner-word, returns-word}
 use Rattle.references.specs.declared.slots.Slot.the-variants.{Word}
 use Rattle.references.specs.Steps.{putAt, foundAt, putData, foundData, putCommand, foundCommand, slotOf, putSlot, foundSlot, putRow, foundRow}
 use Rattle.references.proofs.SlotLaws.{row-at}
@@ -53,11 +53,11 @@ module _ (X Y W : List ℕ) (r : ℕ) (n : length X ≡ row-words * r) (m : leng
       rw (
         next-behind,
         word-from r 0 (omega arith),
-        word-from r 3 (omega arith),
+        word-from r owner-word (omega arith),
         word-from s 0 h,
         word-from s 1 h,
         word-from s 2 h,
-        word-from s 4 h,
+        word-from s base-word h,
       )
 
 -- what an entry's own row refers to; members written out have rows of their own
@@ -96,13 +96,13 @@ module _ (S : List ℕ) (ds : List Definition) (short : length S ≤ schema-byte
       (rw (z, q .0, ← n) (set-behind X W i v), rw (z, q .0) (q .1))
 
   -- its link to a base or to data
-  data-behind : (a : Option Data) (W : List ℕ) → IfThere (DataNames (Spans S)) a → getD W 3 0 ≡ ifAbsent 0 (dataLink packed r) a → Rows.owns (X ++ W) r ≡ isInline (a >>= inlineMembers)
-      → (putData S T r (X ++ W) ≡ X ++ set W 3 (ifAbsent 0 (dataLink SL r) a)) × (foundData S T r (X ++ W) ≡ ifAbsent true (linkRefers S ds) a)
+  data-behind : (a : Option Data) (W : List ℕ) → IfThere (DataNames (Spans S)) a → getD W owner-word 0 ≡ ifAbsent 0 (dataLink packed r) a → Rows.owns (X ++ W) r ≡ isInline (a >>= inlineMembers)
+      → (putData S T r (X ++ W) ≡ X ++ set W owner-word (ifAbsent 0 (dataLink SL r) a)) × (foundData S T r (X ++ W) ≡ ifAbsent true (linkRefers S ds) a)
   unfolding putData foundData
-  data-behind none W p q i = let z = put-behind true 3 W 0 0 true q (none-becomes S ds short spans true) in (rw i (z .0), rw i (z .1))
+  data-behind none W p q i = let z = put-behind true owner-word W 0 0 true q (none-becomes S ds short spans true) in (rw i (z .0), rw i (z .1))
   data-behind (some (named m)) W p q i =
-      let z = put-behind true 3 W (packed m) (SL m) (isStructName S ds m) q (struct-becomes S ds short spans m p) in (rw i (z .0), rw i (z .1))
-  data-behind (some (inline ms)) W p q i = (rw i (ap (λ l. X ++ l) (sym (set-getD W 3 0) ∙ ap (set W 3) q)), rw i)
+      let z = put-behind true owner-word W (packed m) (SL m) (isStructName S ds m) q (struct-becomes S ds short spans m p) in (rw i (z .0), rw i (z .1))
+  data-behind (some (inline ms)) W p q i = (rw i (ap (λ l. X ++ l) (sym (set-getD W owner-word 0) ∙ ap (set W owner-word) q)), rw i)
 
   -- the row itself
   abbrev Step : Entry → List ℕ → Type 0
@@ -114,14 +114,14 @@ module _ (S : List ℕ) (ds : List Definition) (short : length S ≤ schema-byte
   kind-behind W = sym (word-behind X W r n 0)
 
   command-behind : (d : Option Data) (t : Option TypeText) (W : List ℕ) → IfThere (DataNames (Spans S)) d → IfThere (TypeNames (Spans S)) t
-      → getD W 3 0 ≡ ifAbsent 0 (dataLink packed r) d → getD (set W 3 (ifAbsent 0 (dataLink SL r) d)) 5 0 ≡ ifAbsent 0 (typeOf packed) t → Rows.owns (X ++ W) r ≡ isInline (d >>= inlineMembers)
-      → (putCommand S T r (X ++ W) ≡ X ++ set (set W 3 (ifAbsent 0 (dataLink SL r) d)) 5 (ifAbsent 0 (typeOf TN) t))
+      → getD W owner-word 0 ≡ ifAbsent 0 (dataLink packed r) d → getD (set W owner-word (ifAbsent 0 (dataLink SL r) d)) returns-word 0 ≡ ifAbsent 0 (typeOf packed) t → Rows.owns (X ++ W) r ≡ isInline (d >>= inlineMembers)
+      → (putCommand S T r (X ++ W) ≡ X ++ set (set W owner-word (ifAbsent 0 (dataLink SL r) d)) returns-word (ifAbsent 0 (typeOf TN) t))
       × (foundCommand S T r (X ++ W) ≡ (ifAbsent true (linkRefers S ds) d && ifAbsent true (typeRefers S ds) t))
   unfolding putCommand foundCommand
   command-behind d t W p q a b i =
       let y = data-behind d W p a i in
       let w = if-becomes S ds short spans (TypeNames (Spans S)) false (typeOf packed) (typeOf TN) (typeRefers S ds) (λ x. type-becomes S ds short spans (x .name)) t q in
-      let z = put-behind false 5 (set W 3 (ifAbsent 0 (dataLink SL r) d)) (ifAbsent 0 (typeOf packed) t) (ifAbsent 0 (typeOf TN) t) (ifAbsent true (typeRefers S ds) t) b w in
+      let z = put-behind false returns-word (set W owner-word (ifAbsent 0 (dataLink SL r) d)) (ifAbsent 0 (typeOf packed) t) (ifAbsent 0 (typeOf TN) t) (ifAbsent true (typeRefers S ds) t) b w in
       (ap (putAt S T false (row-words * r + returns-word)) (y .0) ∙ z .0, ap₂ _&&_ (y .1) (ap (foundAt S T false (row-words * r + returns-word)) (y .0) ∙ z .1))
 
   -- a row of which one word names
@@ -137,17 +137,17 @@ module _ (S : List ℕ) (ds : List Definition) (short : length S ≤ schema-byte
   row-step (alternateRow m c) Y p i = row-at S (X ++ (wordsOf packed packed rawDiscriminator r (alternateRow m c) ++ Y)) r (kind-behind (wordsOf packed packed rawDiscriminator r (alternateRow m c) ++ Y)) T
   row-step (valueRow m) Y p i = row-at S (X ++ (wordsOf packed packed rawDiscriminator r (valueRow m) ++ Y)) r (kind-behind (wordsOf packed packed rawDiscriminator r (valueRow m) ++ Y)) T
   row-step (structRow m b c) Y p i =
-      word-step (wordsOf packed packed rawDiscriminator r (structRow m b c) ++ Y) true 4 _ _ _ refl refl
+      word-step (wordsOf packed packed rawDiscriminator r (structRow m b c) ++ Y) true base-word _ _ _ refl refl
       (if-becomes S ds short spans (Spans S) true packed SL (isStructName S ds) (struct-becomes S ds short spans) b (p .1))
-  row-step (inlineRow c) Y p i = word-step (wordsOf packed packed rawDiscriminator r (inlineRow c) ++ Y) true 4 _ _ _ refl refl (none-becomes S ds short spans true)
-  row-step (memberRow m) Y p i = word-step (wordsOf packed packed rawDiscriminator r (memberRow m) ++ Y) false 3 _ _ _ refl refl (type-becomes S ds short spans (m .type .name) (p .1))
+  row-step (inlineRow c) Y p i = word-step (wordsOf packed packed rawDiscriminator r (inlineRow c) ++ Y) true base-word _ _ _ refl refl (none-becomes S ds short spans true)
+  row-step (memberRow m) Y p i = word-step (wordsOf packed packed rawDiscriminator r (memberRow m) ++ Y) false type-word _ _ _ refl refl (type-becomes S ds short spans (m .type .name) (p .1))
   row-step (unionRow m d discriminator c) Y p i =
       let W : List ℕ = wordsOf packed packed rawDiscriminator r (unionRow m d discriminator c) ++ Y in
       let x = row-at S (X ++ W) r (kind-behind W) T in
       let y = data-behind (some d) W (p .1) refl i in
       (x .0 ∙ y .0, x .1 ∙ y .1)
-  row-step (branchRow q) Y p i = word-step (wordsOf packed packed rawDiscriminator r (branchRow q) ++ Y) true 3 _ _ _ refl refl (struct-becomes S ds short spans (q .type) (p .1))
-  row-step (alternativeRow q) Y p i = word-step (wordsOf packed packed rawDiscriminator r (alternativeRow q) ++ Y) false 3 _ _ _ refl refl (type-becomes S ds short spans (q .type) (p .1))
+  row-step (branchRow q) Y p i = word-step (wordsOf packed packed rawDiscriminator r (branchRow q) ++ Y) true branch-word _ _ _ refl refl (struct-becomes S ds short spans (q .type) (p .1))
+  row-step (alternativeRow q) Y p i = word-step (wordsOf packed packed rawDiscriminator r (alternativeRow q) ++ Y) false type-word _ _ _ refl refl (type-becomes S ds short spans (q .type) (p .1))
   row-step (commandRow m d t oob) Y p i =
       let W : List ℕ = wordsOf packed packed rawDiscriminator r (commandRow m d t oob) ++ Y in
       let x = row-at S (X ++ W) r (kind-behind W) T in

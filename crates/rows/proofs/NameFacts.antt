@@ -15,6 +15,7 @@ use Rattle.grammar.proofs.Lists.{different}
 use Rattle.grammar.proofs.Booleans.{within-is, within-below, within-above, within-out, Outside}
 use Rattle.grammar.proofs.Booleans.Outside.{below, above}
 use Rattle.grammar.specs.Lexis.{blank}
+use Rattle.grammar.specs.Limits.{name-bytes}
 use Rattle.grammar.specs.Notation.{text, within, same, all, digit}
 use Rattle.rules.specs.Names.{letter, nameByte, goodName, cByte, cName, clash}
 use Rattle.strings.proofs.Tables.{entry}
@@ -125,16 +126,16 @@ module _ (digits : Bool) where
     abbrev starts : Bool
     starts = letter (getD x 0 0) || digits && digit (getD x 0 0)
 
-    good-at : goodName digits x ≡ (starts && all nameByte (drop 1 x) && leb (length x) 63 && not (reserved x))
+    good-at : goodName digits x ≡ (starts && all nameByte (drop 1 x) && leb (length x) name-bytes && not (reserved x))
     good-at = go x some
       where
         go : (y : List ℕ) → (length y ≡ 0 → ⊥)
-            → goodName digits y ≡ ((letter (getD y 0 0) || digits && digit (getD y 0 0)) && all nameByte (drop 1 y) && leb (length y) 63 && not (reserved y))
+            → goodName digits y ≡ ((letter (getD y 0 0) || digits && digit (getD y 0 0)) && all nameByte (drop 1 y) && leb (length y) name-bytes && not (reserved y))
         go [] n = absurd (n refl)
         go (b ∷ y) n = refl
 
-    pub name-long : 63 < length x → false ≡ goodName digits x
-    name-long h = rw (good-at, lt-leb (length x) 63 h, and-false)
+    pub name-long : name-bytes < length x → false ≡ goodName digits x
+    name-long h = rw (good-at, lt-leb (length x) name-bytes h, and-false)
 
     pub name-start : starts ≡ false → false ≡ goodName digits x
     name-start h = rw (good-at, h)
@@ -142,5 +143,5 @@ module _ (digits : Bool) where
     pub name-reserved : reserved x ≡ true → false ≡ goodName digits x
     name-reserved h = rw (good-at, h, and-false)
 
-    pub name-rest : length x ≤ 63 → starts ≡ true → reserved x ≡ false → all nameByte (drop 1 x) ≡ goodName digits x
-    name-rest h p q = rw (good-at, le-leb (length x) 63 h, p, q) (simp and-true)
+    pub name-rest : length x ≤ name-bytes → starts ≡ true → reserved x ≡ false → all nameByte (drop 1 x) ≡ goodName digits x
+    name-rest h p q = rw (good-at, le-leb (length x) name-bytes h, p, q) (simp and-true)

@@ -62,10 +62,9 @@ module _ {es : List Entry} {b : ℕ} where
       }
 
 module _ (f g : Name → ℕ) (h : ℕ → Name → ℕ) (es : List Entry) where
-  -- counts of children
-  children-of : (r : ℕ) (e : Entry)
-      → cond (eqb (getD (wordsOf f g h r e) 0 0) 1 || eqb (getD (wordsOf f g h r e) 0 0) 3 || eqb (getD (wordsOf f g h r e) 0 0) 7) (getD (wordsOf f g h r e) 3 0)
-      (cond (eqb (getD (wordsOf f g h r e) 0 0) 5) (getD (wordsOf f g h r e) 4 0) 0) ≡ entryChildren e
+  -- counts of children, of an entry's words as a row of their own
+  children-of : (r : ℕ) (e : Entry) → childCount (wordsOf f g h r e) 0 ≡ entryChildren e
+  unfolding childCount
   children-of r (enumRow n c) = refl
   children-of r (alternateRow n c) = refl
   children-of r (valueRow n) = refl

@@ -41,9 +41,9 @@ definition-of (alternativeRow p) = refl
 definition-of (commandRow n a t oob) = refl
 
 module _ (f g : Name → ℕ) (h : ℕ → Name → ℕ) where
-  -- an unnamed struct is the entry of an inline one
-  unnamed-entry : (r : ℕ) (e : Entry) → EntryNames Behind e
-      → (eqb (getD (wordsOf f g h r e) 0 0) 3 && eqb (getD (wordsOf f g h r e) 1 0) 0 && eqb (getD (wordsOf f g h r e) 2 0) 0 && eqb (getD (wordsOf f g h r e) 4 0) 0) ≡ isInlineRow e
+  -- an unnamed struct is the entry of an inline one: of an entry's words as a row of their own
+  unnamed-entry : (r : ℕ) (e : Entry) → EntryNames Behind e → Rows.unnamed (wordsOf f g h r e) 0 ≡ isInlineRow e
+  unfolding Rows.unnamed
   unnamed-entry r (inlineRow c) b = refl
   unnamed-entry r (structRow n d c) b = let k : n .start ≡ 0 → ⊥ = omega (arith, b .0) in rw (ne-eqb (n .start) 0 k)
   unnamed-entry r (enumRow n c) b = refl
@@ -57,7 +57,7 @@ module _ (f g : Name → ℕ) (h : ℕ → Name → ℕ) where
 
   -- an owner's link is to the row after it
   abbrev linksOn : ℕ → Entry → Bool
-  linksOn r p = (eqb (getD (wordsOf f g h r p) 0 0) 5 || eqb (getD (wordsOf f g h r p) 0 0) 9) && eqb (getD (wordsOf f g h r p) 3 0) (suc (suc r))
+  linksOn r p = (Rows.isUnion (wordsOf f g h r p) 0 || Rows.isCommand (wordsOf f g h r p) 0) && eqb (Rows.ownerLink (wordsOf f g h r p) 0) (Rows.link (suc r))
 
   owner-link : (r : ℕ) (p : Entry) → owns p ≡ true → linksOn r p ≡ true
   owner-link r (unionRow n (inline ms) discriminator k) o = rw (eq-eqb (suc (suc r)) (suc (suc r)) refl)

@@ -70,10 +70,10 @@ module _ (S : List ℕ) (ds : List Definition) (behind : EveryName Behind ds) (h
       and-of (ltb 0 l && isStruct T (l - 1)) (not (Rows.unnamed T (l - 1))) (and-of (ltb 0 l) (isStruct T (l - 1)) e (z .1)) (own-row (l - 1) (z .0))
 
   -- of the definitions all but commands are types
-  type-row : (r : ℕ) → isDefinition T r ≡ true → ltb (kind T r) 9 ≡ true → toType T (first-row + r) ≡ true
+  type-row : (r : ℕ) → isDefinition T r ≡ true → ltb (kind T r) command-kind ≡ true → toType T (first-row + r) ≡ true
   type-row r e f =
       let type : Bool = isEnum T r || isStruct T r || isUnion T r || isAlternate T r in
-      let k : kind T r < 9 = ltb-true (kind T r) 9 f in
+      let k : kind T r < command-kind = ltb-true (kind T r) command-kind f in
       let i : type || isCommand T r ≡ true = and-left (type || isCommand T r) (not (Rows.unnamed T r)) e in
       let t : type ≡ true = ⊎-elim (λ p. p) (λ p. let z : kind T r ≡ command-kind = eqb-true (kind T r) command-kind p in absurd (omega arith)) (or-cases type (isCommand T r) i) in
       let z : first-row + r - first-row ≡ r = omega arith in
@@ -84,7 +84,7 @@ module _ (S : List ℕ) (ds : List Definition) (behind : EveryName Behind ds) (h
   type-found : (n : Name) → isTypeName S ds n ≡ true → toType T (typeNamed S ds n) ≡ true
   type-found n e =
       go (placeIn built-ins (bytesOf S n)) (findFrom S Table.definesType (bytesOf S n) 0 ds) (place-within built-ins (bytesOf S n))
-      (λ r q. let z = found (λ k. ltb k 9) (bytesOf S n) r q in type-row r (z .0) (z .1)) e
+      (λ r q. let z = found (λ k. ltb k command-kind) (bytesOf S n) r q in type-row r (z .0) (z .1)) e
     where
       go : (p l : ℕ) → p ≤ length built-ins → ((r : ℕ) → l ≡ suc r → toType T (first-row + r) ≡ true) → ltb 0 (reference p l) ≡ true → toType T (reference p l) ≡ true
       go (suc b) l k f t = or-left (isBuiltIn (suc b)) _ (and-of (ltb 0 (suc b)) (ltb (suc b) first-row) (lt-ltb 0 (suc b) (omega arith)) (lt-ltb (suc b) first-row (omega arith)))

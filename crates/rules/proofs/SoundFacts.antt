@@ -13,7 +13,7 @@ use borrow.Author.Tests.{eq-eqb, eqb-true, ltb-true, ltb-false, leb-true}
 use Rattle.grammar.specs.Limits.{row-words, chain-structs, table-rows}
 use Rattle.grammar.specs.Notation.{same, all, apart}
 use Rattle.grammar.specs.Tree.{Kind}
-use Rattle.rules.specs.Kinds.{struct-kind, member-kind, union-kind, branch-kind, alternate-kind, command-kind}
+use Rattle.rules.specs.Kinds.{struct-kind, union-kind, branch-kind, alternate-kind, command-kind}
 use Rattle.rules.specs.Types.{column, sameKind}
 use Rattle.rules.specs.Names.{clash}
 use Rattle.rules.specs.Rows.{upFrom, rowCount, kind, isEnum, isStruct, isUnion, isAlternate, isCommand, base, typeRef, unionBase, discriminator, branchStruct, dataStruct, allowOob, returns, returnsArray, next, unnamed, owns, children, members, after, typeKind, nameOf, ownerLink}

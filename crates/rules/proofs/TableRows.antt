@@ -12,7 +12,7 @@ use lib.Dec.{eqb, ltb}
 use lib.ListN.{length}
 use borrow.Author.Tests.{ne-eqb, eqb-true, eqb-false, ltb-true, ltb-false}
 use Rattle.rules.specs.Kinds.{enum-kind, struct-kind, union-kind, alternate-kind, command-kind}
-use Rattle.rules.specs.Rows.{rowCount, kind, isEnum, isStruct, isUnion, isAlternate, isCommand, count, base, next, walk, past, unnamed, owns, firstChild, childCount, children, pastChildren, members, after}
+use Rattle.rules.specs.Rows.{rowCount, kind, count, base, next, walk, past, unnamed, owns, firstChild, childCount, children, pastChildren, members, after}
 use Rattle.rules.specs.Sound.{laidOut, definitionAt, childrenFit}
 use Rattle.rules.proofs.Lists.{clash, none-not-some, and-left, and-right, or-cases, or-implies, all-true}
 

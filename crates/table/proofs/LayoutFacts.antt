@@ -98,9 +98,9 @@ above : (n k : ℕ) → NoneOf n k → 0 < k → n < k
 above zero k h p = p
 above (suc n) k h p = let q : n < k = above n k (h .0) p in omega (arith, h .1)
 
-pub none-used : (k : ℕ) → NoneOf 9 k → 0 ≡ wordsUsed [] k
+pub none-used : (k : ℕ) → NoneOf command-kind k → 0 ≡ wordsUsed [] k
 none-used zero h = refl
-none-used (suc k) h = sym (List·getD-eq-default (0 ∷ 4 ∷ 3 ∷ 5 ∷ 6 ∷ 6 ∷ 4 ∷ 4 ∷ 4 ∷ 7 ∷ []) 0 (above 9 (suc k) h (omega arith)))
+none-used (suc k) h = sym (List·getD-eq-default (0 ∷ 4 ∷ 3 ∷ 5 ∷ 6 ∷ 6 ∷ 4 ∷ 4 ∷ 4 ∷ 7 ∷ []) 0 (above command-kind (suc k) h (omega arith)))
 
 pub rest-upTo : (T : List ℕ) (r k i : ℕ) → k ≡ kind T r → i ≡ wordsUsed [] k → restZero T r ≡ upTo (λ j. eqb (getD T (row-words * r + j) 0) 0) i row-words
 rest-upTo T r k i p q =

@@ -7,7 +7,7 @@ use mathlib.Core.List.{List}
 use native.Mathlib.Omega.{arith}
 use lib.Dec.{eqb, leb}
 use borrow.Author.Tests.{lt-ltb, le-ltb, le-leb, lt-leb, eq-eqb, ne-eqb, eqb-true, eqb-false}
-use Rattle.rules.specs.Kinds.{struct-kind, member-kind, union-kind, branch-kind, alternative-kind, command-kind}
+use Rattle.rules.specs.Kinds.{enum-kind, struct-kind, member-kind, union-kind, branch-kind, alternate-kind, alternative-kind, command-kind}
 use Rattle.rules.specs.Types.{first-row}
 use Rattle.rules.specs.Rows.{kind, base, typeRef, arrayMark, optional, unionBase, discriminator, branchStruct, dataStruct, allowOob, returns, returnsArray, unnamed, owns}
 use Rattle.rules.specs.Sound.{toStruct, toType, referencesFit, memberLinked, unionLinked, dataLinked, commandLinked}
@@ -20,11 +20,11 @@ module _ (T : List ℕ) where
   no-link e = rw e
 
   module _ {l w : ℕ} (h : l ≡ 0 → ⊥) (p : w ≡ kind T (l - 1)) where
-    pub no-struct : (w ≡ 3 → ⊥) → false ≡ toStruct T l
-    no-struct n = rw (lt-ltb 0 l (omega arith), ← p, ne-eqb w 3 n)
+    pub no-struct : (w ≡ struct-kind → ⊥) → false ≡ toStruct T l
+    no-struct n = rw (lt-ltb 0 l (omega arith), ← p, ne-eqb w struct-kind n)
 
-    pub struct-is : w ≡ 3 → {b : Bool} → b ≡ unnamed T (l - 1) → not b ≡ toStruct T l
-    struct-is q i = rw (lt-ltb 0 l (omega arith), ← p, eq-eqb w 3 q, i)
+    pub struct-is : w ≡ struct-kind → {b : Bool} → b ≡ unnamed T (l - 1) → not b ≡ toStruct T l
+    struct-is q i = rw (lt-ltb 0 l (omega arith), ← p, eq-eqb w struct-kind q, i)
 
   -- types
   not-unnamed : (r : ℕ) → (kind T r ≡ struct-kind → ⊥) → unnamed T r ≡ false
@@ -38,17 +38,21 @@ module _ (T : List ℕ) where
       go false e = let n : t ≡ 0 → ⊥ = eqb-false t 0 e in rw (lt-ltb 0 t (omega arith), lt-ltb t first-row h)
 
   module _ {t w : ℕ} (h : first-row ≤ t) (p : w ≡ kind T (t - first-row)) where
-    row-type : toType T t ≡ (eqb w 1 || eqb w 3 || eqb w 5 || eqb w 7) && not (unnamed T (t - first-row))
+    -- the kind of a type
+    abbrev ofType : Bool
+    ofType = eqb w enum-kind || eqb w struct-kind || eqb w union-kind || eqb w alternate-kind
+
+    row-type : toType T t ≡ ofType && not (unnamed T (t - first-row))
     row-type = rw (lt-ltb 0 t (omega arith), le-ltb t first-row h, le-leb first-row t h, p)
 
-    pub other-type : eqb w 1 || eqb w 3 || eqb w 5 || eqb w 7 ≡ true → (w ≡ 3 → ⊥) → true ≡ toType T t
+    pub other-type : ofType ≡ true → (w ≡ struct-kind → ⊥) → true ≡ toType T t
     other-type q n = sym (row-type ∙ rw (q, not-unnamed (t - first-row) (rw p at n)))
 
-    pub struct-type : w ≡ 3 → {b : Bool} → b ≡ unnamed T (t - first-row) → not b ≡ toType T t
+    pub struct-type : w ≡ struct-kind → {b : Bool} → b ≡ unnamed T (t - first-row) → not b ≡ toType T t
     struct-type q i = sym (row-type ∙ rw (q, i))
 
-    pub no-type : (w ≡ 1 → ⊥) × (w ≡ 3 → ⊥) × (w ≡ 5 → ⊥) × (w ≡ 7 → ⊥) → false ≡ toType T t
-    no-type n = sym (row-type ∙ rw (ne-eqb w 1 (n .0), ne-eqb w 3 (n .1), ne-eqb w 5 (n .2), ne-eqb w 7 (n .3)))
+    pub no-type : (w ≡ enum-kind → ⊥) × (w ≡ struct-kind → ⊥) × (w ≡ union-kind → ⊥) × (w ≡ alternate-kind → ⊥) → false ≡ toType T t
+    no-type n = sym (row-type ∙ rw (ne-eqb w enum-kind (n .0), ne-eqb w struct-kind (n .1), ne-eqb w union-kind (n .2), ne-eqb w alternate-kind (n .3)))
 
 module _ (T : List ℕ) (r : ℕ) where
   -- a member: its type and two flags

@@ -10,6 +10,7 @@ use lib.Dec.{eqb, ltb, eqb·zero-suc, eqb·suc-suc}
 use borrow.Author.Tests.{lt-ltb, le-leb, lt-leb, eq-eqb, ne-eqb, ltb-true, leb-true}
 use Rattle.grammar.specs.Limits.{chain-structs}
 use Rattle.grammar.specs.Notation.{all}
+use Rattle.rules.specs.Kinds.{enum-kind}
 use Rattle.rules.specs.Types.{first-row}
 use Rattle.rules.specs.Rows.{kind, typeRef, arrayMark, optional, unionBase, branchCount, discriminator, branchStruct, children, members, nameOf}
 use Rattle.rules.specs.Rules.{any, is, namesOf, noClash, discriminatorRow, discriminatorEnum, discriminatorFits, branchFits, unionFits}
@@ -36,7 +37,7 @@ module _ (T : List ℕ) (d : ℕ) {o : ℕ} (p : o ≡ optional T d) where
       unfolding canDiscriminate
       built-in-fails h = rw (← p, eq-eqb o 0 z, ← q, eq-eqb a 0 y, ← u, lt-leb first-row t h)
 
-      pub enum-discriminates : first-row ≤ t → {k : ℕ} → k ≡ kind T (t - first-row) → eqb k 1 ≡ canDiscriminate T d
+      pub enum-discriminates : first-row ≤ t → {k : ℕ} → k ≡ kind T (t - first-row) → eqb k enum-kind ≡ canDiscriminate T d
       unfolding canDiscriminate
       enum-discriminates h k = rw (← p, eq-eqb o 0 z, ← q, eq-eqb a 0 y, ← u, le-leb first-row t h, k)
 

@@ -8,7 +8,7 @@ use lib.ListN.{length}
 use Rattle.grammar.specs.Limits.{chain-structs}
 use Rattle.grammar.specs.Notation.{all, apart}
 use Rattle.grammar.specs.Tree.Kind.{object, string}
-use Rattle.rules.specs.Kinds.{enum-kind, struct-kind, member-kind, union-kind}
+use Rattle.rules.specs.Kinds.{enum-kind, struct-kind, union-kind}
 use Rattle.rules.specs.Types.{first-row}
 use Rattle.rules.specs.Rows.{rowCount, kind, start, size, isEnum, typeRef, arrayMark, optional, unionBase, discriminator, branchStruct}
 use Rattle.rules.specs.Rows.{dataStruct, allowOob, returns, returnsArray, owns, typeKind, nameOf}

@@ -51,7 +51,7 @@ module _ (w : List ℕ) (k kind start end n : ℕ) where
   pub put-wrote : Wrote w (putNode w k kind start end n) k (suc k)
   unfolding putItem words
   put-wrote =
-      by (λ x. Wrote w x k (suc k)) (leb (node-words * k + 4) (length w))
+      by (λ x. Wrote w x k (suc k)) (leb (node-words * k + node-words) (length w))
       (λ _. record {
         same-length = length-sets w (node-words * k) words;
         below = λ x h. sets-below words w (node-words * k) x h;
@@ -59,10 +59,10 @@ module _ (w : List ℕ) (k kind start end n : ℕ) where
       })
       (λ _. record { same-length = refl; below = λ x h. refl; above = λ x h. refl })
 
-  pub put-there : node-words * k + 4 ≤ length w → Put (putNode w k kind start end n) k kind start end n
+  pub put-there : node-words * k + node-words ≤ length w → Put (putNode w k kind start end n) k kind start end n
   unfolding putItem words
   put-there h =
-      rw (le-leb (node-words * k + 4) (length w) h)
+      rw (le-leb (node-words * k + node-words) (length w) h)
       record {
         is =
             record {
@@ -103,7 +103,7 @@ module _ (D : Dialect) (s w : List ℕ) where
   fields-rise (field a e cs j fs) l k n h = omega arith
 
   module _ (w′ : List ℕ) where
-    pub word-same : (k n i : ℕ) → k < n → i < 4 → Agree w w′ k n → node w′ k i ≡ node w k i
+    pub word-same : (k n i : ℕ) → k < n → i < node-words → Agree w w′ k n → node w′ k i ≡ node w k i
     word-same k n i h g q = q (node-words * k + i) (omega arith) (omega arith)
 
     pub node-same : (k n kind a e : ℕ) → k < n → Agree w w′ k n → Node w k kind a e → Node w′ k kind a e

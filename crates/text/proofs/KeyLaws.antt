@@ -16,8 +16,7 @@ use Rattle.grammar.specs.Tree.Fields.{no-fields, field}
 use Rattle.grammar.specs.Keys.{keysOf, keysOnce, keysOnceI, keysOnceF}
 use Rattle.grammar.specs.Serving.Machine.{Dialect}
 use Rattle.strings.specs.Strings.{plainString}
-use Rattle.tokens.specs.NodeKinds.{plain-string-node, other-string-node, object-node, plain-key-node, other-key-node}
-use Rattle.tokens.proofs.ScalarNodes.{scalar-kind}
+use Rattle.tokens.specs.NodeKinds.{object-node, plain-key-node, other-key-node}
 use Rattle.tokens.specs.Tokens.{scalarNode, keyNode}
 use Rattle.text.specs.Nodes.{next, Holds, HoldsItems, HoldsFields, nodeKind}
 use Rattle.text.specs.Keys.{KeyAt}

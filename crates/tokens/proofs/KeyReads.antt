@@ -13,6 +13,7 @@ use Rattle.grammar.specs.Serving.Machine.Control.{AtKey, AtColon}
 use Rattle.grammar.proofs.TokenRuns.{TokensComplete, Structural.name-separator}
 use Rattle.grammar.proofs.Complete.{skip-solid}
 use Rattle.strings.specs.Strings.{Means, StringTold, ReadsString}
+use Rattle.tokens.specs.NodeKinds.{plain-key-node, other-key-node}
 use Rattle.tokens.specs.Tokens.{Skips.at-key, Skips.at-colon, Skipped, keyNode, KeyRuns, KeyTold, ReadsKey}
 use Rattle.tokens.specs.TokenParts.{ColonRuns, ColonTold, ReadsColon}
 use Rattle.strings.specs.declared.strings.StringRead.{StringRead}
@@ -85,12 +86,12 @@ module _ {D : Dialect} {s : List ℕ} {i a : ℕ} (w : Skipped D s i a) where
       key-colon {cs = cs} (Fault f) m q z =
           λ o fs lim k. w .runs lim (AtKey o fs) k at-key ∙ (key-quote L lim k s a h t o fs ∙ (string-run L lim k m (as-key o fs a) ∙ z o fs cs lim k))
 
-      pub plain-key : {x : StringRead} {r : KeyRead} {e : ℕ} → ReadsString D s a x → x ≡ Strings.Plain e → ReadsColon D s a e 10 r → ReadsKey D s i r
+      pub plain-key : {x : StringRead} {r : KeyRead} {e : ℕ} → ReadsString D s a x → x ≡ Strings.Plain e → ReadsColon D s a e plain-key-node r → ReadsKey D s i r
       plain-key {r = r} {e = e} x q y =
           let z : StringTold D s a (Strings.Plain e) = rw q at (x .told) in
           record { told = key-colon r (z .1) (rw (z .2) refl) (y .told) }
 
-      pub coded-key : {x : StringRead} {r : KeyRead} {e : ℕ} → ReadsString D s a x → x ≡ Strings.Coded e → ReadsColon D s a e 11 r → ReadsKey D s i r
+      pub coded-key : {x : StringRead} {r : KeyRead} {e : ℕ} → ReadsString D s a x → x ≡ Strings.Coded e → ReadsColon D s a e other-key-node r → ReadsKey D s i r
       coded-key {r = r} {e = e} x q y =
           let z : StringTold D s a (Strings.Coded e) = rw q at (x .told) in
           record { told = key-colon r (z .1) (rw (z .2) refl) (y .told) }

@@ -200,8 +200,8 @@ module _ (S T m ws : List ℕ) (room : ℕ) where
     on = record {
       place = ap suc (h .place);
       words =
-          let e : record-words * suc n ≡ record-words * n + 4 = omega arith in
-          ap (λ (k : ℕ). drop k ws) e ∙ sym (drop-drop 4 (record-words * n) ws) ∙ ap (drop 4) (h .words);
+          let e : record-words * suc n ≡ record-words * n + record-words = omega arith in
+          ap (λ (k : ℕ). drop k ws) e ∙ sym (drop-drop record-words (record-words * n) ws) ∙ ap (drop record-words) (h .words);
       nested = h .nested .1;
       starts = follow v vs (h .nested .0);
       around = open-on v vs (h .nested .0) es (h .around);

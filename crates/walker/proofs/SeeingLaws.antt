@@ -10,6 +10,7 @@ use lib.Dec.{leb}
 use borrow.Author.Tests.{leb-true, leb-false}
 use lib.ListN.{length, take, drop, getD, length-drop}
 use lib.Seq.{drop-cons, take-all}
+use Rattle.grammar.specs.Limits.{record-words}
 use Rattle.grammar.proofs.Booleans.{min-right}
 use Rattle.walker.specs.declared.records.Seen.{Seen}
 use Rattle.walker.specs.declared.records.Seen.the-variants.{Record, Nothing}
@@ -19,14 +20,14 @@ use Rattle.walker.specs.Seeing.{firstSeen, seenAt, placeFrom, placeAfter
 four : (ws : List ℕ) (at : ℕ) → at + 3 < length ws → drop at ws ≡ getD ws at 0 ∷ getD ws (suc at) 0 ∷ getD ws (suc (suc at)) 0 ∷ getD ws (suc (suc (suc at))) 0 ∷ drop (suc (suc (suc (suc at)))) ws
 four ws at h = rw (drop-cons ws at 0 (omega arith), drop-cons ws (suc at) 0 (omega arith), drop-cons ws (suc (suc at)) 0 (omega arith), drop-cons ws (suc (suc (suc at))) 0 (omega arith)) refl
 
-few : (ws : List ℕ) → length ws < 4 → Nothing ≡ firstSeen ws
+few : (ws : List ℕ) → length ws < record-words → Nothing ≡ firstSeen ws
 few [] h = refl
 few (a ∷ []) h = refl
 few (a ∷ b ∷ []) h = refl
 few (a ∷ b ∷ c ∷ []) h = refl
 few (a ∷ b ∷ c ∷ d ∷ ws) h = absurd (omega arith)
 
-pub seen-whole : (ws : List ℕ) (n at : ℕ) → at ≡ 4 * n → n < length ws / 4 → Record (getD ws at 0) (getD ws (at + 1) 0) (getD ws (at + 2) 0) (getD ws (at + 3) 0) ≡ seenAt ws n
+pub seen-whole : (ws : List ℕ) (n at : ℕ) → at ≡ record-words * n → n < length ws / record-words → Record (getD ws at 0) (getD ws (at + 1) 0) (getD ws (at + 2) 0) (getD ws (at + 3) 0) ≡ seenAt ws n
 unfolding seenAt
 seen-whole ws n at e h =
     let p : at + 1 ≡ suc at = omega arith in
@@ -36,35 +37,35 @@ seen-whole ws n at e h =
     let g : Record (getD ws at 0) (getD ws (at + 1) 0) (getD ws (at + 2) 0) (getD ws (at + 3) 0) ≡ Record (getD ws at 0) (getD ws (suc at) 0) (getD ws (suc (suc at)) 0) (getD ws (suc (suc (suc at))) 0) = cc in
     g ∙ ap firstSeen (sym f) ∙ ap (λ (k : ℕ). firstSeen (drop k ws)) e
 
-pub seen-none : (ws : List ℕ) (n : ℕ) → length ws / 4 ≤ n → Nothing ≡ seenAt ws n
+pub seen-none : (ws : List ℕ) (n : ℕ) → length ws / record-words ≤ n → Nothing ≡ seenAt ws n
 unfolding seenAt
-seen-none ws n h = few (drop (4 * n) ws) (simp length-drop (omega arith))
+seen-none ws n h = few (drop (record-words * n) ws) (simp length-drop (omega arith))
 
 -- the place after a whole record, and at the end
-pub after-whole : (ws : List ℕ) (n : ℕ) → n < length ws / 4 → n + 1 ≡ placeAfter ws n
+pub after-whole : (ws : List ℕ) (n : ℕ) → n < length ws / record-words → n + 1 ≡ placeAfter ws n
 unfolding placeAfter
-after-whole ws n h = add-one n ∙ ap (λ (s : Seen). placeFrom s n) (seen-whole ws n (4 * n) refl h)
+after-whole ws n h = add-one n ∙ ap (λ (s : Seen). placeFrom s n) (seen-whole ws n (record-words * n) refl h)
 
-pub after-end : (ws : List ℕ) (n : ℕ) → length ws / 4 ≤ n → n ≡ placeAfter ws n
+pub after-end : (ws : List ℕ) (n : ℕ) → length ws / record-words ≤ n → n ≡ placeAfter ws n
 unfolding placeAfter
 after-end ws n h = ap (λ (s : Seen). placeFrom s n) (seen-none ws n h)
 
 -- where the place moves, and where a record is seen, there is one; where it stays there is none
-pub moved-below : (ws : List ℕ) (n : ℕ) → (placeAfter ws n ≡ n → ⊥) → n < length ws / 4
-moved-below ws n f = go (leb (length ws / 4) n) refl
+pub moved-below : (ws : List ℕ) (n : ℕ) → (placeAfter ws n ≡ n → ⊥) → n < length ws / record-words
+moved-below ws n f = go (leb (length ws / record-words) n) refl
   where
-    go : (t : Bool) → leb (length ws / 4) n ≡ t → n < length ws / 4
-    go true k = absurd (f (sym (after-end ws n (leb-true (length ws / 4) n k))))
-    go false k = leb-false (length ws / 4) n k
+    go : (t : Bool) → leb (length ws / record-words) n ≡ t → n < length ws / record-words
+    go true k = absurd (f (sym (after-end ws n (leb-true (length ws / record-words) n k))))
+    go false k = leb-false (length ws / record-words) n k
 
-pub stayed-end : (ws : List ℕ) (n : ℕ) → placeAfter ws n ≡ n → length ws / 4 ≤ n
-stayed-end ws n e = go (leb (length ws / 4) n) refl
+pub stayed-end : (ws : List ℕ) (n : ℕ) → placeAfter ws n ≡ n → length ws / record-words ≤ n
+stayed-end ws n e = go (leb (length ws / record-words) n) refl
   where
-    go : (t : Bool) → leb (length ws / 4) n ≡ t → length ws / 4 ≤ n
-    go true k = leb-true (length ws / 4) n k
-    go false k = let z : n + 1 ≡ n = after-whole ws n (leb-false (length ws / 4) n k) ∙ e in absurd (omega arith)
+    go : (t : Bool) → leb (length ws / record-words) n ≡ t → length ws / record-words ≤ n
+    go true k = leb-true (length ws / record-words) n k
+    go false k = let z : n + 1 ≡ n = after-whole ws n (leb-false (length ws / record-words) n k) ∙ e in absurd (omega arith)
 
-pub seen-below : (ws : List ℕ) (n : ℕ) {a b c d : ℕ} → seenAt ws n ≡ Record a b c d → n < length ws / 4
+pub seen-below : (ws : List ℕ) (n : ℕ) {a b c d : ℕ} → seenAt ws n ≡ Record a b c d → n < length ws / record-words
 unfolding placeAfter
 seen-below ws n e = moved-below ws n (λ f. let z : suc n ≡ n = sym (ap (λ (s : Seen). placeFrom s n) e) ∙ f in omega arith)
 

@@ -38,7 +38,7 @@ stays ws n e (suc k) =
     (ap (λ (s : Seen). s ∷ asked ws k (placeAfter ws n)) e ∙ ap (λ (i : ℕ). Nothing ∷ asked ws k i) p ∙ ap (λ (l : List Seen). Nothing ∷ l) (q .0), ap (λ (i : ℕ). placeThen ws k i) p ∙ q .1)
 
 -- ---- behind a first record
-four-more : (n : ℕ) → 4 * suc n ≡ suc (suc (suc (suc (4 * n))))
+four-more : (n : ℕ) → record-words * suc n ≡ suc (suc (suc (suc (record-words * n))))
 four-more n = omega arith
 
 one-on : (s : Seen) (n : ℕ) → placeFrom s (suc n) ≡ suc (placeFrom s n)
@@ -85,7 +85,7 @@ unfolding placeThen placeAfter seenAt
 ends-after [] k = ap (λ (i : ℕ). placeThen [] i 0) (zero-more k) ∙ stays [] 0 refl k .1
 ends-after (t ∷ ts) k = ap (λ (i : ℕ). placeThen (recordsOf (t ∷ ts)) i 0) (suc-more (length ts) k) ∙ behind-then t (recordsOf ts) (length ts + k) 0 ∙ ap suc (ends-after ts k)
 
-pub counted : (ts : List Typed) (zs : List ℕ) → take (4 * length ts) (recordsOf ts ++ zs) ≡ recordsOf ts
+pub counted : (ts : List Typed) (zs : List ℕ) → take (record-words * length ts) (recordsOf ts ++ zs) ≡ recordsOf ts
 counted [] zs = refl
 counted (t ∷ ts) zs = ap (λ (k : ℕ). take k (recordsOf (t ∷ ts) ++ zs)) (four-more (length ts)) ∙ ap (λ (l : List ℕ). recordOf t ++ l) (counted ts zs)
 

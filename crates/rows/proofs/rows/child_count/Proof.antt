@@ -4,6 +4,7 @@ use mathlib.Core.Path.{sym, _∙_}
 use native.Mathlib.Omega.{arith}
 use borrow.Author.Needs.{needs}
 use borrow.Author.Tests.{ne-eqb}
+use Rattle.rules.specs.Kinds.{enum-kind, struct-kind, union-kind, alternate-kind}
 use Rattle.rules.specs.Rows.{childCount}
 use Rattle.rows.proofs.rows.child_count.Statement.{statement}
 use Rattle.rows.proofs.rows.child_count.Tie as tie
@@ -55,7 +56,7 @@ returns-5 : tie.Need-returns-5
 unfolding childCount
 returns-5 c =
     let n = c .match .rest in
-    record { is = simp (sym (c .before .word .ensures), ne-eqb _ 1 (n .0 .0 .0 .1), ne-eqb _ 3 (n .0 .0 .1), ne-eqb _ 5 (n .0 .1), ne-eqb _ 7 (n .1)); few = omega arith }
+    record { is = simp (sym (c .before .word .ensures), ne-eqb _ enum-kind (n .0 .0 .0 .1), ne-eqb _ struct-kind (n .0 .0 .1), ne-eqb _ union-kind (n .0 .1), ne-eqb _ alternate-kind (n .1)); few = omega arith }
 
 pub child-count-spec : {M : Type 1} → statement M
 child-count-spec =

@@ -3,6 +3,7 @@ use Prim.Native.Nat.{_*_}
 use native.Mathlib.Omega.{arith}
 use mathlib.Core.Path.{refl}
 use borrow.Author.Needs.{needs}
+use Rattle.grammar.specs.Limits.{record-words}
 use Rattle.walker.proofs.SeeingLaws.{seen-whole, seen-none}
 use Rattle.walker.proofs.records.record_at.Statement.{statement}
 use Rattle.walker.proofs.records.record_at.Tie as tie
@@ -50,7 +51,7 @@ shared-slice-read-t19 : tie.Need-shared-slice-read-t19
 shared-slice-read-t19 c = search needs
 
 returns-2 : tie.Need-returns-2
-returns-2 c = seen-whole (c .before .before .before .before .before .before .before .args .records .now) (c .before .before .before .before .before .before .before .args .n) (4 * c .before .before .before .before .before .before .before .args .n) refl (omega (arith, c .before .before .before .before .before .whole-records .ensures, c .before .before .before .before .if1 .left))
+returns-2 c = seen-whole (c .before .before .before .before .before .before .before .args .records .now) (c .before .before .before .before .before .before .before .args .n) (record-words * c .before .before .before .before .before .before .before .args .n) refl (omega (arith, c .before .before .before .before .before .whole-records .ensures, c .before .before .before .before .if1 .left))
 
 pub record-at-spec : {M : Type 1} → statement M
 record-at-spec =
