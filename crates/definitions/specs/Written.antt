@@ -14,7 +14,7 @@ use Rattle.definitions.specs.declared.writing.Put.the-variants.{Rows, Re
 use Rattle.definitions.specs.Places.{Named}
 
 -- Bounds below which rows are counted, so that no count goes past a number of the machine. A row comes from a node of its own, and a schema has
--- fewer nodes than this: so many rows at most stand before a definition, and the link to the row after the next fits in a word.
+-- fewer nodes than bytes: so many rows at most stand before a definition, and the link to the row after the next fits in a word.
 abbrev pub node-bound : ℕ
 node-bound = text-bound
 

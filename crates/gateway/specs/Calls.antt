@@ -1,4 +1,4 @@
--- What each exported call owes its caller, whatever bytes and words come. One record a call of the header; proofs/Promises has each, from the call's contract.
+-- Reference, Calls: what each exported call owes its caller, whatever bytes and words come. One record a call of the header; proofs/Promises has each, from the call's contract.
 -- `old` are the lent words before the call, `new` those after it.
 use Prim.Native.Nat.{ℕ, _*_, _≤_}
 use mathlib.Core.Logic.{_≢_}

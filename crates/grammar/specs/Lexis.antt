@@ -1,4 +1,4 @@
--- The tokens of a dialect, in which schema text and message text differ.
+-- Reference, Structure: the tokens of a dialect, in which schema text and message text differ.
 -- Here and in the grammar `X p l q r ..` reads: at place p, where the bytes l are left, stands an X; it ends at place q, where r is left.
 use Prim.Native.{Nat.ℕ, Nat.suc, Char.code}
 use mathlib.Core.{Bool.Bool, Bool._||_, List.List, List.[], List._∷_}

@@ -1,4 +1,4 @@
--- Trees with places: what a text means. Every value and every key has its start and the place one past its end.
+-- Reference, Trees: trees with places, what a text means. Every value and every key has its start and the place one past its end.
 use Prim.Native.Nat.{ℕ}
 use mathlib.Core.Bool.{Bool}
 use mathlib.Core.List.{List}

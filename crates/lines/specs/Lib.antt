@@ -1,3 +1,3 @@
--- What the contracts cite.
+-- Text is what a reader must believe of numbers as text; Lines serves contracts.
 pub mod Text
 pub mod Lines

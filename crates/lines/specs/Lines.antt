@@ -1,4 +1,4 @@
--- The lines of a text: only LF ends one.
+-- Serves contracts: the lines of a text, of which only LF ends one.
 use Prim.Native.Nat.{ℕ, suc, _+_, _≤_}
 use mathlib.Core.Bool.{Bool, true, false}
 use mathlib.Core.Path.{_≡_}

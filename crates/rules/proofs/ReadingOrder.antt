@@ -115,7 +115,7 @@ start-in n p q (leaf a e v) i = i
 start-in n p q (arr a e js) i = (i .0, i .1, i .2)
 start-in n p q (obj a e fs) i = (i .0, i .1, i .2)
 
--- the same value, from its start or to its end
+-- a value is inside any span that holds its start and its end
 narrower : (n p q p′ q′ : ℕ) (j : Json) → p′ ≤ startOf j → endOf j ≤ q′ → Inside n p q j → Inside n p′ q′ j
 narrower n p q p′ q′ (leaf a e v) h k i = (h, i .1, k)
 narrower n p q p′ q′ (arr a e js) h k i = (h, i .1, k, i .3, i .4, i .5)

@@ -1,4 +1,4 @@
--- What each call owes, of its answer and of the lent words after it, whatever comes as schema, table, message and room.
+-- Reference, Calls: what each call owes, of its answer and of the lent words after it, whatever comes as schema, table, message and room.
 use Prim.Native.Nat.{ℕ, _+_, _-_, _*_, _≤_}
 use mathlib.Core.Path.{_≡_}
 use mathlib.Core.Bool.{Bool, true}

@@ -1,4 +1,4 @@
--- What a caller may count on who lends room: how much is never too little, whatever comes.
+-- Reference, Schema answers and Message answers: what a caller may count on who lends room: how much is never too little, whatever comes.
 use Prim.Native.Nat.{ℕ, _*_, _≤_}
 use mathlib.Core.Logic.{_≢_}
 use mathlib.Core.Path.{_≡_}

@@ -16,11 +16,11 @@ use Rattle.tokens.specs.Tokens.{scalarNode, keyNode, ScalarAt}
 abbrev pub node-words : ℕ
 node-words = 4
 
--- word i of node k: its kind, its start, its end, and the first node after it and what is inside it
 -- a text has fewer bytes than this, so that its places and the numbers of its nodes, and of those after them, fit a word
 abbrev pub text-bound : ℕ
 text-bound = 2 ^ 31
 
+-- word i of node k: its kind, its start, its end, and the first node after it and what is inside it
 abbrev pub node : List ℕ → ℕ → ℕ → ℕ
 node w k i = wordOf node-words w k i
 

@@ -3,11 +3,11 @@ use Prim.Native.Nat.{ℕ, zero, suc, min}
 use mathlib.Core.List.{List, [], _∷_}
 use lib.ListN.{length, getD}
 
--- what stands before a place, the nearest first
+-- what stands before a place of the list, the nearest first
 unfoldable pub back : List ℕ → ℕ → List ℕ
 back l zero = []
 back l (suc i) = getD l i 0 ∷ back l i
 
--- the same of any place, as far as the list goes
+-- what stands before a place, or before the end where the place is past it
 abbrev pub before : List ℕ → ℕ → List ℕ
 before l i = back l (min i (length l))

@@ -1,4 +1,4 @@
--- Bytes as they go to a terminal. A message may hold any bytes; only 0x20 to 0x7E go out as they are.
+-- Reference, Viewer: bytes as they go to a terminal. A message may hold any bytes; only 0x20 to 0x7E go out as they are.
 use Prim.Native.Nat.{ℕ, _+_, _*_, _/_, _%_}
 use mathlib.Core.Bool.{Bool, cond}
 use mathlib.Core.List.{List, [], _∷_, _++_}

@@ -1,4 +1,4 @@
--- What a record is called: the key before its value, as it is written, or what it is of the record before it.
+-- Reference, Viewer: what a record is called: the key before its value, as it is written, or what it is of the record before it.
 use Prim.Native.Nat.{ℕ, zero, suc, _-_, _<_}
 use mathlib.Core.Bool.{Bool, true, false, cond, not, _&&_}
 use mathlib.Core.List.{List, [], _∷_}

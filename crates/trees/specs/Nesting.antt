@@ -1,4 +1,4 @@
--- The records around a record. A record opens within those before it that go on after its start. Any words may come, records that do not nest too.
+-- Reference, Viewer: the records around a record. A record opens within those before it that go on after its start. Any words may come, records that do not nest too.
 use Prim.Native.Nat.{ℕ}
 use mathlib.Core.Bool.{true, false, cond}
 use mathlib.Core.List.{List, [], _∷_}

@@ -1,4 +1,4 @@
--- The records of a message as a tree: a line each, indented by the records that are open around it.
+-- Reference, Viewer: the records of a message as a tree: a line each, indented by the records that are open around it.
 use Prim.Native.Nat.{ℕ, zero, suc, _+_, _-_, _*_, _/_, min}
 use mathlib.Core.Path.{_≡_}
 use mathlib.Core.Bool.{cond}

@@ -1,4 +1,4 @@
--- A type by name: a built-in's, or the row's in the schema. Any words, any bytes.
+-- Reference, Viewer: a type by name: a built-in's, or the row's in the schema. Any words, any bytes.
 use Prim.Native.Nat.{ℕ, zero, suc, _+_, _-_}
 use mathlib.Core.Bool.{Bool, true, false, cond}
 use mathlib.Core.List.{List, [], _∷_, _++_}

@@ -1,4 +1,4 @@
--- What a walk sees of records: the next whole one, or nothing; where it asks next; and the text that a record is about. Any words, any place.
+-- Reference, Viewer: what a walk sees of records: the next whole one, or nothing; where it asks next; and the text that a record is about. Any words, any place.
 use Prim.Native.Nat.{ℕ, suc, _-_, _*_}
 use mathlib.Core.List.{List, [], _∷_}
 use lib.ListN.{take, drop}

@@ -1,4 +1,4 @@
--- A reader asked again and again.
+-- Reference, Viewer: a reader asked again and again.
 use Prim.Native.Nat.{ℕ, zero, suc}
 use mathlib.Core.List.{List, [], _∷_}
 use Rattle.grammar.specs.Tree.{startOf, endOf}

@@ -1,2 +1,2 @@
--- What the contracts cite.
+-- What a reader must believe of answers in words; contracts cite it too.
 pub mod Wordings

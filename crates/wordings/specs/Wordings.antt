@@ -1,4 +1,4 @@
--- The first line of what is shown: an answer in words. Every number's meaning stands here and nowhere else.
+-- Reference, Viewer: the first line of what is shown: an answer in words. Every number's meaning stands here and nowhere else.
 use Prim.Native.Nat.{ℕ, _+_}
 use mathlib.Core.List.{List, [], _∷_, _++_}
 use lib.ListN.{getD, replicate}

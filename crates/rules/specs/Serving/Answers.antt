@@ -1,4 +1,4 @@
--- Serves contracts, proofs and evaluated cases: the answers as functions. Nobody has to believe them: proofs/ shows that each is the only outcome that SchemaAnswers and MessageAnswers allow.
+-- Serves contracts, proofs and evaluated cases: the answers as functions, by which `console` Program says what is written. Nobody has to believe them: proofs/ shows that each is the only outcome that SchemaAnswers and MessageAnswers allow.
 use Prim.Native.Nat.{ℕ, zero, suc, _-_, _/_}
 use mathlib.Core.Bool.{Bool, true, false, cond, not, _&&_}
 use mathlib.Core.List.{List, [], _∷_, _++_}

@@ -1,5 +1,5 @@
--- `table::rows::child_count` counts a row's children.
--- By kind: the count stands in word 4 or 5, and other kinds have none.
+-- `rows::child_count` counts a row's children.
+-- By kind: the count stands in a word of its own, and other kinds have none.
 use mathlib.Core.Path.{sym, _∙_}
 use native.Mathlib.Omega.{arith}
 use borrow.Author.Needs.{needs}
