@@ -19,7 +19,7 @@ use Rattle.rules.specs.Rows.{isStruct, nameOf}
 use Rattle.walker.specs.declared.records.Seen.{Seen}
 use Rattle.walker.specs.declared.records.Seen.the-variants.{Record, Nothing}
 use Rattle.walker.specs.Seeing.{seenAt, placeAfter, partOf}
-use Rattle.trees.specs.Escapes.{printable, hexDigit, hexByte, shownByte, shownBytes, shown}
+use Rattle.trees.specs.Escapes.{printable, shownDigit, hexByte, shownByte, shownBytes, shown}
 use Rattle.trees.specs.Backwards.{before}
 use Rattle.trees.specs.Nesting.{stillOpen}
 use Rattle.trees.specs.Labelling.{keyBefore, keyText, ofAlternate, labelText}
@@ -49,13 +49,13 @@ every P (suc n) ps t h = below P n t (ltb t n) refl h (λ k. every P n (ps .0) t
 
 -- a byte as it is shown
 abbrev Digit : ℕ → Type 0
-Digit d = clean (hexDigit d) ≡ true
+Digit d = clean (shownDigit d) ≡ true
 
 digit : (d : ℕ) → d < 16 → Digit d
 digit d h = every Digit 16 ((((((((((((((((tt, refl), refl), refl), refl), refl), refl), refl), refl), refl), refl), refl), refl), refl), refl), refl), refl) d h
 
 hex-clean : (b : ℕ) → all clean (hexByte b) ≡ true
-hex-clean b = and-of (clean (hexDigit (b / 16 % 16))) (clean (hexDigit (b % 16)) && true) (digit (b / 16 % 16) (omega arith)) (and-of (clean (hexDigit (b % 16))) true (digit (b % 16) (omega arith)) refl)
+hex-clean b = and-of (clean (shownDigit (b / 16 % 16))) (clean (shownDigit (b % 16)) && true) (digit (b / 16 % 16) (omega arith)) (and-of (clean (shownDigit (b % 16))) true (digit (b % 16) (omega arith)) refl)
 
 by-printable : (b : ℕ) (t : Bool) → printable b ≡ t → all clean (cond t (b ∷ []) (hexByte b)) ≡ true
 by-printable b true e = and-of (clean b) true (or-left (printable b) (eqb b 10) e) refl

@@ -14,18 +14,18 @@ use Rattle.grammar.specs.Notation.{text}
 use Rattle.grammar.specs.Limits.{name-bytes}
 use Rattle.lines.specs.Text.{Puts}
 use Rattle.lines.proofs.TextLaws.{puts-as, puts-on}
-use Rattle.trees.specs.Escapes.{hexDigit, hexByte, shownByte, shownBytes, shown}
+use Rattle.trees.specs.Escapes.{shownDigit, hexByte, shownByte, shownBytes, shown}
 
-pub low-digit : (d : ℕ) → d < 10 → 48 + d ≡ hexDigit d
+pub low-digit : (d : ℕ) → d < 10 → 48 + d ≡ shownDigit d
 low-digit d h = rw (lt-ltb d 10 h) refl
 
-pub high-digit : (d : ℕ) → 10 ≤ d → 87 + d ≡ hexDigit d
+pub high-digit : (d : ℕ) → 10 ≤ d → 87 + d ≡ shownDigit d
 high-digit d h = rw (le-ltb d 10 h) refl
 
-pub hex-bytes : (b : ℕ) {x y : ℕ} → b < 256 → x ≡ hexDigit (b / 16) → y ≡ hexDigit (b % 16) → 92 ∷ 120 ∷ x ∷ y ∷ [] ≡ hexByte b
+pub hex-bytes : (b : ℕ) {x y : ℕ} → b < 256 → x ≡ shownDigit (b / 16) → y ≡ shownDigit (b % 16) → 92 ∷ 120 ∷ x ∷ y ∷ [] ≡ hexByte b
 hex-bytes b {x} {y} h p q =
     let e : b / 16 ≡ b / 16 % 16 = omega arith in
-    ap (λ (d : ℕ). 92 ∷ 120 ∷ d ∷ y ∷ []) (p ∙ ap hexDigit e) ∙ ap (λ (d : ℕ). 92 ∷ 120 ∷ hexDigit (b / 16 % 16) ∷ d ∷ []) q
+    ap (λ (d : ℕ). 92 ∷ 120 ∷ d ∷ y ∷ []) (p ∙ ap shownDigit e) ∙ ap (λ (d : ℕ). 92 ∷ 120 ∷ shownDigit (b / 16 % 16) ∷ d ∷ []) q
 
 -- which bytes go out as they are
 abbrev by-range : ℕ → Bool → List ℕ

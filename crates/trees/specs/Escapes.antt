@@ -10,12 +10,12 @@ use Rattle.grammar.specs.Notation.{text, within}
 abbrev pub printable : ℕ → Bool
 printable b = within 0x20 0x7E b
 
-abbrev pub hexDigit : ℕ → ℕ
-hexDigit d = cond (ltb d 10) (48 + d) (87 + d)
+abbrev pub shownDigit : ℕ → ℕ
+shownDigit d = cond (ltb d 10) (48 + d) (87 + d)
 
 -- any other byte is shown as \x and two hex digits; JSON has no such escape
 abbrev pub hexByte : ℕ → List ℕ
-hexByte b = 92 ∷ 120 ∷ hexDigit (b / 16 % 16) ∷ hexDigit (b % 16) ∷ []
+hexByte b = 92 ∷ 120 ∷ shownDigit (b / 16 % 16) ∷ shownDigit (b % 16) ∷ []
 
 unfoldable pub shownByte : ℕ → List ℕ
 shownByte b = cond (printable b) (b ∷ []) (hexByte b)

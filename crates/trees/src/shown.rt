@@ -6,7 +6,7 @@ ghost use mathlib.Core.Path.{_≡_};
 ghost use Prim.Native.Nat.{_+_, _*_, _≤_, _<_};
 ghost use lib.ListN.{length};
 ghost use Rattle.lines.specs.Text.{Puts};
-ghost use Rattle.trees.specs.Escapes.{hexDigit, hexByte, shownByte, shownBytes, shown, escape-bytes, shown-room};
+ghost use Rattle.trees.specs.Escapes.{shownDigit, hexByte, shownByte, shownBytes, shown, escape-bytes, shown-room};
 
 // Room for what is shown of bytes: the longest name, each byte escaped, and three dots.
 pub const SHOWN_ROOM: usize = 4 * NAME_BYTES + 3;
@@ -21,7 +21,7 @@ pub fn put_bytes(out: &mut [u8], at: usize, bytes: &[u8]) -> usize
 
 fn hex_digit(d: u8) -> u8
     requires { ⌜ d < 16 ⌝ }
-    ensures { λ r. ⌜ r ≡ hexDigit d ⌝ }
+    ensures { λ r. ⌜ r ≡ shownDigit d ⌝ }
 {
     if d < 10 {
         return b'0' + d;
