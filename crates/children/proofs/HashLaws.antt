@@ -15,7 +15,7 @@ use Rattle.strings.proofs.Comparisons.{plain-means}
 use Rattle.strings.specs.Hashes.{hashMore, hashFrom, hashOf, MeansHash}
 use Rattle.tokens.specs.NodeKinds.{plain-string-node, other-string-node, plain-key-node, other-key-node}
 use Rattle.tokens.specs.Tokens.{scalarNode, keyNode}
-use Rattle.text.specs.Nodes.{node, Node, nodeEnd, nodeKind, nodeStart}
+use Rattle.text.specs.Nodes.{Node, nodeEnd, nodeKind, nodeStart}
 use Rattle.lookups.specs.Lookups.{plainKind}
 use Rattle.children.specs.Children.{MeaningAt, InnerBytes}
 use Rattle.children.specs.Children.MeaningAt.{a-key, a-string}

@@ -10,7 +10,7 @@ use Rattle.grammar.specs.Notation.{same}
 use Rattle.rules.specs.Rows.{children, nameOf}
 use Rattle.rules.specs.SchemaTable.{memberIn}
 use Rattle.rules.specs.Sound.{sound}
-use Rattle.text.specs.Nodes.{node, Holds, nodeKind}
+use Rattle.text.specs.Nodes.{Holds, nodeKind}
 use Rattle.text.specs.Keys.{KeyAt}
 use Rattle.lookups.specs.Lookups.{plainKind}
 use Rattle.children.specs.Counts.{mandatoryIn}

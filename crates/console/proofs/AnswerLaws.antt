@@ -14,7 +14,6 @@ use Rattle.rules.specs.declared.SchemaAnswer.{SchemaAnswer}
 use Rattle.rules.specs.declared.MessageAnswer.{MessageAnswer}
 use Rattle.rules.specs.SchemaAnswers as Schemas
 use Rattle.rules.specs.MessageAnswers as Messages
-use Rattle.rules.specs.Serving.Answers.{MessageResult}
 use Rattle.message.specs.Stages.{Answered}
 use Rattle.lines.specs.Text.{Puts, lineText}
 use Rattle.lines.proofs.TextLaws.{puts-as}

@@ -5,7 +5,7 @@ use native.Mathlib.Omega.{arith}
 use mathlib.Core.Path.{_≡_, refl, sym, ap, subst, _∙_}
 use mathlib.Core.Bool.{Bool, true, false, cond}
 use mathlib.Core.List.{List, [], _∷_, _++_, append-assoc, append-nil}
-use lib.Dec.{eqb, leb, ltb}
+use lib.Dec.{eqb, leb}
 use lib.ListN.{length, take, drop, replicate, length-take, length-drop}
 use lib.Seq.{take-all, drop-drop, drop-length}
 use borrow.Author.Tests.{leb-true, leb-false, lt-ltb}
@@ -22,7 +22,6 @@ use Rattle.console.specs.declared.answers.Style.the-variants.{Numbers, T
 use Rattle.console.specs.declared.joins.Joined.{Joined}
 use Rattle.console.specs.declared.joins.Joined.the-variants.{Line, More}
 use Rattle.console.specs.declared.steps.Place.{Place}
-use Rattle.console.specs.declared.steps.Taken.{Taken}
 use Rattle.console.specs.declared.turns.Turn.{Turn}
 use Rattle.console.specs.declared.turns.Turn.the-variants.{Kept}
 use Rattle.console.specs.declared.turns.Wrote.{Wrote}

@@ -11,7 +11,7 @@ use Rattle.rules.specs.declared.SchemaAnswer.{SchemaAnswer}
 use Rattle.rules.specs.declared.SchemaAnswer.the-variants.{Accepted, Refused}
 use Rattle.rules.specs.SchemaAnswers as Schemas
 use Rattle.rules.specs.MessageAnswers as Messages
-use Rattle.rules.specs.Serving.Answers.{SchemaResult, MessageResult, schemaResult, messageResult}
+use Rattle.rules.specs.Serving.Answers.{MessageResult, schemaResult, messageResult}
 use Rattle.lines.specs.Text.{lineText}
 use Rattle.trees.specs.TreeText.{linesFrom}
 use Rattle.wordings.specs.Wordings.{schemaHead, messageHead}

@@ -11,7 +11,7 @@ use borrow.Author.Tests.{ne-eqb}
 use lib.ListN.{length}
 use denote.Enum.Declared.{tagOf, declared}
 use Rattle.grammar.specs.Limits.{schema-bytes}
-use Rattle.grammar.specs.Tree.{Scalar, Json, Items, Fields, startOf, endOf}
+use Rattle.grammar.specs.Tree.{Json, Items, Fields, startOf, endOf}
 use Rattle.grammar.specs.Tree.Scalar.{null, bool, num, str}
 use Rattle.grammar.specs.Tree.Json.{leaf, arr, obj}
 use Rattle.grammar.specs.Tree.Items.{no-items, item}

@@ -1,17 +1,14 @@
 -- A search for LF, step by step; and bytes kept one by one.
-use Prim.Native.Nat.{ℕ, zero, suc, _+_, _≤_, _<_, min}
-use native.Mathlib.Nat.{min-eq-left, min-eq-right}
+use Prim.Native.Nat.{ℕ, suc, _+_, _≤_, _<_}
 use native.Mathlib.Numerals.{add-one}
 use native.Mathlib.Omega.{arith}
-use mathlib.Core.Path.{_≡_, refl, sym, ap, _∙_}
-use mathlib.Core.Bool.{Bool, true, false}
-use mathlib.Core.List.{List, [], _∷_, _++_}
-use lib.Dec.{eqb}
+use mathlib.Core.Path.{_≡_, sym, ap, _∙_}
+use mathlib.Core.List.{List, [], _∷_}
 use lib.ListN.{length, take, drop, getD, set, take-append-drop, length-take, drop-of-length-le}
 use lib.Seq.{take-suc, take-length, drop-cons}
 use borrow.Author.Tests.{eq-eqb, ne-eqb}
 use Rattle.lines.specs.Text.{put}
-use Rattle.lines.specs.Lines.{beforeLF, LineEnd, orNext}
+use Rattle.lines.specs.Lines.{beforeLF}
 use Rattle.lines.proofs.TextLaws.{put-one, put-put, put-full}
 
 pub lf-here : (s : List ℕ) (i : ℕ) → i < length s → getD s i 0 ≡ 10 → beforeLF (drop i s) ≡ 0

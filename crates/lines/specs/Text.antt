@@ -1,6 +1,6 @@
 -- Reference, Program: numbers as text, the shortest decimal digits, and lines of numbers split by single spaces. Below them text that is put into a room, which serves contracts.
 use Prim.Native.Nat.{ℕ, zero, suc, _+_, _/_, _%_, _≤_}
-use mathlib.Core.Bool.{Bool, true, false}
+use mathlib.Core.Bool.{true, false}
 use mathlib.Core.Path.{_≡_}
 use mathlib.Core.List.{List, [], _∷_, _++_}
 use lib.Dec.{ltb}

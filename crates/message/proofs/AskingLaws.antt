@@ -38,7 +38,7 @@ use Rattle.message.specs.declared.asked.Asking.{Asking}
 use Rattle.message.specs.declared.asked.Asking.the-variants.{Asks, Refuses}
 use Rattle.message.specs.Commands.{asCommand, FindsCommand}
 use Rattle.message.specs.Envelopes.{SaidAt, EnvelopeTold, ReadsEnvelope}
-use Rattle.message.specs.Asking.{StandsAt, AskedAs, AskingTold, AsksFor}
+use Rattle.message.specs.Asking.{StandsAt, AskingTold, AsksFor}
 
 -- out of band wants the command's flag
 pub out-of-band-use : (T : List ℕ) (c : ℕ) {w : ℕ} {oob : Bool} → oob ≡ true → w ≡ allowOob T c → eqb w 1 ≡ mayUse T c oob

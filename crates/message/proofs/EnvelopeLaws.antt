@@ -1,5 +1,5 @@
 -- The envelope by its parts: no other key, the values under the keys, and what they are by the kinds of their nodes.
-use Prim.Native.Nat.{ℕ, zero, suc, _-_, _<_}
+use Prim.Native.Nat.{ℕ, _-_, _<_}
 use native.Mathlib.Omega.{arith}
 use mathlib.Core.Path.{_≡_, refl, sym, ap, _∙_, subst}
 use mathlib.Core.Logic.{_⊎_, inl, inr}
@@ -8,19 +8,17 @@ use mathlib.Core.List.{List}
 use mathlib.Core.Option.{Option, none, some}
 use lib.Dec.{eqb}
 use borrow.Author.Tests.{eqb-true, ne-eqb, eq-eqb}
-use Rattle.grammar.specs.Notation.{text, same, all, apart}
-use Rattle.grammar.specs.Tree.{Scalar, Json, Fields, kindOf}
+use Rattle.grammar.specs.Notation.{text, same, apart}
+use Rattle.grammar.specs.Tree.{Json, Fields}
 use Rattle.grammar.specs.Tree.Scalar.{null, bool, num, str}
 use Rattle.grammar.specs.Tree.Json.{leaf, arr, obj}
 use Rattle.grammar.specs.Tree.Fields.{no-fields}
-use Rattle.grammar.specs.Tree.Kind.{string}
 use Rattle.grammar.specs.Keys.{keysOf, keysOnce, keysOnceF}
 use Rattle.grammar.specs.Serving.Machine.Message.{message}
-use Rattle.rules.specs.Types.{sameKind}
-use Rattle.rules.specs.Values.{_>>=_, asString, valueAt, anyOf}
+use Rattle.rules.specs.Values.{_>>=_, asString, valueAt}
 use Rattle.rules.specs.Envelope.{Envelope, asArguments, asCall, envelope}
 use Rattle.rules.proofs.Lists.{clash, and-left}
-use Rattle.text.specs.Nodes.{node, next, Holds, HoldsFields, nodeKind}
+use Rattle.text.specs.Nodes.{node, Holds, nodeKind}
 use Rattle.text.proofs.KeyLaws.{scalar-no-object}
 use Rattle.lookups.specs.Lookups.{stringKind, ValueFound, FindsValue, NoOtherKeys}
 use Rattle.lookups.proofs.NodeLaws.{string-node}

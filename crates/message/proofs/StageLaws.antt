@@ -2,20 +2,18 @@
 use Prim.Native.Nat.{ℕ, zero, suc, _+_, _-_, _*_, _^_, _/_, _≤_, _<_}
 use native.Mathlib.Omega.{arith}
 use mathlib.Core.Path.{_≡_, refl, sym, ap, _∙_, subst}
-use mathlib.Core.Logic.{⊎-elim, inl, inr}
-use mathlib.Core.Bool.{Bool, true, false, cond, _&&_}
+use mathlib.Core.Logic.{⊎-elim}
+use mathlib.Core.Bool.{Bool, true, false, _&&_}
 use mathlib.Core.List.{List, [], _∷_}
 use mathlib.Core.Option.{Option, none, some}
 use lib.ListN.{length, getD}
 use borrow.Author.Tests.{lt-ltb, le-ltb}
 use Rattle.grammar.specs.Limits.{message-bytes, message-levels, record-words}
-use Rattle.grammar.specs.Tree.{Scalar, Json}
-use Rattle.grammar.specs.Tree.Scalar.{null, bool, num, str}
+use Rattle.grammar.specs.Tree.{Json}
 use Rattle.grammar.specs.Tree.Json.{leaf, arr, obj}
 use Rattle.grammar.specs.Tree.Items.{no-items, item}
 use Rattle.grammar.specs.Tree.Fields.{no-fields}
 use Rattle.grammar.specs.Keys.{keysOnce}
-use Rattle.grammar.specs.Serving.Machine.Out.{whole, fault, deep}
 use Rattle.grammar.specs.Serving.Machine.Message.{message, readMessage}
 use Rattle.grammar.proofs.Texts.{message-complete, message-broken, message-too-deep}
 use Rattle.rules.specs.declared.MessageRefusal.{MessageRefusal}
@@ -24,7 +22,6 @@ use Rattle.rules.specs.declared.MessageAnswer.{MessageAnswer}
 use Rattle.rules.specs.declared.MessageAnswer.the-variants.{Accepted, Refused}
 use Rattle.rules.specs.Sound.{sound}
 use Rattle.rules.specs.Readings.{Typed, strict}
-use Rattle.rules.specs.Envelope as Spec
 use Rattle.rules.specs.Serving.Answers as Answers
 use Rattle.rules.specs.Serving.Answers.{MessageResult, asking, askedReading, refusedBy, readingResult, askedResult, textResult, soundResult, messageResult}
 use Rattle.rules.specs.Serving.ReadingOf.{readingOf}
@@ -45,7 +42,7 @@ use Rattle.message.specs.declared.asked.Asking.{Asking}
 use Rattle.message.specs.declared.asked.Asking.the-variants.{Asks, Refuses}
 use Rattle.message.specs.declared.check.TextFound.{TextFound}
 use Rattle.message.specs.declared.check.TextFound.the-variants as Found
-use Rattle.message.specs.Asking.{StandsAt, AskedAs, AskingTold, AsksFor}
+use Rattle.message.specs.Asking.{AskingTold, AsksFor}
 use Rattle.message.specs.Stages.{NodesFit, WholeText, ValueRead, TextTold, KeysRead, ReadsText, AskedIn, PresentIn, Uncleared}
 use Rattle.message.proofs.AskingLaws.{asked-once}
 use Rattle.message.proofs.AnswerLaws.{refused, no-room, held}

@@ -14,7 +14,7 @@ use Rattle.grammar.specs.Tree.Fields.{no-fields}
 use Rattle.grammar.specs.Keys.{keysOnce}
 use Rattle.grammar.specs.Serving.Machine.Message.{message}
 use Rattle.rules.specs.Envelope.{Envelope, envelope}
-use Rattle.text.specs.Nodes.{node, Holds, nodeKind}
+use Rattle.text.specs.Nodes.{Holds, nodeKind}
 use Rattle.lookups.specs.Lookups.{stringKind}
 use Rattle.message.specs.declared.envelope.Envelope as E
 use Rattle.message.specs.declared.envelope.Envelope.the-variants.{Call, Improper}

@@ -1,7 +1,7 @@
 -- Serves contracts: what each stage of the message call finds, and the answer before the words after it are cleared.
 use Prim.Native.Nat.{ℕ, _-_, _*_, _^_, _/_, _%_, _≤_, _<_}
 use mathlib.Core.Path.{_≡_}
-use mathlib.Core.Bool.{true, false}
+use mathlib.Core.Bool.{true}
 use mathlib.Core.List.{List, _++_}
 use lib.ListN.{length, take, replicate}
 use Rattle.grammar.specs.Limits.{message-bytes, message-levels, record-words}
@@ -10,7 +10,6 @@ use Rattle.grammar.specs.Tree.Items.{no-items, item}
 use Rattle.grammar.specs.Keys.{keysOnce}
 use Rattle.grammar.specs.Serving.Machine.Out.{whole}
 use Rattle.grammar.specs.Serving.Machine.Message.{message, readMessage}
-use Rattle.rules.specs.declared.MessageRefusal.the-variants as M
 use Rattle.rules.specs.declared.MessageAnswer.{MessageAnswer}
 use Rattle.rules.specs.MessageAnswers.{answerRecords}
 use Rattle.rules.specs.Envelope as Envelope

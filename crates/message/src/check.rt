@@ -18,7 +18,7 @@ use text::texts::Text;
 use text::texts::read_message;
 use tokens::node;
 use words::clear;
-ghost use Prim.Native.Nat.{_≤_, _<_, _^_};
+ghost use Prim.Native.Nat.{_≤_, _<_};
 ghost use lib.ListN.{length};
 ghost use Rattle.grammar.specs.Limits.{message-bytes};
 ghost use Rattle.grammar.specs.Serving.Machine.Message.{readMessage};

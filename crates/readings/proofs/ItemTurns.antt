@@ -1,6 +1,6 @@
 -- The elements of an array, read in turn: what each return and each turn of the loop gives.
 -- The idea: whatever is read from here on is, with what was read before, what is read from the first element on.
-use Prim.Native.Nat.{ℕ, suc, _+_, _-_, _*_, _≤_, _<_}
+use Prim.Native.Nat.{ℕ, suc, _+_, _*_, _≤_, _<_}
 use mathlib.Core.Path.{_≡_, refl, _∙_, subst₂}
 use mathlib.Core.Bool.{Bool, true}
 use mathlib.Core.List.{List}

@@ -1,6 +1,6 @@
 -- The JSON kinds of nodes as columns of the grid, and whether a built-in takes the value at a node.
 -- The idea: a node's words say the value's kind and, of a number, where its token stands.
-use Prim.Native.Nat.{ℕ, _-_}
+use Prim.Native.Nat.{ℕ, suc, _-_}
 use mathlib.Core.Path.{_≡_, refl, sym, ap, ap₂, _∙_}
 use mathlib.Core.Bool.{Bool, true, false, cond}
 use mathlib.Core.List.{List, _∷_}

@@ -17,7 +17,7 @@ use Rattle.grammar.specs.Tree.Json.{leaf, arr, obj}
 use Rattle.grammar.specs.Serving.Machine.Message.{message}
 use Rattle.rules.specs.Readings.{Typed, typed, recordOf}
 use Rattle.rules.specs.Serving.ReadingOf.{under, then}
-use Rattle.text.specs.Nodes.{node, Holds, nodeEnd, nodeStart}
+use Rattle.text.specs.Nodes.{Holds, nodeEnd, nodeStart}
 use Rattle.readings.specs.Records.{putRecord, putAll, ReadTold}
 use Rattle.readings.specs.declared.readings.Count.{Count}
 use Rattle.readings.specs.declared.readings.Count.the-variants.{Records, Nothing}

@@ -13,7 +13,7 @@ use rules::kind;
 use rules::row;
 use table::chains::chain_ends;
 ghost use mathlib.Core.Path.{_≡_};
-ghost use Prim.Native.Nat.{_+_, _*_, _≤_, _<_, _^_};
+ghost use Prim.Native.Nat.{_+_, _*_, _≤_, _<_};
 ghost use lib.ListN.{length};
 ghost use Rattle.grammar.specs.Limits.{row-words};
 ghost use Rattle.rules.specs.Rows.{rowCount, children};

@@ -13,7 +13,7 @@ use lib.Seq.{take-nil, take-all, drop-cons}
 use borrow.Author.Tests.{eq-eqb, ne-eqb, le-leb, lt-leb}
 use Rattle.grammar.proofs.Lists.{different}
 use Rattle.grammar.proofs.Booleans.{within-is, within-below, within-above, within-out, Outside}
-use Rattle.grammar.proofs.Booleans.Outside.{below, above}
+use Rattle.grammar.proofs.Booleans.Outside.{below}
 use Rattle.grammar.specs.Lexis.{blank}
 use Rattle.grammar.specs.Limits.{name-bytes}
 use Rattle.grammar.specs.Notation.{text, within, same, all, digit}

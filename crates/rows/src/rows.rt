@@ -4,7 +4,7 @@ use rules::kind;
 use rules::row;
 use words::word_of;
 ghost use mathlib.Core.Path.{_≡_};
-ghost use Prim.Native.Nat.{_+_, _-_, _*_, _≤_, _<_, _^_};
+ghost use Prim.Native.Nat.{_+_, _-_, _≤_, _<_, _^_};
 ghost use Rattle.rules.specs.Rows as Rows;
 ghost use Rattle.rules.specs.Rows.{past, unnamed, owns, pastChildren};
 ghost use Rattle.rows.specs.Rows.{Countable, Follows, Room, First, Counted};

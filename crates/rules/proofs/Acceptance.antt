@@ -2,7 +2,7 @@
 -- The idea: MessageOutcome gives one outcome, accepted where no refusal applies; each part of Readable is that a refusal does not apply.
 use Prim.Native.Nat.{ℕ, _-_, _/_, _≤_}
 use native.Mathlib.Omega.{arith}
-use mathlib.Core.Path.{_≡_, refl, sym, ap, _∙_, subst}
+use mathlib.Core.Path.{_≡_, refl, sym, subst}
 use mathlib.Core.List.{List, _++_}
 use lib.ListN.{length, replicate}
 use Rattle.grammar.specs.Limits.{record-words}

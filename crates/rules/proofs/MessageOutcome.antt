@@ -26,7 +26,7 @@ use Rattle.rules.specs.declared.MessageAnswer.the-variants.{Accepted, Re
 use Rattle.rules.specs.Rows.{rowCount}
 use Rattle.rules.specs.Sound.{sound}
 use Rattle.rules.specs.Envelope.{Envelope, envelope, Names, mayUse, Asked, argumentsOf, Asks, Asks.command}
-use Rattle.rules.specs.Readings.{Typed, strict, recordsOf}
+use Rattle.rules.specs.Readings.{Typed, strict}
 use Rattle.rules.specs.Refusals.{FirstOf}
 use Rattle.rules.specs.MessageAnswers.{messageOrder, Encloses, AsksIn, ReadsAsked, MessageApplies, MessageOutcome, Readable, Held}
 use Rattle.rules.specs.MessageAnswers.MessageOutcome.{accepted, refused}

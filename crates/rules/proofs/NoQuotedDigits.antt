@@ -10,7 +10,7 @@ use lib.Dec.{eqb, leb}
 use borrow.Author.Tests.{eq-eqb, le-leb}
 use Rattle.grammar.specs.Notation.{within}
 use Rattle.grammar.specs.Tree.{Json, Items, Fields, Kind, kindOf}
-use Rattle.grammar.specs.Tree.Scalar.{num, str}
+use Rattle.grammar.specs.Tree.Scalar.{str}
 use Rattle.grammar.specs.Tree.Json.{leaf, arr, obj}
 use Rattle.grammar.specs.Tree.Kind.{object, array, string, number, boolean, null-kind}
 use Rattle.rules.specs.Kinds.{enum-kind}

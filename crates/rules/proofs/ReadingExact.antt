@@ -20,7 +20,7 @@ use Rattle.grammar.specs.Tree.Kind.{object, string}
 use Rattle.rules.specs.Kinds.{enum-kind, union-kind, alternate-kind}
 use Rattle.rules.specs.Types.{first-row, isBuiltIn, builtInTakes, takes}
 use Rattle.rules.specs.Values.{valueAt, anyOf}
-use Rattle.rules.specs.Rows.{kind, typeRef, arrayMark, unionBase, discriminator, dataStruct, children, members, nameOf, typeKind}
+use Rattle.rules.specs.Rows.{kind, typeRef, arrayMark, unionBase, discriminator, children, members, nameOf, typeKind}
 use Rattle.rules.specs.Rules.{is, namesOf}
 use Rattle.rules.specs.SchemaTable.{memberIn}
 use Rattle.rules.specs.Readings.{Typed, typed, Mandatory, Branch, Reads, ReadsItems, ReadsFields}

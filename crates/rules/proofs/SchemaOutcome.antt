@@ -1,10 +1,10 @@
 -- The schema answer as a function is the one outcome that the reference's table allows: each test says when its refusal applies, and the first that passes has the lowest rank.
 -- The idea: the bytes decide the text, the text the objects, these the definitions; so a statement on "the definitions of S" is one on the definitions computed.
-use Prim.Native.Nat.{ℕ, zero, suc, _/_, _<_}
+use Prim.Native.Nat.{ℕ, suc, _/_, _<_}
 use native.Mathlib.Omega.{arith}
 use mathlib.Core.Path.{_≡_, refl, sym, ap, _∙_}
 use mathlib.Core.Bool.{Bool, true, false, not}
-use mathlib.Core.List.{List, [], _∷_, List·Memᴰ}
+use mathlib.Core.List.{List, _∷_, List·Memᴰ}
 use mathlib.Core.Option.{Option, none, some}
 use lib.Dec.{ltb}
 use lib.ListN.{length, drop, getElem?}

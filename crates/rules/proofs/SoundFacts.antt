@@ -16,7 +16,7 @@ use Rattle.grammar.specs.Tree.{Kind}
 use Rattle.rules.specs.Kinds.{struct-kind, union-kind, branch-kind, alternate-kind, command-kind}
 use Rattle.rules.specs.Types.{column, sameKind}
 use Rattle.rules.specs.Names.{clash}
-use Rattle.rules.specs.Rows.{upFrom, rowCount, kind, isEnum, isStruct, isUnion, isAlternate, isCommand, base, typeRef, unionBase, discriminator, branchStruct, dataStruct, allowOob, returns, returnsArray, next, unnamed, owns, children, members, after, typeKind, nameOf, ownerLink}
+use Rattle.rules.specs.Rows.{upFrom, rowCount, kind, isEnum, isStruct, isUnion, isAlternate, isCommand, base, typeRef, unionBase, discriminator, branchStruct, dataStruct, next, unnamed, owns, children, members, after, typeKind, nameOf, ownerLink}
 use Rattle.rules.specs.Rules.{everyRow, namesOf, is, sameKinds, kindsOf, noClash, those, isDefinition, definitionNames, distinctNames, goodChains, goodUnions, goodAlternates, chainFits, unionFits, alternateFits, discriminatorFits, branchFits}
 use Rattle.rules.specs.Envelope.{Names}
 use Rattle.rules.specs.Sound.{sound, restZero, structLinked, unionLinked, dataLinked, commandLinked, referencesFit, toStruct}

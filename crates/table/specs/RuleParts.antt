@@ -10,10 +10,10 @@ use Rattle.grammar.specs.Notation.{all, apart}
 use Rattle.grammar.specs.Tree.Kind.{object, string}
 use Rattle.rules.specs.Kinds.{enum-kind, struct-kind, union-kind}
 use Rattle.rules.specs.Types.{first-row}
-use Rattle.rules.specs.Rows.{rowCount, kind, start, size, isEnum, typeRef, arrayMark, optional, unionBase, discriminator, branchStruct}
-use Rattle.rules.specs.Rows.{dataStruct, allowOob, returns, returnsArray, owns, typeKind, nameOf}
+use Rattle.rules.specs.Rows.{rowCount, start, size, isEnum, typeRef, arrayMark, optional, unionBase, discriminator, branchStruct}
+use Rattle.rules.specs.Rows.{typeKind, nameOf}
 use Rattle.rules.specs.Rules.{is, everyRow, sameKinds, kindsOf, discriminatorRow, goodNames, distinctNames, goodChains, goodUnions, goodAlternates, goodReturns}
-use Rattle.rules.specs.Sound.{laidOut, restZero, isFlag, toStruct, toType, referencesFit}
+use Rattle.rules.specs.Sound.{laidOut, restZero, referencesFit}
 use Rattle.builtins.specs.Kinds.{kindColumn}
 use Rattle.table.specs.Chains.{chainEnds, hasChild, isMember, membersApart}
 use Rattle.table.specs.declared.chains.Against.the-variants.{Members}

@@ -1,6 +1,5 @@
 // What commands return: rule 11.
 use builtins::FIRST_ROW;
-use rows::rows::wide;
 use rows::rows::word;
 use rules::kind;
 use rules::row;

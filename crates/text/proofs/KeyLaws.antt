@@ -9,7 +9,6 @@ use mathlib.Core.Logic.{⊎-elim, _⊎_, inl, inr}
 use mathlib.Core.List.{List, _∷_}
 use Rattle.grammar.specs.Notation.{same, apart}
 use Rattle.grammar.specs.Tree.{Scalar, Json, Items, Fields}
-use Rattle.grammar.specs.Tree.Scalar.{null, bool, num, str}
 use Rattle.grammar.specs.Tree.Json.{leaf, arr, obj}
 use Rattle.grammar.specs.Tree.Items.{no-items, item}
 use Rattle.grammar.specs.Tree.Fields.{no-fields, field}
@@ -18,6 +17,7 @@ use Rattle.grammar.specs.Serving.Machine.{Dialect}
 use Rattle.strings.specs.Strings.{plainString}
 use Rattle.tokens.specs.NodeKinds.{object-node, plain-key-node, other-key-node}
 use Rattle.tokens.specs.Tokens.{scalarNode, keyNode}
+use Rattle.tokens.proofs.ScalarNodes.{scalar-kind}
 use Rattle.text.specs.Nodes.{next, Holds, HoldsItems, HoldsFields, nodeKind}
 use Rattle.text.specs.Keys.{KeyAt}
 pub use Rattle.text.proofs.Frames.{goes-on}

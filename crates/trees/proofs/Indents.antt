@@ -1,6 +1,6 @@
 -- The tree of an accepted message is the tree of its reading: each line is indented by all records that are open where its value starts, and these are the values that contain it.
 -- The idea: the values of a reading nest, so the ends of the open ones rise from the innermost on, and the ones kept are those that count; the levels of a message bound how many.
-use Prim.Native.Nat.{ℕ, zero, suc, _+_, _-_, _*_, _/_, _≤_, _<_, min}
+use Prim.Native.Nat.{ℕ, suc, _+_, _-_, _*_, _/_, _≤_, _<_, min}
 use native.Mathlib.Nat.{min-eq-left}
 use native.Mathlib.Omega.{arith}
 use mathlib.Core.Path.{_≡_, refl, sym, ap, subst, _∙_}
@@ -18,13 +18,11 @@ use Rattle.rules.specs.Readings.{Typed, recordsOf}
 use Rattle.rules.specs.Envelope.{Asked}
 use Rattle.rules.specs.MessageAnswers.{Readable}
 use Rattle.rules.specs.Serving.Answers.{messageResult}
-use Rattle.rules.specs.Demands.{Gives}
 use Rattle.rules.proofs.Acceptance.{accepted-gives}
 use Rattle.rules.specs.Serving.Order.{Before, Nested, spanning}
 use Rattle.rules.proofs.Room.{records-length}
 use Rattle.rules.proofs.ReadingOrder.{reading-nested, reading-shallow}
 use Rattle.walker.specs.declared.records.Seen.{Seen}
-use Rattle.walker.specs.declared.records.Seen.the-variants.{Record}
 use Rattle.walker.specs.Seeing.{firstSeen, seenAt, placeFrom, placeAfter}
 use Rattle.walker.specs.Walk.{seenOf}
 use Rattle.walker.proofs.Walk.{counted}

@@ -8,7 +8,6 @@ use Rattle.grammar.specs.Limits.{record-words}
 use Rattle.rules.specs.declared.MessageAnswer.{MessageAnswer}
 use Rattle.rules.specs.declared.MessageAnswer.the-variants.{Accepted}
 use Rattle.rules.specs.Serving.Answers.{MessageResult}
-use Rattle.rules.specs.Demands.{Gives}
 use Rattle.rules.proofs.Acceptance.{accepted-gives}
 use Rattle.message.specs.Stages.{Answered}
 use Rattle.walker.proofs.Walk.{Walked, walk}

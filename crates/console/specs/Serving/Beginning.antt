@@ -7,7 +7,7 @@ use lib.ListN.{length, take}
 use Rattle.grammar.specs.Limits.{schema-bytes, row-words}
 use Rattle.rules.specs.declared.SchemaAnswer.{SchemaAnswer}
 use Rattle.rules.specs.declared.SchemaAnswer.the-variants.{Accepted, Refused}
-use Rattle.rules.specs.Serving.Answers.{SchemaResult, schemaResult}
+use Rattle.rules.specs.Serving.Answers.{schemaResult}
 use Rattle.lines.specs.Text.{Puts}
 use Rattle.wordings.specs.Wordings.{refusal-room}
 use Rattle.console.specs.declared.answers.Style.{Style}

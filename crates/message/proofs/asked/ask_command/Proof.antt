@@ -4,13 +4,6 @@ use Rattle.message.proofs.AskingLaws.{improper, unknown, not-allowed, a
 use borrow.Author.Needs.{needs}
 use Rattle.message.proofs.asked.ask_command.Statement.{statement}
 use Rattle.message.proofs.asked.ask_command.Tie as tie
-use Rattle.message.proofs.asked.ask_command.Reads as reads
-use Rattle.message.proofs.asked.ask_command.Lts as lts
-use Rattle.message.proofs.asked.link_ref.Reads as link-ref-reads
-use Rattle.message.proofs.asked.may_use.Reads as may-use-reads
-use Rattle.message.proofs.commands.find_command.Reads as find-command-reads
-use Rattle.message.proofs.envelope.read_envelope.Reads as read-envelope-reads
-use Rattle.rows.proofs.rows.word.Reads as word-reads
 
 -- src/asked.rt:59:9
 read-envelope-requires : tie.Need-read-envelope-requires

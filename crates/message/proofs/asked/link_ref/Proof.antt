@@ -3,8 +3,6 @@ use Rattle.message.proofs.AskingLaws.{no-link, a-link}
 use borrow.Author.Needs.{needs}
 use Rattle.message.proofs.asked.link_ref.Statement.{statement}
 use Rattle.message.proofs.asked.link_ref.Tie as tie
-use Rattle.message.proofs.asked.link_ref.Reads as reads
-use Rattle.message.proofs.asked.link_ref.Lts as lts
 
 -- src/asked.rt:37:9
 returns : tie.Need-returns

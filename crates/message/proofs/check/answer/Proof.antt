@@ -4,11 +4,6 @@ use Rattle.message.proofs.StageLaws.{unsound, is-sound}
 use borrow.Author.Needs.{needs}
 use Rattle.message.proofs.check.answer.Statement.{statement}
 use Rattle.message.proofs.check.answer.Tie as tie
-use Rattle.message.proofs.check.answer.Reads as reads
-use Rattle.message.proofs.check.answer.Lts as lts
-use Rattle.children.proofs.index.fill_index.Reads as fill-index-reads
-use Rattle.message.proofs.check.answer_given.Reads as answer-given-reads
-use Rattle.table.proofs.sound.is_sound.Reads as is-sound-reads
 
 -- src/check.rt:186:9
 is-sound-requires : tie.Need-is-sound-requires

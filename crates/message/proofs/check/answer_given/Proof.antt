@@ -3,10 +3,6 @@ use Rattle.message.proofs.StageLaws.{too-long, short-enough}
 use borrow.Author.Needs.{needs}
 use Rattle.message.proofs.check.answer_given.Statement.{statement}
 use Rattle.message.proofs.check.answer_given.Tie as tie
-use Rattle.message.proofs.check.answer_given.Reads as reads
-use Rattle.message.proofs.check.answer_given.Lts as lts
-use Rattle.message.proofs.check.answer_long.Reads as answer-long-reads
-use Rattle.message.proofs.check.answer_short.Reads as answer-short-reads
 
 -- src/check.rt:174:9
 returns : tie.Need-returns

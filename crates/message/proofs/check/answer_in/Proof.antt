@@ -5,11 +5,6 @@ use Rattle.message.proofs.StageLaws.{text-refused, value-read, refuses,
 use borrow.Author.Needs.{needs}
 use Rattle.message.proofs.check.answer_in.Statement.{statement}
 use Rattle.message.proofs.check.answer_in.Tie as tie
-use Rattle.message.proofs.check.answer_in.Reads as reads
-use Rattle.message.proofs.check.answer_in.Lts as lts
-use Rattle.message.proofs.asked.ask_command.Reads as ask-command-reads
-use Rattle.message.proofs.check.read_asked.Reads as read-asked-reads
-use Rattle.message.proofs.check.read_text.Reads as read-text-reads
 
 -- src/check.rt:123:9
 read-text-requires : tie.Need-read-text-requires

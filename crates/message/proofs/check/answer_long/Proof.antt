@@ -5,9 +5,6 @@ use Rattle.message.proofs.StageLaws.{nodes-fit}
 use borrow.Author.Needs.{needs}
 use Rattle.message.proofs.check.answer_long.Statement.{statement}
 use Rattle.message.proofs.check.answer_long.Tie as tie
-use Rattle.message.proofs.check.answer_long.Reads as reads
-use Rattle.message.proofs.check.answer_long.Lts as lts
-use Rattle.message.proofs.check.answer_in.Reads as answer-in-reads
 
 -- src/check.rt:159:39
 slice-aggregate-answer-in : tie.Need-slice-aggregate-answer-in

@@ -5,9 +5,6 @@ use Rattle.message.proofs.StageLaws.{nodes-fit}
 use borrow.Author.Needs.{needs}
 use Rattle.message.proofs.check.answer_short.Statement.{statement}
 use Rattle.message.proofs.check.answer_short.Tie as tie
-use Rattle.message.proofs.check.answer_short.Reads as reads
-use Rattle.message.proofs.check.answer_short.Lts as lts
-use Rattle.message.proofs.check.answer_in.Reads as answer-in-reads
 
 -- src/check.rt:145:39
 slice-aggregate-answer-in : tie.Need-slice-aggregate-answer-in

@@ -4,10 +4,6 @@ use Rattle.message.proofs.AnswerLaws.{fits, cleared}
 use borrow.Author.Needs.{needs}
 use Rattle.message.proofs.check.check_message.Statement.{statement}
 use Rattle.message.proofs.check.check_message.Tie as tie
-use Rattle.message.proofs.check.check_message.Reads as reads
-use Rattle.message.proofs.check.check_message.Lts as lts
-use Rattle.message.proofs.check.answer.Reads as answer-reads
-use Rattle.words.proofs.clear.Reads as clear-reads
 
 -- src/check.rt:203:9
 answer-requires : tie.Need-answer-requires

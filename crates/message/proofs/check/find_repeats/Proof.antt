@@ -3,9 +3,6 @@ use Rattle.message.proofs.StageLaws.{repeated, unrepeated}
 use borrow.Author.Needs.{needs}
 use Rattle.message.proofs.check.find_repeats.Statement.{statement}
 use Rattle.message.proofs.check.find_repeats.Tie as tie
-use Rattle.message.proofs.check.find_repeats.Reads as reads
-use Rattle.message.proofs.check.find_repeats.Lts as lts
-use Rattle.text.proofs.keys.keys_once.Reads as keys-once-reads
 
 -- src/check.rt:47:9
 keys-once-requires : tie.Need-keys-once-requires

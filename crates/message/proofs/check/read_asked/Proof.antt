@@ -2,9 +2,6 @@ use Rattle.message.proofs.StageLaws.{absent, present}
 use borrow.Author.Needs.{needs}
 use Rattle.message.proofs.check.read_asked.Statement.{statement}
 use Rattle.message.proofs.check.read_asked.Tie as tie
-use Rattle.message.proofs.check.read_asked.Reads as reads
-use Rattle.message.proofs.check.read_asked.Lts as lts
-use Rattle.message.proofs.check.read_present.Reads as read-present-reads
 
 -- src/check.rt:106:46
 slice-aggregate-read-present : tie.Need-slice-aggregate-read-present

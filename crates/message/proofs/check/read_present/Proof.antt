@@ -3,9 +3,6 @@ use Rattle.message.proofs.StageLaws.{unread, unheld, answered}
 use borrow.Author.Needs.{needs}
 use Rattle.message.proofs.check.read_present.Statement.{statement}
 use Rattle.message.proofs.check.read_present.Tie as tie
-use Rattle.message.proofs.check.read_present.Reads as reads
-use Rattle.message.proofs.check.read_present.Lts as lts
-use Rattle.readings.proofs.readings.read_whole.Reads as read-whole-reads
 
 -- src/check.rt:80:11
 read-whole-requires : tie.Need-read-whole-requires

@@ -2,10 +2,6 @@ use Rattle.message.proofs.StageLaws.{faulty, deeper, never, whole-text}
 use borrow.Author.Needs.{needs}
 use Rattle.message.proofs.check.read_text.Statement.{statement}
 use Rattle.message.proofs.check.read_text.Tie as tie
-use Rattle.message.proofs.check.read_text.Reads as reads
-use Rattle.message.proofs.check.read_text.Lts as lts
-use Rattle.message.proofs.check.find_repeats.Reads as find-repeats-reads
-use Rattle.text.proofs.texts.read_message.Reads as read-message-reads
 
 -- src/check.rt:58:11
 read-message-requires : tie.Need-read-message-requires
