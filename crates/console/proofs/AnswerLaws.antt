@@ -15,7 +15,8 @@ use Rattle.rules.specs.declared.MessageAnswer.{MessageAnswer}
 use Rattle.rules.specs.SchemaAnswers as Schemas
 use Rattle.rules.specs.MessageAnswers as Messages
 use Rattle.message.specs.Stages.{Answered}
-use Rattle.lines.specs.Text.{Puts, lineText}
+use Rattle.lines.specs.Text.{lineText}
+use Rattle.lines.specs.Serving.Puts.{Puts}
 use Rattle.lines.proofs.TextLaws.{puts-as}
 use Rattle.trees.specs.TreeText.{linesFrom, linesOf}
 use Rattle.wordings.specs.Wordings.{schemaHead, messageHead}

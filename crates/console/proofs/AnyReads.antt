@@ -8,11 +8,12 @@ use mathlib.Core.List.{List, [], _∷_, _++_, append-assoc, append-nil}
 use mathlib.Core.Option.{Option}
 use lib.ListN.{length, take, drop, drop-of-length-le}
 use Rattle.grammar.specs.Limits.{record-words}
-use Rattle.lines.specs.Lines.{beforeLF}
-use Rattle.lines.specs.Text.{Puts, put}
+use Rattle.lines.specs.Serving.Lines.{beforeLF}
+use Rattle.lines.specs.Serving.Puts.{Puts, put}
 use Rattle.lines.proofs.TextLaws.{put-length}
 use Rattle.walker.specs.Seeing.{placeAfter}
-use Rattle.trees.specs.TreeText.{lineAt, openThen, linesOf, linesFrom, One}
+use Rattle.trees.specs.TreeText.{lineAt, openThen, linesOf, linesFrom}
+use Rattle.trees.specs.Serving.Asks.{One}
 use Rattle.trees.proofs.TreeLaws.{lines-on}
 use Rattle.console.specs.declared.answers.Style.{Style}
 use Rattle.console.specs.declared.opening.Opening.{Opening}

@@ -18,7 +18,7 @@ use Rattle.rules.specs.declared.SchemaAnswer.{SchemaAnswer}
 use Rattle.rules.specs.declared.SchemaAnswer.the-variants.{Accepted, Refused}
 use Rattle.rules.specs.Serving.Answers.{SchemaResult, schemaResult}
 use Rattle.schema.specs.Stages.{Compiles}
-use Rattle.lines.specs.Text.{Puts}
+use Rattle.lines.specs.Serving.Puts.{Puts}
 use Rattle.lines.proofs.TextLaws.{puts-as}
 use Rattle.console.specs.declared.answers.Style.{Style}
 use Rattle.console.specs.declared.files.Read.{Read}

@@ -10,7 +10,9 @@ use Rattle.grammar.proofs.Booleans.{clash}
 use Rattle.lines.proofs.TextLaws.{put-length}
 use Rattle.walker.proofs.SeeingLaws.{moved-below, stayed-end}
 use Rattle.trees.specs.Backwards.{before}
-use Rattle.trees.specs.TreeText.{line-room, lineAt, One}
+use Rattle.trees.specs.TreeText.{lineAt}
+use Rattle.trees.specs.Serving.Rooms.{line-room}
+use Rattle.trees.specs.Serving.Asks.{One}
 use Rattle.console.specs.declared.showing.Listing.{Listing}
 use Rattle.console.specs.Serving.Shows.{Shows}
 

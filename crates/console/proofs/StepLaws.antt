@@ -14,7 +14,7 @@ use Rattle.rules.specs.declared.MessageRefusal.the-variants as M
 use Rattle.rules.specs.declared.MessageAnswer.the-variants as MA
 use Rattle.rules.specs.Sound.{sound}
 use Rattle.rules.specs.Serving.Answers.{MessageResult, refusedBy, soundResult, messageResult}
-use Rattle.lines.specs.Lines.{beforeLF, orNext}
+use Rattle.lines.specs.Serving.Lines.{beforeLF, orNext}
 use Rattle.lines.proofs.TextLaws.{puts-none}
 use Rattle.trees.specs.TreeText.{linesFrom, linesOf}
 use Rattle.console.specs.declared.answers.Style.{Style}

@@ -18,8 +18,8 @@ use wordings::heads::put_message_head;
 use wordings::heads::put_schema_head;
 ghost use Prim.Native.Nat.{_+_, _≤_};
 ghost use lib.ListN.{length};
-ghost use Rattle.lines.specs.Text.{Puts};
-ghost use Rattle.wordings.specs.Wordings.{refusal-room};
+ghost use Rattle.lines.specs.Serving.Puts.{Puts};
+ghost use Rattle.wordings.specs.Serving.Rooms.{refusal-room};
 ghost use Rattle.console.specs.Program.{record-room, schemaText, resultLine};
 ghost use Rattle.console.specs.Serving.Steps.{longest-line, Says};
 

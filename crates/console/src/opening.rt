@@ -11,8 +11,8 @@ ghost use Prim.Native.Nat.{_≤_};
 ghost use mathlib.Core.Path.{_≡_};
 ghost use mathlib.Core.Option.{some};
 ghost use lib.ListN.{length};
-ghost use Rattle.lines.specs.Text.{Puts};
-ghost use Rattle.wordings.specs.Wordings.{refusal-room};
+ghost use Rattle.lines.specs.Serving.Puts.{Puts};
+ghost use Rattle.wordings.specs.Serving.Rooms.{refusal-room};
 ghost use Rattle.console.specs.Program.{table-room, no-schema};
 ghost use Rattle.console.specs.Serving.Beginning.{Within, fileIn, Lent, nextAfter, Opens};
 

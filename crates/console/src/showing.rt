@@ -9,7 +9,7 @@ use walker::records::Seen;
 ghost use Prim.Native.Nat.{_+_, _≤_};
 ghost use mathlib.Core.Path.{_≡_};
 ghost use lib.ListN.{length};
-ghost use Rattle.trees.specs.TreeText.{line-room};
+ghost use Rattle.trees.specs.Serving.Rooms.{line-room};
 ghost use Rattle.walker.specs.Seeing.{seenAt};
 ghost use Rattle.console.specs.Program.{record-count};
 ghost use Rattle.console.specs.Serving.Shows.{Shows};

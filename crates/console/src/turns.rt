@@ -13,7 +13,7 @@ ghost use Prim.Native.Nat.{_≤_};
 ghost use mathlib.Core.Bool.{true};
 ghost use mathlib.Core.Path.{_≡_};
 ghost use lib.ListN.{length};
-ghost use Rattle.trees.specs.TreeText.{line-room};
+ghost use Rattle.trees.specs.Serving.Rooms.{line-room};
 ghost use Rattle.console.specs.Serving.Steps.{longest-line, out-room, Room, RoomIn, KeptIn};
 ghost use Rattle.console.specs.Serving.Beginning.{TableOf};
 

@@ -10,7 +10,8 @@ use lib.Dec.{ltb}
 use lib.ListN.{length, take, getD, set, length-append, length-set}
 use lib.Seq.{take-suc, take-length}
 use borrow.Author.Tests.{ltb-true, ltb-false, lt-ltb, le-ltb}
-use Rattle.lines.specs.Text.{Puts, put, digitsIn, decimalText, spacedText, lineText, number-digits, word-digits}
+use Rattle.lines.specs.Text.{digitsIn, decimalText, spacedText, lineText}
+use Rattle.lines.specs.Serving.Puts.{Puts, put, number-digits, word-digits}
 
 pub put-length : (at : ℕ) (t l : List ℕ) → length (put at t l) ≡ length l
 unfolding put

@@ -1,3 +1,3 @@
--- Text is what a reader must believe of numbers as text; Lines serves contracts.
+-- What a reader must believe of numbers as text. Serving has what only contracts and proofs cite.
 pub mod Text
-pub mod Lines
+pub mod Serving

@@ -2,7 +2,8 @@
 ghost use Prim.Native.Nat.{_+_, _*_, _≤_};
 ghost use mathlib.Core.List.{[], _∷_};
 ghost use lib.ListN.{length};
-ghost use Rattle.lines.specs.Text.{Puts, decimalText, spacedText, lineText, number-room, word-room};
+ghost use Rattle.lines.specs.Text.{decimalText, spacedText, lineText};
+ghost use Rattle.lines.specs.Serving.Puts.{Puts, number-room, word-room};
 
 // Room for a machine number of at most 20 digits, and for a word of at most 10, with a byte before or after each.
 pub const NUMBER_ROOM: usize = 20 + 1;

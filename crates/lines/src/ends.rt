@@ -2,8 +2,8 @@
 ghost use Prim.Native.Nat.{_+_, _≤_, min};
 ghost use mathlib.Core.Path.{_≡_};
 ghost use lib.ListN.{length};
-ghost use Rattle.lines.specs.Lines.{LineEnd};
-ghost use Rattle.lines.specs.Text.{put};
+ghost use Rattle.lines.specs.Serving.Lines.{LineEnd};
+ghost use Rattle.lines.specs.Serving.Puts.{put};
 
 // The place of the first LF from `from` on, or the end.
 pub fn line_end(s: &[u8], from: usize) -> usize

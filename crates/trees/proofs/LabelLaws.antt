@@ -14,7 +14,7 @@ use Rattle.rules.specs.Types.{first-row}
 use Rattle.rules.specs.Kinds.{alternate-kind}
 use Rattle.rules.specs.Rows.{kind, isAlternate}
 use Rattle.grammar.specs.Notation.{text}
-use Rattle.lines.specs.Text.{Puts}
+use Rattle.lines.specs.Serving.Puts.{Puts}
 use Rattle.lines.proofs.TextLaws.{puts-as}
 use Rattle.trees.specs.declared.labels.BytePlace.{BytePlace}
 use Rattle.trees.specs.declared.labels.BytePlace.the-variants.{At, Missing}
@@ -23,7 +23,8 @@ use Rattle.trees.specs.declared.labels.Label.the-variants.{Key, Element}
 use Rattle.walker.specs.Seeing.{seenAt, partOf}
 use Rattle.trees.specs.Escapes.{shown}
 use Rattle.trees.specs.Backwards.{back, before}
-use Rattle.trees.specs.Labelling.{skipBlanks, evenSlashes, quoteFirst, keyBack, behindByte, closedKey, behindColon, keyBefore, backAt, PlaceIn, keyAt, keyText, alternateRef, ofAlternate, labelText}
+use Rattle.trees.specs.Labelling.{skipBlanks, evenSlashes, quoteFirst, keyBack, behindByte, closedKey, behindColon, keyBefore, keyText, alternateRef, ofAlternate, labelText}
+use Rattle.trees.specs.Serving.Found.{backAt, PlaceIn, keyAt}
 use Rattle.trees.proofs.BackLaws.{back-at, back-start}
 
 not-zero : (i : ℕ) → (i ≡ 0 → ⊥) → 0 < i

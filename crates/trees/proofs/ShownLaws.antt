@@ -12,7 +12,7 @@ use lib.Seq.{take-suc, take-length, take-all}
 use borrow.Author.Tests.{lt-ltb, le-ltb, lt-leb, le-leb, leb-true, leb-false}
 use Rattle.grammar.specs.Notation.{text}
 use Rattle.grammar.specs.Limits.{name-bytes}
-use Rattle.lines.specs.Text.{Puts}
+use Rattle.lines.specs.Serving.Puts.{Puts}
 use Rattle.lines.proofs.TextLaws.{puts-as, puts-on}
 use Rattle.trees.specs.Escapes.{shownDigit, hexByte, shownByte, shownBytes, shown}
 

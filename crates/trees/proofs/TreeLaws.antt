@@ -5,7 +5,7 @@ use native.Mathlib.Omega.{arith}
 use mathlib.Core.Path.{_≡_, refl, sym, ap, _∙_, subst}
 use mathlib.Core.List.{List, [], _∷_, _++_}
 use lib.ListN.{length, replicate, set, length-replicate}
-use Rattle.lines.specs.Text.{Puts}
+use Rattle.lines.specs.Serving.Puts.{Puts}
 use Rattle.lines.proofs.TextLaws.{puts-as, puts-on, puts-one, puts-none, put-none}
 use Rattle.grammar.specs.Limits.{record-words}
 use Rattle.grammar.specs.Notation.{text}
@@ -18,7 +18,9 @@ use Rattle.trees.specs.Backwards.{back}
 use Rattle.trees.specs.Nesting.{stillOpen, opened, openAfter}
 use Rattle.trees.specs.Labelling.{labelText}
 use Rattle.trees.specs.Typing.{typeText}
-use Rattle.trees.specs.TreeText.{deepest, indent-room, indentText, valueShown, valueText, leftText, rightText, recordLine, lineAt, openThen, linesOf, linesFrom, One}
+use Rattle.trees.specs.TreeText.{deepest, indentText, valueShown, valueText, leftText, rightText, recordLine, lineAt, openThen, linesOf, linesFrom}
+use Rattle.trees.specs.Serving.Rooms.{indent-room}
+use Rattle.trees.specs.Serving.Asks.{One}
 use Rattle.walker.proofs.SeeingLaws.{after-whole}
 use Rattle.trees.proofs.BackLaws.{back-length}
 

@@ -11,7 +11,7 @@ use Rattle.grammar.proofs.TextTables.{entry-short}
 use Rattle.rules.specs.Types.{built-ins, first-row}
 use Rattle.rules.specs.Kinds.{struct-kind}
 use Rattle.rules.specs.Rows.{kind, isStruct, nameOf}
-use Rattle.lines.specs.Text.{Puts}
+use Rattle.lines.specs.Serving.Puts.{Puts}
 use Rattle.lines.proofs.TextLaws.{puts-as, puts-on}
 use Rattle.trees.specs.Escapes.{shown}
 use Rattle.trees.specs.Typing.{builtInNames, rowText, rowName, typeName, typeText}

@@ -1,5 +1,5 @@
 -- Reference, Viewer: bytes as they go to a terminal. A message may hold any bytes; only 0x20 to 0x7E go out as they are.
-use Prim.Native.Nat.{ℕ, _+_, _*_, _/_, _%_}
+use Prim.Native.Nat.{ℕ, _+_, _/_, _%_}
 use mathlib.Core.Bool.{Bool, cond}
 use mathlib.Core.List.{List, [], _∷_, _++_}
 use lib.Dec.{ltb}
@@ -23,13 +23,6 @@ shownByte b = cond (printable b) (b ∷ []) (hexByte b)
 unfoldable pub shownBytes : List ℕ → List ℕ
 shownBytes [] = []
 shownBytes (b ∷ l) = shownByte b ++ shownBytes l
-
--- what is shown of bytes has room here: the longest name, each byte escaped, and the dots
-abbrev pub escape-bytes : ℕ
-escape-bytes = 4
-
-abbrev pub shown-room : ℕ
-shown-room = escape-bytes * name-bytes + 3
 
 -- cut to the longest name, so that no name is cut; dots where there is more
 unfoldable pub shown : List ℕ → List ℕ

@@ -1,5 +1,5 @@
 -- Reference, Viewer: what a record is called: the key before its value, as it is written, or what it is of the record before it.
-use Prim.Native.Nat.{ℕ, zero, suc, _-_, _<_}
+use Prim.Native.Nat.{ℕ, zero, suc, _-_}
 use mathlib.Core.Bool.{Bool, true, false, cond, not, _&&_}
 use mathlib.Core.List.{List, [], _∷_}
 use mathlib.Core.Option.{Option, none, some}
@@ -10,12 +10,8 @@ use Rattle.rules.specs.Types.{first-row}
 use Rattle.rules.specs.Rows.{isAlternate}
 use Rattle.walker.specs.declared.records.Seen.{Seen}
 use Rattle.walker.specs.declared.records.Seen.the-variants.{Record, Nothing}
-use Rattle.trees.specs.declared.labels.BytePlace.{BytePlace}
-use Rattle.trees.specs.declared.labels.BytePlace.the-variants.{At, Missing}
-use Rattle.trees.specs.declared.labels.Label.{Label}
-use Rattle.trees.specs.declared.labels.Label.the-variants.{Key, Element}
-use Rattle.walker.specs.Seeing.{seenAt, partOf}
-use Rattle.trees.specs.Backwards.{back, before}
+use Rattle.walker.specs.Seeing.{seenAt}
+use Rattle.trees.specs.Backwards.{before}
 use Rattle.trees.specs.Escapes.{shown}
 
 -- bytes before a value, the nearest first
@@ -54,19 +50,6 @@ behindColon (some l) = closedKey (behindByte 34 (skipBlanks l))
 -- the key that stands before a value, if one does: a string and a colon
 unfoldable pub keyBefore : List ℕ → Option (List ℕ)
 keyBefore l = behindColon (behindByte 58 (skipBlanks l))
-
--- what the code found: the place of a byte, and the key's place in the message
-abbrev pub backAt : List ℕ → BytePlace → Option (List ℕ)
-backAt m (At i) = some (back m i)
-backAt m Missing = none
-
-abbrev pub PlaceIn : ℕ → BytePlace → Type 0
-PlaceIn n (At i) = i < n
-PlaceIn n Missing = Unit {0}
-
-abbrev pub keyAt : List ℕ → Label → Option (List ℕ)
-keyAt m (Key a e) = some (partOf m a e)
-keyAt m Element = none
 
 abbrev pub keyText : Option (List ℕ) → List ℕ
 keyText none = text "-"

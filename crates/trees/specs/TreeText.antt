@@ -1,6 +1,5 @@
 -- Reference, Viewer: the records of a message as a tree: a line each, indented by the records that are open around it.
 use Prim.Native.Nat.{ℕ, zero, suc, _+_, _-_, _*_, _/_, min}
-use mathlib.Core.Path.{_≡_}
 use mathlib.Core.Bool.{cond}
 use mathlib.Core.List.{List, [], _∷_, _++_}
 use lib.Dec.{ltb}
@@ -9,31 +8,17 @@ use Rattle.grammar.specs.Limits.{record-words}
 use Rattle.grammar.specs.Notation.{text}
 use Rattle.grammar.specs.Tree.{startOf, endOf}
 use Rattle.rules.specs.Readings.{Typed}
-use Rattle.lines.specs.Text.{Puts}
 use Rattle.walker.specs.declared.records.Seen.{Seen}
 use Rattle.walker.specs.declared.records.Seen.the-variants.{Record, Nothing}
 use Rattle.walker.specs.Seeing.{seenAt, placeAfter, partOf}
-use Rattle.trees.specs.Escapes.{shown, shown-room}
+use Rattle.trees.specs.Escapes.{shown}
 use Rattle.trees.specs.Nesting.{stillOpen, openAfter}
 use Rattle.trees.specs.Labelling.{labelText}
-use Rattle.trees.specs.Typing.{typeText, type-room}
+use Rattle.trees.specs.Typing.{typeText}
 
 -- of any records, more than 80 open ones indent no further; those of an accepted message never are so many, and its lines below know no limit
 abbrev pub deepest : ℕ
 deepest = 80
-
--- no line is longer: the indent and the label, then the type, the text and what stands around them
-abbrev pub indent-room : ℕ
-indent-room = 2 * (1 + deepest)
-
-abbrev pub left-room : ℕ
-left-room = indent-room + shown-room
-
-abbrev pub right-room : ℕ
-right-room = type-room + shown-room + 6
-
-abbrev pub line-room : ℕ
-line-room = left-room + right-room
 
 -- two spaces, and two for each of the records around
 abbrev pub indent : ℕ → List ℕ
@@ -77,12 +62,6 @@ module _ (S T m ws : List ℕ) (room : ℕ) where
   -- the lines of all records from a place on
   unfoldable pub linesFrom : ℕ → List ℕ → List ℕ
   linesFrom n es = linesOf (length ws / record-words - n) n es
-
-  -- one ask: the line is put, the place is the next, and the record is open; or nothing is seen, and all stays
-  pub record One (n : ℕ) (es : List ℕ) (at : ℕ) (old new : List ℕ) (next : ℕ) (es′ : List ℕ) (r : ℕ) : Type 0 where
-    pub puts : Puts (lineAt n es) at old new r
-    pub moves : next ≡ placeAfter ws n
-    pub opens : es′ ≡ openThen n es
 
 -- how many of these values are open at a place: they end after it
 abbrev pub openAt : List Typed → ℕ → ℕ

@@ -7,7 +7,7 @@ use lib.ListN.{getD}
 use Rattle.grammar.specs.Notation.{text}
 use Rattle.rules.specs.Types.{first-row, built-ins}
 use Rattle.rules.specs.Rows.{isStruct, nameOf}
-use Rattle.trees.specs.Escapes.{shown, shown-room}
+use Rattle.trees.specs.Escapes.{shown}
 
 -- a row by its name; an inline struct has none, and neither has a row that isn't there
 abbrev pub rowText : Bool → List ℕ → List ℕ
@@ -23,10 +23,6 @@ builtInNames = text "(none)" ∷ built-ins
 
 unfoldable pub typeName : List ℕ → List ℕ → ℕ → List ℕ
 typeName S T t = elim (ltb t first-row) [ true ↦ getD builtInNames t [] | false ↦ rowName S T (t - first-row) ]
-
--- a type's name in brackets
-abbrev pub type-room : ℕ
-type-room = shown-room + 2
 
 -- in brackets if an array: only the flag 0 is none
 unfoldable pub typeText : List ℕ → List ℕ → ℕ → ℕ → List ℕ

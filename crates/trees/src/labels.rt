@@ -15,11 +15,12 @@ ghost use Prim.Native.Nat.{_+_, _-_, _≤_, _<_};
 ghost use mathlib.Core.List.{[]};
 ghost use lib.ListN.{length, take, drop};
 ghost use Rattle.grammar.specs.Lexis.{blank};
-ghost use Rattle.lines.specs.Text.{Puts};
+ghost use Rattle.lines.specs.Serving.Puts.{Puts};
 ghost use Rattle.walker.specs.Seeing.{seenAt};
 ghost use Rattle.trees.specs.Backwards.{back, before};
-ghost use Rattle.trees.specs.Escapes.{shown-room};
-ghost use Rattle.trees.specs.Labelling.{skipBlanks, evenSlashes, quoteFirst, keyBack, behindByte, backAt, PlaceIn, keyBefore, keyAt, keyText, alternateRef, ofAlternate, labelText};
+ghost use Rattle.trees.specs.Serving.Rooms.{shown-room};
+ghost use Rattle.trees.specs.Labelling.{skipBlanks, evenSlashes, quoteFirst, keyBack, behindByte, keyBefore, keyText, alternateRef, ofAlternate, labelText};
+ghost use Rattle.trees.specs.Serving.Found.{backAt, PlaceIn, keyAt};
 
 // Where a byte stands that is looked for.
 pub enum BytePlace {

@@ -5,8 +5,9 @@ use walker::records::least;
 ghost use mathlib.Core.Path.{_≡_};
 ghost use Prim.Native.Nat.{_+_, _*_, _≤_, _<_};
 ghost use lib.ListN.{length};
-ghost use Rattle.lines.specs.Text.{Puts};
-ghost use Rattle.trees.specs.Escapes.{shownDigit, hexByte, shownByte, shownBytes, shown, escape-bytes, shown-room};
+ghost use Rattle.lines.specs.Serving.Puts.{Puts};
+ghost use Rattle.trees.specs.Escapes.{shownDigit, hexByte, shownByte, shownBytes, shown};
+ghost use Rattle.trees.specs.Serving.Rooms.{escape-bytes, shown-room};
 
 // Room for what is shown of bytes: the longest name, each byte escaped, and three dots.
 pub const SHOWN_ROOM: usize = 4 * NAME_BYTES + 3;

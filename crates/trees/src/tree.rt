@@ -15,10 +15,11 @@ ghost use Prim.Native.Nat.{_+_, _≤_};
 ghost use mathlib.Core.Path.{_≡_};
 ghost use lib.ListN.{length, replicate};
 ghost use Rattle.walker.specs.Seeing.{seenAt};
-ghost use Rattle.lines.specs.Text.{Puts};
+ghost use Rattle.lines.specs.Serving.Puts.{Puts};
 ghost use Rattle.trees.specs.Backwards.{before};
-ghost use Rattle.trees.specs.Escapes.{shown-room};
-ghost use Rattle.trees.specs.TreeText.{indent-room, left-room, right-room, line-room, indentText, valueText, leftText, rightText, One};
+ghost use Rattle.trees.specs.Serving.Rooms.{shown-room, indent-room, left-room, right-room, line-room};
+ghost use Rattle.trees.specs.TreeText.{indentText, valueText, leftText, rightText};
+ghost use Rattle.trees.specs.Serving.Asks.{One};
 
 // The most levels that a line is indented by; the records of an accepted message have fewer.
 const DEEPEST: usize = 80;

@@ -14,9 +14,9 @@ use rules::row;
 ghost use Prim.Native.Nat.{_+_, _≤_, _<_};
 ghost use mathlib.Core.List.{[]};
 ghost use lib.ListN.{length, getD};
-ghost use Rattle.lines.specs.Text.{Puts};
-ghost use Rattle.trees.specs.Escapes.{shown-room};
-ghost use Rattle.trees.specs.Typing.{builtInNames, rowName, typeName, typeText, type-room};
+ghost use Rattle.lines.specs.Serving.Puts.{Puts};
+ghost use Rattle.trees.specs.Serving.Rooms.{shown-room, type-room};
+ghost use Rattle.trees.specs.Typing.{builtInNames, rowName, typeName, typeText};
 ghost use Rattle.rules.specs.Types.{first-row};
 
 // Room for a type's name in brackets.

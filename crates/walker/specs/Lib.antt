@@ -1,3 +1,3 @@
--- What a reader must believe of the reader of records; contracts cite it too.
+-- What a reader must believe of the reader of records.
 pub mod Seeing
 pub mod Walk

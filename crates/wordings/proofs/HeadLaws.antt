@@ -15,10 +15,12 @@ use Rattle.rules.specs.declared.MessageAnswer.the-variants as MA
 use Rattle.rules.specs.Rows.{nameOf}
 use Rattle.rules.specs.SchemaAnswers as Schemas
 use Rattle.rules.specs.MessageAnswers as Messages
-use Rattle.lines.specs.Text.{Puts, decimalText}
+use Rattle.lines.specs.Text.{decimalText}
+use Rattle.lines.specs.Serving.Puts.{Puts}
 use Rattle.lines.proofs.TextLaws.{puts-as, puts-on, puts-none}
 use Rattle.trees.specs.Escapes.{shown}
-use Rattle.wordings.specs.Wordings.{meanings, meaningOf, longest-meaning, refusedLine, rowsLine, commandLine, schemaHead, messageHead}
+use Rattle.wordings.specs.Wordings.{meanings, meaningOf, refusedLine, rowsLine, commandLine, schemaHead, messageHead}
+use Rattle.wordings.specs.Serving.Rooms.{longest-meaning}
 
 -- ---- a meaning in the table
 pub meaning-part : (n : ℕ) {j from to : ℕ} → n < length meanings → j ≡ suc n → from ≡ getD (boundsFrom 0 meanings) n 0 → to ≡ getD (boundsFrom 0 meanings) j 0 → Part meanings n from to

@@ -1,2 +1,3 @@
--- What a reader must believe of answers in words; contracts cite it too.
+-- What a reader must believe of answers in words. Serving has what only contracts and proofs cite.
 pub mod Wordings
+pub mod Serving

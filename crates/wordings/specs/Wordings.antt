@@ -10,8 +10,8 @@ use Rattle.rules.specs.declared.MessageAnswer.the-variants as MA
 use Rattle.rules.specs.Rows.{nameOf}
 use Rattle.rules.specs.SchemaAnswers as Schemas
 use Rattle.rules.specs.MessageAnswers as Messages
-use Rattle.lines.specs.Text.{decimalText, number-room}
-use Rattle.trees.specs.Escapes.{shown, shown-room}
+use Rattle.lines.specs.Text.{decimalText}
+use Rattle.trees.specs.Escapes.{shown}
 
 -- Reference, Viewer: the meanings of 1 to 13, in order
 abbrev pub schemaMeanings : List (List ℕ)
@@ -53,16 +53,9 @@ meanings = [] ∷ (schemaMeanings ++ (replicate 7 [] ++ messageMeanings))
 abbrev pub meaningOf : ℕ → List ℕ
 meaningOf n = getD meanings n []
 
--- no meaning is longer
-abbrev pub longest-meaning : ℕ
-longest-meaning = 71
-
 -- the number, and its meaning
 unfoldable pub refusedLine : ℕ → List ℕ
 refusedLine n = decimalText n ++ (text " " ++ (meaningOf n ++ (10 ∷ [])))
-
-abbrev pub refusal-room : ℕ
-refusal-room = number-room + longest-meaning + 1
 
 -- 0 and the count of rows; 0 and the command's name
 unfoldable pub rowsLine : ℕ → List ℕ
@@ -70,9 +63,6 @@ rowsLine n = text "0 schema accepted, rows: " ++ (decimalText n ++ (10 ∷ []))
 
 unfoldable pub commandLine : List ℕ → List ℕ → ℕ → List ℕ
 commandLine S T c = text "0 " ++ (shown (nameOf S T c) ++ (10 ∷ []))
-
-abbrev pub command-room : ℕ
-command-room = shown-room + 3
 
 abbrev pub schemaHead : SchemaAnswer → List ℕ
 schemaHead (SA.Accepted n) = rowsLine n

@@ -10,8 +10,9 @@ use trees::shown::put_bytes;
 use trees::shown::put_shown;
 ghost use Prim.Native.Nat.{_+_, _-_, _≤_};
 ghost use lib.ListN.{length, take, drop};
-ghost use Rattle.lines.specs.Text.{Puts};
-ghost use Rattle.wordings.specs.Wordings.{meaningOf, longest-meaning, refusedLine, refusal-room, rowsLine, commandLine, command-room, schemaHead, messageHead};
+ghost use Rattle.lines.specs.Serving.Puts.{Puts};
+ghost use Rattle.wordings.specs.Wordings.{meaningOf, refusedLine, rowsLine, commandLine, schemaHead, messageHead};
+ghost use Rattle.wordings.specs.Serving.Rooms.{longest-meaning, refusal-room, command-room};
 
 // Room for a refusal: its number, its meaning of at most 71 bytes, and LF.
 pub const REFUSAL_ROOM: usize = NUMBER_ROOM + 71 + 1;

@@ -8,8 +8,8 @@ use Rattle.grammar.specs.Limits.{schema-bytes, row-words}
 use Rattle.rules.specs.declared.SchemaAnswer.{SchemaAnswer}
 use Rattle.rules.specs.declared.SchemaAnswer.the-variants.{Accepted, Refused}
 use Rattle.rules.specs.Serving.Answers.{schemaResult}
-use Rattle.lines.specs.Text.{Puts}
-use Rattle.wordings.specs.Wordings.{refusal-room}
+use Rattle.lines.specs.Serving.Puts.{Puts}
+use Rattle.wordings.specs.Serving.Rooms.{refusal-room}
 use Rattle.console.specs.declared.answers.Style.{Style}
 use Rattle.console.specs.declared.files.Read.{Read}
 use Rattle.console.specs.declared.files.Read.the-variants.{Bytes, Failed}

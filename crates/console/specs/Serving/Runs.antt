@@ -5,7 +5,7 @@ use mathlib.Core.List.{List, [], _∷_, _++_}
 use mathlib.Core.Option.{Option}
 use lib.ListN.{length, take}
 use Rattle.grammar.specs.Limits.{record-words}
-use Rattle.trees.specs.TreeText.{One}
+use Rattle.trees.specs.Serving.Asks.{One}
 use Rattle.console.specs.declared.answers.Style.{Style}
 use Rattle.console.specs.declared.files.Read.{Read}
 use Rattle.console.specs.declared.opening.Next.the-variants.{Stop, Messages}

@@ -7,7 +7,8 @@ use mathlib.Core.List.{List}
 use lib.ListN.{length}
 use Rattle.grammar.specs.Limits.{record-words}
 use Rattle.trees.specs.Backwards.{before}
-use Rattle.trees.specs.TreeText.{line-room, One}
+use Rattle.trees.specs.Serving.Rooms.{line-room}
+use Rattle.trees.specs.Serving.Asks.{One}
 use Rattle.console.specs.declared.showing.Listing.{Listing}
 
 -- the line is put after those before it; the lines put stay in the room or are written; after a record there is room for another line; and where all could be written, no record is left at the end

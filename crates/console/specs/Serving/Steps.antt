@@ -4,8 +4,8 @@ use mathlib.Core.Path.{_≡_}
 use mathlib.Core.List.{List, _++_}
 use lib.ListN.{length, take, drop}
 use Rattle.grammar.specs.Limits.{message-bytes}
-use Rattle.lines.specs.Lines.{beforeLF}
-use Rattle.lines.specs.Text.{Puts, number-room, word-room}
+use Rattle.lines.specs.Serving.Lines.{beforeLF}
+use Rattle.lines.specs.Serving.Puts.{Puts, number-room, word-room}
 use Rattle.console.specs.declared.answers.Style.{Style}
 use Rattle.console.specs.declared.steps.Place.{Place}
 use Rattle.console.specs.declared.steps.Taken.{Taken}

@@ -54,7 +54,7 @@ use borrow.Within.Token.{Rest, within-token, within-end}
 use borrow.Rule.Slice.Lend.{keptF, sl-relend, sl-relent-backˡ}
 use borrow.Table.Owned as Owned
 use Rattle.grammar.specs.Limits.{record-words}
-use Rattle.trees.specs.TreeText.{line-room}
+use Rattle.trees.specs.Serving.Rooms.{line-room}
 use Rattle.walker.specs.Seeing.{seenAt, placeAfter, moved}
 use Rattle.walker.proofs.SeeingLaws.{after-whole}
 use Rattle.walker.specs.declared.records.Seen.{Seen}

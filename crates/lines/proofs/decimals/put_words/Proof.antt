@@ -5,7 +5,8 @@ use mathlib.Core.Path.{_≡_, refl, _∙_}
 use mathlib.Core.List.{List, []}
 use lib.ListN.{length, take, getD}
 use borrow.Author.Needs.{needs}
-use Rattle.lines.specs.Text.{word-room, Puts, spacedText}
+use Rattle.lines.specs.Text.{spacedText}
+use Rattle.lines.specs.Serving.Puts.{word-room, Puts}
 use Rattle.lines.proofs.TextLaws.{puts-none, puts-word, puts-words, word-length, spaced-length}
 use Rattle.lines.proofs.decimals.put_words.Statement.{statement}
 use Rattle.lines.proofs.decimals.put_words.Tie as tie

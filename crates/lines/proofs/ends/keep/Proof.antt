@@ -5,7 +5,7 @@ use native.Mathlib.Omega.{arith}
 use mathlib.Core.Path.{_≡_, refl, sym, _∙_}
 use lib.ListN.{length, take, length-set}
 use borrow.Author.Needs.{needs}
-use Rattle.lines.specs.Text.{put}
+use Rattle.lines.specs.Serving.Puts.{put}
 use Rattle.lines.proofs.TextLaws.{put-none}
 use Rattle.lines.proofs.LineLaws.{keep-on, keep-full, keep-end}
 use Rattle.lines.proofs.ends.keep.Statement.{statement}

@@ -4,8 +4,9 @@ use native.Mathlib.Omega.{arith}
 use mathlib.Core.Path.{_≡_, refl, sym}
 use lib.ListN.{length, take}
 use Rattle.lines.proofs.TextLaws.{puts-as, puts-none}
-use Rattle.trees.specs.Escapes.{escape-bytes, shownBytes}
-use Rattle.lines.specs.Text.{Puts}
+use Rattle.trees.specs.Escapes.{shownBytes}
+use Rattle.trees.specs.Serving.Rooms.{escape-bytes}
+use Rattle.lines.specs.Serving.Puts.{Puts}
 use borrow.Author.Needs.{needs}
 use Rattle.trees.proofs.ShownLaws.{shown-none, puts-byte, puts-all}
 use Rattle.trees.proofs.shown.put_each.Statement.{statement}

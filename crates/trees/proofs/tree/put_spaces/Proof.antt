@@ -3,7 +3,7 @@ use Prim.Native.Nat.{_+_, _-_, _≤_}
 use native.Mathlib.Omega.{arith}
 use mathlib.Core.Path.{_≡_, refl, _∙_}
 use lib.ListN.{length, replicate, length-set}
-use Rattle.lines.specs.Text.{Puts}
+use Rattle.lines.specs.Serving.Puts.{Puts}
 use borrow.Author.Needs.{needs}
 use Rattle.trees.proofs.TreeLaws.{spaces-none, spaces-on, spaces-all}
 use Rattle.trees.proofs.tree.put_spaces.Statement.{statement}

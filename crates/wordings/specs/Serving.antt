@@ -1,0 +1,2 @@
+-- Serves contracts: the room that a first line takes. Nobody has to believe it.
+pub mod Rooms
