@@ -1,5 +1,6 @@
 -- Reference, Program: what a program writes, given its schema file and its input, in each style.
 use Prim.Native.Nat.{ℕ, _*_, _/_}
+use Prim.Native.Char.{code}
 use mathlib.Core.Bool.{true, false}
 use mathlib.Core.List.{List, [], _∷_, _++_}
 use mathlib.Core.Option.{Option, none, some}
@@ -67,11 +68,11 @@ module _ (s : Style) (S T : List ℕ) (room : ℕ) where
   -- the answers to all messages of an input, where m has been read of the first
   unfoldable pub answersTo : List ℕ → List ℕ → List ℕ
   answersTo m [] = lastLine m
-  answersTo m (b ∷ l) = elim (eqb b 10) [ true ↦ answerText S T room s m ++ answersTo [] l | false ↦ answersTo (m ++ (b ∷ [])) l ]
+  answersTo m (b ∷ l) = elim (eqb b (code "\n")) [ true ↦ answerText S T room s m ++ answersTo [] l | false ↦ answersTo (m ++ (b ∷ [])) l ]
 
 -- a file that can't be opened, or not be read
 abbrev pub no-schema : List ℕ
-no-schema = text "no schema" ++ (10 ∷ [])
+no-schema = text "no schema" ++ (code "\n" ∷ [])
 
 module _ (s : Style) where
   -- what stands first: the schema's line, where there is a file

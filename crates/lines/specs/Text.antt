@@ -1,5 +1,6 @@
 -- Reference, Program: numbers as text, the shortest decimal digits, and lines of numbers split by single spaces.
 use Prim.Native.Nat.{ℕ, zero, suc, _+_, _/_, _%_}
+use Prim.Native.Char.{code}
 use mathlib.Core.Bool.{true, false}
 use mathlib.Core.List.{List, [], _∷_, _++_}
 use lib.Dec.{ltb}
@@ -7,7 +8,7 @@ use lib.Dec.{ltb}
 -- the digits of a number, in at most so many steps: one digit, or those of a tenth and the last
 abbrev pub digitsIn : ℕ → ℕ → List ℕ
 digitsIn zero n = []
-digitsIn (suc steps) n = elim (ltb n 10) [ true ↦ (48 + n) ∷ [] | false ↦ digitsIn steps (n / 10) ++ ((48 + n % 10) ∷ []) ]
+digitsIn (suc steps) n = elim (ltb n 10) [ true ↦ (code "0" + n) ∷ [] | false ↦ digitsIn steps (n / 10) ++ ((code "0" + n % 10) ∷ []) ]
 
 unfoldable pub decimalText : ℕ → List ℕ
 decimalText n = digitsIn (suc n) n
@@ -15,8 +16,8 @@ decimalText n = digitsIn (suc n) n
 -- each number after a space
 unfoldable pub spacedText : List ℕ → List ℕ
 spacedText [] = []
-spacedText (n ∷ ns) = 32 ∷ (decimalText n ++ spacedText ns)
+spacedText (n ∷ ns) = code " " ∷ (decimalText n ++ spacedText ns)
 
 -- a line of numbers
 unfoldable pub lineText : ℕ → List ℕ → List ℕ
-lineText n ns = decimalText n ++ (spacedText ns ++ (10 ∷ []))
+lineText n ns = decimalText n ++ (spacedText ns ++ (code "\n" ∷ []))

@@ -1,5 +1,6 @@
 -- Bytes put as a terminal may have them, one after another.
 use Prim.Native.Nat.{ℕ, _+_, _-_, _/_, _%_, _≤_, _<_, min}
+use Prim.Native.Char.{code}
 use native.Mathlib.Nat.{min-eq-left, min-eq-right, le-of-lt}
 use native.Mathlib.Numerals.{add-one}
 use native.Mathlib.Omega.{arith}
@@ -16,16 +17,16 @@ use Rattle.lines.specs.Serving.Puts.{Puts}
 use Rattle.lines.proofs.TextLaws.{puts-as, puts-on}
 use Rattle.trees.specs.Escapes.{shownDigit, hexByte, shownByte, shownBytes, shown}
 
-pub low-digit : (d : ℕ) → d < 10 → 48 + d ≡ shownDigit d
+pub low-digit : (d : ℕ) → d < 10 → code "0" + d ≡ shownDigit d
 low-digit d h = rw (lt-ltb d 10 h) refl
 
-pub high-digit : (d : ℕ) → 10 ≤ d → 87 + d ≡ shownDigit d
+pub high-digit : (d : ℕ) → 10 ≤ d → code "a" + (d - 10) ≡ shownDigit d
 high-digit d h = rw (le-ltb d 10 h) refl
 
-pub hex-bytes : (b : ℕ) {x y : ℕ} → b < 256 → x ≡ shownDigit (b / 16) → y ≡ shownDigit (b % 16) → 92 ∷ 120 ∷ x ∷ y ∷ [] ≡ hexByte b
+pub hex-bytes : (b : ℕ) {x y : ℕ} → b < 256 → x ≡ shownDigit (b / 16) → y ≡ shownDigit (b % 16) → code "\\" ∷ code "x" ∷ x ∷ y ∷ [] ≡ hexByte b
 hex-bytes b {x} {y} h p q =
     let e : b / 16 ≡ b / 16 % 16 = omega arith in
-    ap (λ (d : ℕ). 92 ∷ 120 ∷ d ∷ y ∷ []) (p ∙ ap shownDigit e) ∙ ap (λ (d : ℕ). 92 ∷ 120 ∷ shownDigit (b / 16 % 16) ∷ d ∷ []) q
+    ap (λ (d : ℕ). code "\\" ∷ code "x" ∷ d ∷ y ∷ []) (p ∙ ap shownDigit e) ∙ ap (λ (d : ℕ). code "\\" ∷ code "x" ∷ shownDigit (b / 16 % 16) ∷ d ∷ []) q
 
 -- which bytes go out as they are
 abbrev by-range : ℕ → Bool → List ℕ

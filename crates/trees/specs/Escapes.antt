@@ -1,5 +1,6 @@
 -- Reference, Viewer: bytes as they go to a terminal. A message may hold any bytes; only 0x20 to 0x7E go out as they are.
-use Prim.Native.Nat.{ℕ, _+_, _/_, _%_}
+use Prim.Native.Nat.{ℕ, _+_, _-_, _/_, _%_}
+use Prim.Native.Char.{code}
 use mathlib.Core.Bool.{Bool, cond}
 use mathlib.Core.List.{List, [], _∷_, _++_}
 use lib.Dec.{ltb}
@@ -11,11 +12,11 @@ abbrev pub printable : ℕ → Bool
 printable b = within 0x20 0x7E b
 
 abbrev pub shownDigit : ℕ → ℕ
-shownDigit d = cond (ltb d 10) (48 + d) (87 + d)
+shownDigit d = cond (ltb d 10) (code "0" + d) (code "a" + (d - 10))
 
 -- any other byte is shown as \x and two hex digits; JSON has no such escape
 abbrev pub hexByte : ℕ → List ℕ
-hexByte b = 92 ∷ 120 ∷ shownDigit (b / 16 % 16) ∷ shownDigit (b % 16) ∷ []
+hexByte b = code "\\" ∷ code "x" ∷ shownDigit (b / 16 % 16) ∷ shownDigit (b % 16) ∷ []
 
 unfoldable pub shownByte : ℕ → List ℕ
 shownByte b = cond (printable b) (b ∷ []) (hexByte b)

@@ -1,5 +1,6 @@
 -- Reference, Viewer: what a record is called: the key before its value, as it is written, or what it is of the record before it.
 use Prim.Native.Nat.{ℕ, zero, suc, _-_}
+use Prim.Native.Char.{code}
 use mathlib.Core.Bool.{Bool, true, false, cond, not, _&&_}
 use mathlib.Core.List.{List, [], _∷_}
 use mathlib.Core.Option.{Option, none, some}
@@ -22,12 +23,12 @@ skipBlanks (b ∷ l) = elim (blank b) [ true ↦ skipBlanks l | false ↦ b ∷ 
 -- an even number of backslashes stands first
 unfoldable pub evenSlashes : List ℕ → Bool
 evenSlashes [] = true
-evenSlashes (b ∷ l) = elim (eqb b 92) [ true ↦ not (evenSlashes l) | false ↦ true ]
+evenSlashes (b ∷ l) = elim (eqb b (code "\\")) [ true ↦ not (evenSlashes l) | false ↦ true ]
 
 -- a quote stands first that no backslash escapes
 unfoldable pub quoteFirst : List ℕ → Bool
 quoteFirst [] = false
-quoteFirst (b ∷ l) = eqb b 34 && evenSlashes l
+quoteFirst (b ∷ l) = eqb b (code "\"") && evenSlashes l
 
 -- the key's bytes, from its last on: up to the quote that opens it, or all there are
 unfoldable pub keyBack : List ℕ → List ℕ → List ℕ
@@ -45,11 +46,11 @@ closedKey (some l) = some (keyBack [] l)
 
 abbrev pub behindColon : Option (List ℕ) → Option (List ℕ)
 behindColon none = none
-behindColon (some l) = closedKey (behindByte 34 (skipBlanks l))
+behindColon (some l) = closedKey (behindByte (code "\"") (skipBlanks l))
 
 -- the key that stands before a value, if one does: a string and a colon
 unfoldable pub keyBefore : List ℕ → Option (List ℕ)
-keyBefore l = behindColon (behindByte 58 (skipBlanks l))
+keyBefore l = behindColon (behindByte (code ":") (skipBlanks l))
 
 abbrev pub keyText : Option (List ℕ) → List ℕ
 keyText none = text "-"

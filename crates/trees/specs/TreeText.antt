@@ -1,5 +1,6 @@
 -- Reference, Viewer: the records of a message as a tree: a line each, indented by the records that are open around it.
 use Prim.Native.Nat.{ℕ, zero, suc, _+_, _-_, _*_, _/_, min}
+use Prim.Native.Char.{code}
 use mathlib.Core.Bool.{cond}
 use mathlib.Core.List.{List, [], _∷_, _++_}
 use lib.Dec.{ltb}
@@ -22,7 +23,7 @@ deepest = 80
 
 -- two spaces, and two for each of the records around
 abbrev pub indent : ℕ → List ℕ
-indent k = replicate (2 * (1 + k)) 32
+indent k = replicate (2 * (1 + k)) (code " ")
 
 unfoldable pub indentText : ℕ → List ℕ
 indentText k = indent (min k deepest)
@@ -40,7 +41,7 @@ unfoldable pub leftText : List ℕ → List ℕ → List ℕ → ℕ → ℕ →
 leftText T m ws n a k = indentText k ++ labelText T m ws n a
 
 unfoldable pub rightText : List ℕ → List ℕ → List ℕ → ℕ → ℕ → ℕ → ℕ → List ℕ
-rightText S T m a e t f = text ": " ++ (typeText S T t f ++ (text " = " ++ (valueText m a e ++ (10 ∷ []))))
+rightText S T m a e t f = text ": " ++ (typeText S T t f ++ (text " = " ++ (valueText m a e ++ (code "\n" ∷ []))))
 
 -- over a schema, its table, a message, its record words and the room for ends; at a place within open records
 module _ (S T m ws : List ℕ) (room : ℕ) where

@@ -27,7 +27,7 @@ fn hex_digit(d: u8) -> u8
     if d < 10 {
         return b'0' + d;
     }
-    87 + d
+    b'a' + (d - 10)
 }
 
 fn put_hex(out: &mut [u8], at: usize, b: u8) -> usize

@@ -1,5 +1,6 @@
 -- Reference, Viewer: the first line of what is shown: an answer in words. Every number's meaning stands here and nowhere else.
 use Prim.Native.Nat.{ℕ, _+_}
+use Prim.Native.Char.{code}
 use mathlib.Core.List.{List, [], _∷_, _++_}
 use lib.ListN.{getD, replicate}
 use Rattle.grammar.specs.Notation.{text}
@@ -55,14 +56,14 @@ meaningOf n = getD meanings n []
 
 -- the number, and its meaning
 unfoldable pub refusedLine : ℕ → List ℕ
-refusedLine n = decimalText n ++ (text " " ++ (meaningOf n ++ (10 ∷ [])))
+refusedLine n = decimalText n ++ (text " " ++ (meaningOf n ++ (code "\n" ∷ [])))
 
 -- 0 and the count of rows; 0 and the command's name
 unfoldable pub rowsLine : ℕ → List ℕ
-rowsLine n = text "0 schema accepted, rows: " ++ (decimalText n ++ (10 ∷ []))
+rowsLine n = text "0 schema accepted, rows: " ++ (decimalText n ++ (code "\n" ∷ []))
 
 unfoldable pub commandLine : List ℕ → List ℕ → ℕ → List ℕ
-commandLine S T c = text "0 " ++ (shown (nameOf S T c) ++ (10 ∷ []))
+commandLine S T c = text "0 " ++ (shown (nameOf S T c) ++ (code "\n" ∷ []))
 
 abbrev pub schemaHead : SchemaAnswer → List ℕ
 schemaHead (SA.Accepted n) = rowsLine n
