@@ -46,7 +46,7 @@ schema-refused : (a : SchemaAnswer) (x : SchemaRefusal) → Schemas.answerNumber
 schema-refused (SA.Accepted n) x e = absurd (omega (arith, schema-not-zero x))
 schema-refused (SA.Refused y) x e = ap SA.Refused (schema-number-only y x e)
 
-message-refused : (a : MessageAnswer) (x : MessageRefusal) → Messages.answerNumber a ≡ Messages.refusalNumber x → a ≡ Refused x
+pub message-refused : (a : MessageAnswer) (x : MessageRefusal) → Messages.answerNumber a ≡ Messages.refusalNumber x → a ≡ Refused x
 message-refused (Accepted c n) x e = absurd (omega (arith, message-not-zero x))
 message-refused (Refused y) x e = ap Refused (message-number-only y x e)
 

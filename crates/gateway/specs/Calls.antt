@@ -1,14 +1,15 @@
 -- Reference, Calls: what each exported call owes its caller, whatever bytes and words come. One record a call of the header; proofs/Promises has each, from the call's contract.
--- `old` are the lent words before the call, `new` those after it.
-use Prim.Native.Nat.{ℕ, _*_, _≤_}
+-- `old` are the lent words before the call, `new` those after it. What calls of a stream one after the other owe is in StreamRuns.
+use Prim.Native.Nat.{ℕ, _*_, _≤_, _<_}
 use mathlib.Core.Logic.{_≢_}
 use mathlib.Core.Path.{_≡_}
 use mathlib.Core.Bool.{Bool, true, false}
-use mathlib.Core.List.{List, List·Memᴰ}
-use lib.ListN.{length, take, replicate}
+use mathlib.Core.List.{List, [], _∷_, List·Memᴰ}
+use lib.ListN.{length, take, drop, replicate}
 use Rattle.grammar.specs.Limits.{table-rows, row-words, record-words}
 use Rattle.rules.specs.declared.SchemaRefusal.the-variants as SR
 use Rattle.rules.specs.declared.SchemaAnswer.{SchemaAnswer}
+use Rattle.rules.specs.declared.MessageRefusal.{MessageRefusal}
 use Rattle.rules.specs.declared.MessageRefusal.the-variants as MR
 use Rattle.rules.specs.declared.MessageAnswer.{MessageAnswer}
 use Rattle.rules.specs.Sound.{sound}
@@ -19,6 +20,9 @@ use Rattle.rules.specs.SchemaAnswers.{SchemaOutcome}
 use Rattle.rules.specs.MessageAnswers as Messages
 use Rattle.rules.specs.MessageAnswers.{MessageOutcome, Readable, Held}
 use Rattle.rules.specs.Demands.{DigitsApart, Gives}
+use Rattle.stream.specs.declared.pieces.Said.{Said}
+use Rattle.stream.specs.declared.pieces.Said.the-variants.{Nothing, Message, Refused}
+use Rattle.stream.specs.Stream.{OfText, limitOf}
 
 -- windosprio_compile_schema(schema S, rows, count): the number, the count of rows
 pub record CompileCall (S old new : List ℕ) (number rows : ℕ) : Type 0 where
@@ -60,3 +64,35 @@ pub record SoundCall (S T : List ℕ) (answer : Bool) : Type 0 where
   -- the check call answers 21 exactly where the table is not sound, whatever the message and the room
   pub unsound : {m old new : List ℕ} {number row records : ℕ} → CheckCall S T m old new number row records → answer ≡ false → number ≡ Messages.refusalNumber MR.UnsoundTable
   pub only-unsound : {m old new : List ℕ} {number row records : ℕ} → CheckCall S T m old new number row records → number ≡ Messages.refusalNumber MR.UnsoundTable → answer ≡ false
+
+-- windosprio_stream_start(state): the words of a stream of which nothing is read
+abbrev pub fresh : List ℕ
+fresh = 0 ∷ 0 ∷ 0 ∷ []
+
+-- what a call of a stream hands out, as its number and the bytes of a message: nothing, a message at the start of the buffer, or a refusal
+abbrev pub saidNumber : Said → ℕ
+saidNumber Nothing = 0
+saidNumber (Message n) = 0
+saidNumber (Refused x) = Messages.refusalNumber x
+
+abbrev pub saidBytes : Said → ℕ
+saidBytes Nothing = 0
+saidBytes (Message n) = n
+saidBytes (Refused x) = 0
+
+-- windosprio_stream_feed(state, buffer, piece, taken, message bytes, place): the number; `old` is the buffer before the call, `new` the one after it
+pub record FeedCall (old piece new : List ℕ) (number taken bytes place : ℕ) : Type 0 where
+  pub said : Said
+  pub number-is : number ≡ saidNumber said
+  pub bytes-are : bytes ≡ saidBytes said
+  -- a message has a byte at least, so that it is told from nothing, and no more than the limit; a refusal is 22, 23 or 24, at place 0
+  pub short : {n : ℕ} → said ≡ Message n → (0 < n) × (n ≤ limitOf (length old))
+  pub of-text : {x : MessageRefusal} → said ≡ Refused x → OfText x
+  pub place-is : place ≡ 0
+  -- where nothing is handed out the whole piece is taken, else a byte of it at least
+  pub all-taken : said ≡ Nothing → taken ≡ length piece
+  pub some-taken : (said ≡ Nothing → ⊥) → 0 < taken
+  pub within : taken ≤ length piece
+  -- bytes of the buffer past the limit stay as they are
+  pub same-length : length new ≡ length old
+  pub rest-kept : drop (limitOf (length old)) new ≡ drop (limitOf (length old)) old
