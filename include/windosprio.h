@@ -1,20 +1,26 @@
 /*
  * Windosprio: a gateway that stands before a QEMU monitor. Two calls turn a QAPI schema into a table of rows and read
- * QMP commands against it; a third judges a table alone. The library is libgateway.a, for x86-64 Linux.
+ * QMP commands against it; a third judges a table alone; two more take whole messages out of a stream of bytes. The
+ * library is libgateway.a, for x86-64 Linux.
  *
  * What is lent. Everything is lent for the time of a call only: the calls keep no pointer, allocate nothing and free
  * nothing. Any bytes and any words may be handed over.
- *   - A slice is a pointer and a length, in bytes or in words of 32 bits. A pointer to words is aligned as a uint32_t.
- *     With a length of 0 nothing is read or written there, and the pointer may be NULL. No other pointer may be NULL.
- *   - What a call writes to (rows, records, counts) overlaps with nothing else that it is handed. What it reads may.
- *   - A call sets every word lent to it, whatever it held before, so more room than needed costs time.
+ *   - A slice is a pointer and a length, in bytes or in words of 32 bits. A pointer to words is aligned as a uint32_t,
+ *     one to a state as a uint64_t. With a length of 0 nothing is read or written there, and the pointer may be NULL.
+ *     No other pointer may be NULL.
+ *   - What a call writes to (rows, records, counts, a state, a buffer) overlaps with nothing else that it is handed.
+ *     What it reads may.
+ *   - A call sets every word of rows and records lent to it, whatever it held before, so more room than needed costs
+ *     time. Of a stream's buffer only bytes of the message that is being read are written.
  *
- * Threads. The calls keep no state. Any number may run at once, as long as none writes to what another is handed.
+ * Threads. The calls keep nothing themselves. Any number may run at once, as long as none writes to what another is
+ * handed.
  *
  * Stack. A call works in its own stack frames. WINDOSPRIO_..._STACK bytes suffice, at least a quarter more than the
  * project's tests measure; with too little the program ends at the guard page of that stack.
  *
- * Answers. A call gives 0 or the lowest number that applies, never another. A refusal leaves every word and count 0.
+ * Answers. A call gives 0 or the lowest number that applies, never another. A refusal leaves every word of rows and
+ * records and every count of them 0.
  */
 #ifndef WINDOSPRIO_H
 #define WINDOSPRIO_H
@@ -36,10 +42,14 @@ extern "C" {
 #define WINDOSPRIO_ROW_WORDS 8
 #define WINDOSPRIO_RECORD_WORDS 4
 
+/* Words of a stream's state, of 64 bits. */
+#define WINDOSPRIO_STREAM_WORDS 3
+
 /* Bytes of stack that suffice for a call. */
 #define WINDOSPRIO_COMPILE_STACK 1572864
 #define WINDOSPRIO_CHECK_STACK 393216
 #define WINDOSPRIO_IS_SOUND_STACK 65536
+#define WINDOSPRIO_STREAM_STACK 4096
 
 /* The number of an acceptance. */
 #define WINDOSPRIO_ACCEPTED 0
@@ -118,6 +128,50 @@ uint32_t windosprio_check_message(const uint32_t *table, size_t table_words, con
  * Stack: WINDOSPRIO_IS_SOUND_STACK. Proved of this call, whatever comes: SoundCall in crates/gateway/specs/Calls.antt.
  */
 bool windosprio_is_sound(const uint8_t *schema, size_t schema_bytes, const uint32_t *table, size_t table_words);
+
+/*
+ * Sets a state to that of a stream of which nothing is read: all its words to 0.
+ *
+ *   state  WINDOSPRIO_STREAM_WORDS words
+ *
+ * Stack: WINDOSPRIO_STREAM_STACK.
+ */
+void windosprio_stream_start(uint64_t *state);
+
+/*
+ * Reads a piece of a stream, up to its first message or refusal.
+ *
+ *   state                 the words of the call before, set to those for the next one. All of them 0 is a stream of
+ *                         which nothing is read; any words stand for some state, so none is refused
+ *   buffer, buffer_bytes  lent for the message that is being read, and the same from call to call; of more than
+ *                         WINDOSPRIO_MESSAGE_BYTES bytes the rest is left alone
+ *   piece, piece_bytes    the bytes that came, as many as there are, read only
+ *   taken                 set to how many bytes of the piece were read; the rest is for the next call
+ *   message_bytes         set to the bytes of a whole message, which is then at the start of the buffer; 0 if there is
+ *                         none
+ *   place                 set to 0
+ *
+ * Gives 0 or a windosprio_message_refusal:
+ *   - 0, and message_bytes above 0: a whole message, from the bracket that opens it to the one that closes it. In a
+ *     stream from its start it is JSON text within the limits: the check call never answers TOO_LONG, NOT_TEXT or
+ *     TOO_DEEP for it.
+ *   - 0, and message_bytes 0: the piece is over, and more bytes are wanted. All of it is taken.
+ *   - TOO_LONG, NOT_TEXT or TOO_DEEP: a message is lost, or a byte between messages that is neither a blank nor an
+ *     opening bracket. All is skipped up to and with the next clearing byte, which may be the one that it was lost at.
+ * A clearing byte is 0xFF or a byte below 0x20 other than tab, CR and LF. Wherever it comes, it drops what was begun
+ * and the stream starts afresh: with NOT_TEXT if a message had begun, else with nothing. A message's byte after the
+ * limit, which is the smaller of WINDOSPRIO_MESSAGE_BYTES and buffer_bytes, is TOO_LONG whatever it is, unless it
+ * clears.
+ *
+ * Call it in a loop: while a message or a refusal comes, hand in the rest of the piece. How the bytes are cut into
+ * pieces makes no difference. Bytes of the message that is being read are at the start of the buffer, each at its
+ * index; nothing else in the buffer is changed. Stack: WINDOSPRIO_STREAM_STACK.
+ *
+ * Proved of this call, whatever comes: FeedCall in crates/gateway/specs/Calls.antt; of calls one after another,
+ * wherever the bytes are cut: StreamRun and SameRun in crates/gateway/specs/StreamRuns.antt.
+ */
+uint32_t windosprio_stream_feed(uint64_t *state, uint8_t *buffer, size_t buffer_bytes, const uint8_t *piece,
+                                size_t piece_bytes, size_t *taken, size_t *message_bytes, size_t *place);
 
 #ifdef __cplusplus
 }

@@ -45,6 +45,35 @@
 //! Both lend as many records as the message can have, so a message is never refused with 30 for want of room. Who wants
 //! to lend words of their own, or keeps tables, uses [`calls`].
 //!
+//! # A stream of messages
+//!
+//! A monitor's clients send messages one after the other, with or without a newline, over several lines, or several on
+//! one. [`StreamReader`] takes the bytes as they come and hands out whole messages:
+//!
+//! ```
+//! # use windosprio::{Schema, StreamReader};
+//! # let schema = Schema::compile("{'command':'stop-lot','data':{'lot':'str'}}")?;
+//! # let mut socket = &b"{\"execute\":\"stop-lot\",\"arguments\":{\"lot\":\"007\"}}"[..];
+//! use std::io::Read;
+//!
+//! let mut reader = StreamReader::new();
+//! let mut bytes = [0; 4096];
+//! loop {
+//!     let count = socket.read(&mut bytes)?;
+//!     if count == 0 {
+//!         break;
+//!     }
+//!     let mut chunk = reader.push(&bytes[..count]);
+//!     while let Some(message) = chunk.next() {
+//!         match message.and_then(|message| schema.check(message)) {
+//!             Ok(reading) => println!("{}", reading.command().name),
+//!             Err(refusal) => println!("refused, {refusal}"),
+//!         }
+//!     }
+//! }
+//! # Ok::<(), Box<dyn std::error::Error>>(())
+//! ```
+//!
 //! # Stack
 //!
 //! The calls keep what they work on in their stack frames: [`limits::COMPILE_STACK`] and [`limits::CHECK_STACK`] bytes
@@ -71,9 +100,11 @@ pub mod limits;
 mod reading;
 mod refusals;
 mod schema;
+mod stream;
 mod types;
 
 pub use reading::{Reading, Record, Room};
 pub use refusals::{MessageRefusal, SchemaRefusal};
 pub use schema::Schema;
+pub use stream::{Chunk, StreamReader};
 pub use types::{BuiltIn, Definition, Type};

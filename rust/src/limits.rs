@@ -16,6 +16,9 @@ pub const ROW_WORDS: usize = 8;
 /// Words of a record.
 pub const RECORD_WORDS: usize = 4;
 
+/// Words of a stream's state.
+pub const STREAM_WORDS: usize = 3;
+
 /// Bytes of stack that suffice for compiling a schema.
 pub const COMPILE_STACK: usize = 1_536 * 1_024;
 
@@ -24,6 +27,9 @@ pub const CHECK_STACK: usize = 384 * 1_024;
 
 /// Bytes of stack that suffice for judging a table.
 pub const IS_SOUND_STACK: usize = 64 * 1_024;
+
+/// Bytes of stack that suffice for reading a piece of a stream.
+pub const STREAM_STACK: usize = 4 * 1_024;
 
 /// As many records as an accepted message of so many bytes can have, so that a room for them is never too small.
 ///

@@ -35,9 +35,11 @@ fn the_header_has_the_limits_and_the_numbers() {
         ("ROWS", ROWS),
         ("ROW_WORDS", ROW_WORDS),
         ("RECORD_WORDS", RECORD_WORDS),
+        ("STREAM_WORDS", STREAM_WORDS),
         ("COMPILE_STACK", COMPILE_STACK),
         ("CHECK_STACK", CHECK_STACK),
         ("IS_SOUND_STACK", IS_SOUND_STACK),
+        ("STREAM_STACK", STREAM_STACK),
         ("ACCEPTED", 0),
     ];
     let limits = limits.map(|(name, value)| (name.to_string(), value as u32));
