@@ -6,6 +6,7 @@
 
 /* What is lent, apart: nothing that a call writes lies near what it reads. */
 static struct arena schema_memory, table_memory, message_memory, words_memory, row_memory, count_memory;
+static struct arena state_memory, buffer_memory, place_memory;
 
 struct tally tally;
 
@@ -16,9 +17,12 @@ void calls_open(void) {
     words_memory = arena_new(MOST_ROOM * sizeof(uint32_t), true);
     row_memory = arena_new(sizeof(size_t), true);
     count_memory = arena_new(sizeof(size_t), true);
+    state_memory = arena_new(WINDOSPRIO_STREAM_WORDS * sizeof(uint64_t), true);
+    buffer_memory = arena_new(MOST_LENT, true);
+    place_memory = arena_new(sizeof(size_t), true);
 }
 
-/* Bytes that a call is to read. */
+/* Bytes that a call is to read, or to change. */
 static struct slice lend_in(struct arena *arena, enum place place, const void *bytes, size_t count) {
     struct slice slice = slice_new(arena, place, count);
     if (count > 0)
@@ -56,8 +60,8 @@ static size_t take_count(struct slice *slice) {
     return count;
 }
 
-/* Keeps the words of the first place, and compares those of the others with them. */
-static void take_words(struct slice *slice, enum place place, uint32_t *words) {
+/* Keeps the words or bytes of the first place, and compares those of the others with them. */
+static void take_words(struct slice *slice, enum place place, void *words) {
     if (slice->bytes > 0) {
         if (place == LOW)
             memcpy(words, slice->own, slice->bytes);
@@ -167,6 +171,56 @@ bool is_sound(const struct text *schema, const struct table *table) {
         first = sound;
     }
     tally.sound[first]++;
+    tally.calls += PLACES;
+    return first;
+}
+
+/* That an answer over a piece of so many bytes is one of those that there are. */
+static void check_fed(struct fed fed, size_t piece_bytes, size_t lent) {
+    bool is_refusal = fed.number >= WINDOSPRIO_MESSAGE_TOO_LONG && fed.number <= WINDOSPRIO_MESSAGE_TOO_DEEP;
+    size_t limit = lent < WINDOSPRIO_MESSAGE_BYTES ? lent : WINDOSPRIO_MESSAGE_BYTES;
+    if (fed.number != 0 && !is_refusal)
+        fail("a stream's number isn't one that a stream gives");
+    if (fed.place != 0)
+        fail("a stream's place isn't 0");
+    if (fed.message_bytes > limit || (is_refusal && fed.message_bytes > 0))
+        fail("a stream's message is too long, or comes with a refusal");
+    bool is_over = fed.number == 0 && fed.message_bytes == 0;
+    if (is_over ? fed.taken != piece_bytes : fed.taken < 1 || fed.taken > piece_bytes)
+        fail("a stream's piece isn't taken as it should be");
+}
+
+struct fed feed(const uint64_t *state, uint8_t *buffer, size_t lent, const struct text *piece) {
+    static uint8_t before[MOST_LENT];
+    struct fed first = {0};
+    memcpy(before, buffer, lent);
+    for (enum place place = LOW; place < PLACES; place++) {
+        struct slice words = lend_in(&state_memory, place, state, sizeof first.state);
+        struct slice bytes = lend_in(&buffer_memory, place, before, lent);
+        struct slice text = lend_text(&message_memory, place, piece);
+        struct slice taken = lend_out(&row_memory, place, sizeof(size_t));
+        struct slice count = lend_out(&count_memory, place, sizeof(size_t));
+        struct slice zero = lend_out(&place_memory, place, sizeof(size_t));
+        struct fed fed = first;
+        fed.number = windosprio_stream_feed((uint64_t *)words.lent, bytes.lent, lent, text.lent, text.bytes,
+                                            (size_t *)taken.lent, (size_t *)count.lent, (size_t *)zero.lent);
+        fed.taken = take_count(&taken);
+        fed.message_bytes = take_count(&count);
+        fed.place = take_count(&zero);
+        take_words(&words, place, fed.state);
+        take_words(&bytes, place, buffer);
+        take_back(&text);
+        if (place != LOW && (fed.number != first.number || fed.taken != first.taken ||
+                             fed.message_bytes != first.message_bytes || fed.place != first.place))
+            fail("the answers differ by place");
+        first = fed;
+    }
+    check_fed(first, piece->count, lent);
+    if (lent > WINDOSPRIO_MESSAGE_BYTES &&
+        memcmp(buffer + WINDOSPRIO_MESSAGE_BYTES, before + WINDOSPRIO_MESSAGE_BYTES, lent - WINDOSPRIO_MESSAGE_BYTES))
+        fail("bytes of a buffer beyond the limit were written");
+    if (first.number != 0 || first.message_bytes > 0)
+        tally.stream[first.number]++;
     tally.calls += PLACES;
     return first;
 }

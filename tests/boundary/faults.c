@@ -12,6 +12,11 @@ uint32_t __real_windosprio_check_message(const uint32_t *, size_t, const uint8_t
 uint32_t __wrap_windosprio_check_message(const uint32_t *, size_t, const uint8_t *, size_t, const uint8_t *, size_t,
                                          uint32_t *, size_t, size_t *, size_t *);
 
+uint32_t __real_windosprio_stream_feed(uint64_t *, uint8_t *, size_t, const uint8_t *, size_t, size_t *, size_t *,
+                                       size_t *);
+uint32_t __wrap_windosprio_stream_feed(uint64_t *, uint8_t *, size_t, const uint8_t *, size_t, size_t *, size_t *,
+                                       size_t *);
+
 static int is_fault(const char *name) {
     const char *fault = getenv("FAULT");
     return fault != NULL && strcmp(fault, name) == 0;
@@ -41,5 +46,21 @@ __wrap_windosprio_check_message(const uint32_t *table, size_t table_words, const
     if (is_fault("row-left") && number == 0) *command_row = SIZE_MAX;
     if (is_fault("number")) return 31;
     if (is_fault("by-room") && number == WINDOSPRIO_MESSAGE_NO_ROOM) return WINDOSPRIO_MESSAGE_NO_READING;
+    return number;
+}
+
+__attribute__((no_sanitize("address", "undefined"))) uint32_t
+__wrap_windosprio_stream_feed(uint64_t *state, uint8_t *buffer, size_t buffer_bytes, const uint8_t *piece,
+                              size_t piece_bytes, size_t *taken, size_t *message_bytes, size_t *place) {
+    uint32_t number = __real_windosprio_stream_feed(state, buffer, buffer_bytes, piece, piece_bytes, taken,
+                                                    message_bytes, place);
+    if (is_fault("piece-after")) touch(piece + piece_bytes);
+    if (is_fault("piece-write") && piece_bytes > 0) memset((void *)(uintptr_t)piece, 0, 1);
+    if (is_fault("buffer-after")) buffer[buffer_bytes] = 0;
+    if (is_fault("buffer-beyond") && buffer_bytes > WINDOSPRIO_MESSAGE_BYTES) buffer[WINDOSPRIO_MESSAGE_BYTES] = 0;
+    if (is_fault("state-after")) state[WINDOSPRIO_STREAM_WORDS] = 0;
+    if (is_fault("byte-lost") && piece_bytes > 1 && *taken == piece_bytes) --*taken;
+    if (is_fault("place-left")) *place = *taken + 1;
+    if (is_fault("message-cut") && *message_bytes > 1) --*message_bytes;
     return number;
 }

@@ -1,6 +1,6 @@
 /*
- * Hands schemas, tables and messages to the calls over the C boundary, in memory where no access beside a slice goes
- * unseen, and checks what must hold of every answer.
+ * Hands schemas, tables, messages and pieces of streams to the calls over the C boundary, in memory where no access
+ * beside a slice goes unseen, and checks what must hold of every answer.
  *
  *     boundary [--cases COUNT] [--seed SEED] [--first CASE]
  */
@@ -67,7 +67,57 @@ static void run_message(struct random *random, const struct text *schema, const 
     check_room(any, whole, WINDOSPRIO_RECORD_WORDS, WINDOSPRIO_MESSAGE_NO_ROOM);
 }
 
-/* A schema; then a message with its table or, where it is refused, the seed's, at times changed. */
+/* How many bytes are lent for a message: hardly any, some, about as many as the limit. */
+static size_t any_lent(struct random *random) {
+    switch (random_below(random, 4)) {
+    case 0: return random_below(random, 4);
+    case 1: return random_below(random, 400);
+    case 2: return WINDOSPRIO_MESSAGE_BYTES - 1 + random_below(random, 3);
+    default: return random_below(random, MOST_LENT + 1);
+    }
+}
+
+/* Two messages, at times with a clearing byte between them. */
+static void make_stream(struct random *random, const struct seed *origin, struct text *stream) {
+    static struct text second;
+    make_message(random, origin, stream);
+    make_message(random, origin, &second);
+    if (stream->count + 1 + second.count > MOST_BYTES)
+        return;
+    if (random_below(random, 2) == 0)
+        stream->bytes[stream->count++] = 0xFF;
+    memcpy(stream->bytes + stream->count, second.bytes, second.count);
+    stream->count += second.count;
+}
+
+/* Reads a stream in pieces, and an empty one last. What is handed out from a fresh state is text within the limits. */
+static void run_stream(struct random *random, const struct text *stream, const struct text *schema,
+                       const struct table *table) {
+    static uint8_t buffer[MOST_LENT];
+    static struct text piece, message;
+    bool is_fresh = random_below(random, 4) > 0;
+    size_t lent = any_lent(random), left = 1;
+    struct fed fed = {0};
+    windosprio_stream_start(fed.state);
+    for (size_t i = 0; i < WINDOSPRIO_STREAM_WORDS && !is_fresh; i++)
+        fed.state[i] = random_word(random) >> random_below(random, 64);
+    memset(buffer, '[', lent);
+    for (size_t start = 0; left > 0; start += fed.taken) {
+        left = stream->count - start;
+        piece.count = left == 0 ? 0 : 1 + random_below(random, left);
+        memcpy(piece.bytes, stream->bytes + start, piece.count);
+        fed = feed(fed.state, buffer, lent, &piece);
+        if (is_fresh && fed.message_bytes > 0) {
+            message.count = fed.message_bytes;
+            memcpy(message.bytes, buffer, message.count);
+            uint32_t number = check(table, schema, &message, words, 0).number;
+            if (number >= WINDOSPRIO_MESSAGE_TOO_LONG && number <= WINDOSPRIO_MESSAGE_TOO_DEEP)
+                fail("a message of a stream isn't text within the limits");
+        }
+    }
+}
+
+/* A schema; then a message with its table or, where it is refused, the seed's, at times changed; then a stream. */
 static void run_case(struct random *random) {
     static struct text schema, message;
     static struct table table;
@@ -83,6 +133,8 @@ static void run_case(struct random *random) {
         make_schema(random, origin, &schema);
     make_message(random, origin, &message);
     run_message(random, &schema, &table, &message);
+    make_stream(random, origin, &message);
+    run_stream(random, &message, &schema, &table);
 }
 
 /* Prints how often each number was given; gives how many never were. */
@@ -122,6 +174,7 @@ int main(int count, char **arguments) {
         run_case(&random);
     }
     unsigned missing = print_numbers("schema", tally.schema, 1, 13) + print_numbers("message", tally.message, 21, 30);
+    missing += print_numbers("stream", tally.stream, 22, 24);
     missing += (tally.sound[0] == 0) + (tally.sound[1] == 0);
     printf("tables: sound=%llu unsound=%llu\n", (unsigned long long)tally.sound[1], (unsigned long long)tally.sound[0]);
     printf("boundary: %llu cases, %llu calls in %ld s, %u outcomes never reached\n", (unsigned long long)cases,

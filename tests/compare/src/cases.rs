@@ -4,18 +4,20 @@
 mod calls;
 mod folders;
 mod lines;
+mod streams;
 
 use std::path::{Path, PathBuf};
 use std::{fs, io};
 
 use harness::{ensure, Check, Options, Tally};
+use lines::Object;
 use reference_gateway::{Calls, Reference};
 
 /// From this crate's folder.
 const CASES: &str = "../cases";
 
-/// The file of calls.
-const LIBRARY: &str = "library.jsonl";
+/// The files of calls.
+const FILES: [&str; 2] = ["library.jsonl", "calls.jsonl"];
 
 /// A set by its folder's name, and how many case folders and calls are there.
 struct CaseSet {
@@ -29,6 +31,8 @@ const SETS: &[CaseSet] = &[
     CaseSet { name: "base", folders: 240, calls: 0 },
     // Names that meet in C.
     CaseSet { name: "req02", folders: 60, calls: 222 },
+    // Messages in pieces.
+    CaseSet { name: "req10", folders: 0, calls: 254 },
 ];
 
 struct Product;
@@ -62,12 +66,20 @@ pub fn run(_: &Options, tally: &mut Tally) -> Check {
             tally.pass();
         }
         for (line, number) in lines.iter().zip(1..) {
-            let call = calls::check(line).map_err(|reason| failed(format!("{LIBRARY}, line {number}: {reason}")))?;
+            let call = check_call(line).map_err(|reason| failed(format!("call {number}: {reason}")))?;
             tally.add("cases", call);
             tally.pass();
         }
     }
     Ok(())
+}
+
+/// The name of the line's call, where both answer as the line says.
+fn check_call(line: &str) -> Result<&'static str, String> {
+    match Object::parse(line)?.text("call")?.as_str() {
+        "stream" => streams::check(line).map(|()| "stream"),
+        _ => calls::check(line),
+    }
 }
 
 fn root() -> PathBuf {
@@ -81,14 +93,15 @@ fn check_known(folders: impl Iterator<Item = String>) -> Check {
 }
 
 impl CaseSet {
-    /// The names of the case folders and the lines of the file of calls, if there are as many as the set has.
+    /// The names of the case folders and the lines of the files of calls, if there are as many as the set has.
     fn contents(&self, place: &Path) -> Result<(Vec<String>, Vec<String>), String> {
-        let (files, folders): (Vec<_>, Vec<_>) = names(place)?.into_iter().partition(|name| name == LIBRARY);
-        let library = match files.is_empty() {
-            true => String::new(),
-            false => fs::read_to_string(place.join(LIBRARY)).map_err(|error| format!("{LIBRARY}: {error}"))?,
-        };
-        let lines: Vec<_> = library.lines().map(str::to_string).collect();
+        let (files, folders): (Vec<_>, Vec<_>) =
+            names(place)?.into_iter().partition(|name| FILES.contains(&name.as_str()));
+        let mut lines = Vec::new();
+        for file in files {
+            let text = fs::read_to_string(place.join(&file)).map_err(|error| format!("{file}: {error}"))?;
+            lines.extend(text.lines().map(str::to_string));
+        }
         let (found, expected) = ((folders.len(), lines.len()), (self.folders, self.calls));
         ensure(found == expected, || format!("(folders, calls) are {found:?}, not {expected:?}"))?;
         Ok((folders, lines))
@@ -113,7 +126,7 @@ mod tests {
         for &CaseSet { name, folders, calls } in SETS {
             let contents = |folders, calls| CaseSet { name, folders, calls }.contents(&root().join(name));
             assert!(contents(folders, calls).is_ok(), "{name}");
-            for (folders, calls) in [(folders + 1, calls), (folders - 1, calls), (folders, calls + 1)] {
+            for (folders, calls) in [(folders + 1, calls), (folders.wrapping_sub(1), calls), (folders, calls + 1)] {
                 assert!(contents(folders, calls).is_err(), "{name}");
             }
         }

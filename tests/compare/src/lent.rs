@@ -1,52 +1,68 @@
-//! What the product is lent: words between others that it must leave alone, and texts and tables amid what would change
-//! their meaning.
+//! What the product is lent: words and bytes between others that it must leave alone, and texts and tables amid what
+//! would change their meaning.
 
 use generate::damage::telling_byte;
 use generate::Random;
 use harness::{ensure, Check};
 
-/// Words on either side of those lent, and what they hold.
+/// Items on either side of those lent.
 const GUARDS: usize = 16;
-const GUARD: u32 = 0xA5A5_A5A5;
 
-pub struct LentWords {
-    all: Vec<u32>,
+/// Words or bytes that the product is lent.
+pub trait Item: Copy + PartialEq {
+    /// What stands beside those lent.
+    const GUARD: Self;
+}
+
+impl Item for u32 {
+    const GUARD: u32 = 0xA5A5_A5A5;
+}
+
+impl Item for u8 {
+    const GUARD: u8 = 0xA5;
+}
+
+pub struct Lent<T> {
+    all: Vec<T>,
+}
+
+pub type LentWords = Lent<u32>;
+pub type LentBytes = Lent<u8>;
+
+impl<T: Item> Lent<T> {
+    /// So many, each holding `item`.
+    pub fn new(count: usize, item: T) -> Self {
+        let mut all = vec![T::GUARD; count + 2 * GUARDS];
+        all[GUARDS..GUARDS + count].fill(item);
+        Lent { all }
+    }
+
+    pub fn items(&self) -> &[T] {
+        &self.all[GUARDS..self.all.len() - GUARDS]
+    }
+
+    pub fn items_mut(&mut self) -> &mut [T] {
+        let end = self.all.len() - GUARDS;
+        &mut self.all[GUARDS..end]
+    }
+
+    /// Whether nothing was written beside those lent.
+    pub fn is_intact_around(&self) -> bool {
+        let (before, rest) = self.all.split_at(GUARDS);
+        let after = &rest[rest.len() - GUARDS..];
+        before.iter().chain(after).all(|&item| item == T::GUARD)
+    }
 }
 
 impl LentWords {
-    /// So many words, each holding `word`.
-    pub fn new(count: usize, word: u32) -> Self {
-        let mut all = vec![GUARD; count + 2 * GUARDS];
-        all[GUARDS..GUARDS + count].fill(word);
-        LentWords { all }
-    }
-
     /// So many words, all holding one that isn't 0.
     pub fn with_garbage(random: &mut Random, count: usize) -> Self {
         LentWords::new(count, random.word() as u32 | 1)
     }
 
-    pub fn words(&self) -> &[u32] {
-        &self.all[GUARDS..self.all.len() - GUARDS]
-    }
-
-    pub fn words_mut(&mut self) -> &mut [u32] {
-        let end = self.all.len() - GUARDS;
-        &mut self.all[GUARDS..end]
-    }
-
-    /// Whether nothing was written beside the words lent.
-    pub fn is_intact_around(&self) -> bool {
-        let (before, rest) = self.all.split_at(GUARDS);
-        let after = &rest[rest.len() - GUARDS..];
-        before.iter().chain(after).all(|&word| word == GUARD)
-    }
-}
-
-impl LentWords {
     /// Fails where a word isn't the expected one, or one beside those lent was written.
     pub fn check(&self, expected: &[u32]) -> Check {
-        let words = self.words();
+        let words = self.items();
         let count = words.len();
         let place = words.iter().zip(expected).position(|(word, expected)| word != expected);
         ensure(place.is_none() && count == expected.len(), || {
@@ -110,8 +126,8 @@ mod tests {
     #[test]
     fn a_word_written_beside_those_lent_is_noticed() {
         let mut lent = LentWords::new(3, 7);
-        assert_eq!(lent.words(), [7; 3]);
-        lent.words_mut().fill(8);
+        assert_eq!(lent.items(), [7; 3]);
+        lent.items_mut().fill(8);
         assert!(lent.is_intact_around());
         for place in [0, GUARDS - 1, GUARDS + 3, 2 * GUARDS + 2] {
             let mut lent = LentWords::new(3, 7);

@@ -1,6 +1,7 @@
 //! Compares the product with the independent reference, through its static libraries.
 //!
-//!     compare [texts] [schemas] [tables] [messages] [wrapper] [cases] [--cases ROUNDS] [--seed SEED]
+//!     compare [texts] [schemas] [tables] [messages] [streams] [wrapper] [cases]
+//!             [--cases ROUNDS] [--seed SEED] [--slow]
 
 #![forbid(unsafe_code)]
 
@@ -9,6 +10,7 @@ mod lent;
 mod messages;
 mod rooms;
 mod schemas;
+mod streams;
 mod tables;
 mod texts;
 mod wrapper;
@@ -21,11 +23,12 @@ use harness::{Check, Options, Report, Tally};
 /// Runs one part and counts what it reached.
 type Run = fn(&Options, &mut Tally) -> Check;
 
-const PARTS: [(&str, Run); 6] = [
+const PARTS: [(&str, Run); 7] = [
     ("texts", texts::run),
     ("schemas", schemas::run),
     ("tables", tables::run),
     ("messages", messages::run),
+    ("streams", streams::run),
     ("wrapper", wrapper::run),
     ("cases", cases::run),
 ];

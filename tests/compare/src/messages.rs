@@ -110,7 +110,7 @@ impl Call<'_> {
         let schema = PlacedText::new(&mut random, self.schema);
         let message = PlacedText::new(&mut random, self.message);
         let mut lent = LentWords::with_garbage(&mut random, self.room);
-        let got = calls::check(table.words(), schema.bytes(), message.bytes(), lent.words_mut());
+        let got = calls::check(table.words(), schema.bytes(), message.bytes(), lent.items_mut());
         let answer = self.by_reference(self.room);
         let expected = (answer.number, answer.row as usize, answer.count as usize);
         ensure(got == expected, || format!("number, row and count: product {got:?}, reference {expected:?}"))?;

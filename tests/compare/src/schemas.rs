@@ -107,7 +107,7 @@ fn compare_once(schema: &[u8], room: usize, seed: u64) -> Result<Answer, String>
     let mut random = Random::new(seed);
     let placed = PlacedText::new(&mut random, schema);
     let mut lent = LentWords::with_garbage(&mut random, room);
-    let got = calls::compile(placed.bytes(), lent.words_mut());
+    let got = calls::compile(placed.bytes(), lent.items_mut());
     let answer = compile(schema, room);
     let expected = (answer.number, answer.count as usize);
     ensure(got == expected, || format!("number and count in {room} words: product {got:?}, reference {expected:?}"))?;

@@ -7,6 +7,7 @@ mod checks;
 mod options;
 mod program;
 mod tally;
+pub mod usage;
 
 pub use checks::{check_bytes, check_expected, ensure, Check};
 pub use options::{Options, Rounds};

@@ -7,6 +7,8 @@ pub struct Options {
     /// Of each part; where not given, as many as the part has by default.
     pub rounds: Option<u64>,
     pub seed: u64,
+    /// Whether to run what takes longer too.
+    pub slow: bool,
 }
 
 /// How many rounds, and from which seed.
@@ -17,21 +19,22 @@ pub struct Rounds {
 }
 
 impl Options {
-    /// From `[PART..] [--cases ROUNDS] [--seed SEED]`; any other arguments end the program with a line on how to use it.
+    /// From `[PART..] [--cases ROUNDS] [--seed SEED] [--slow]`; any other arguments end the program with a line on how to use it.
     pub fn of_program(name: &str, parts: &[&'static str]) -> Self {
         Self::parse(std::env::args().skip(1), parts).unwrap_or_else(|| {
             let parts: String = parts.iter().map(|part| format!(" [{part}]")).collect();
-            eprintln!("usage: {name}{parts} [--cases ROUNDS] [--seed SEED]");
+            eprintln!("usage: {name}{parts} [--cases ROUNDS] [--seed SEED] [--slow]");
             std::process::exit(2)
         })
     }
 
     fn parse(mut arguments: impl Iterator<Item = String>, parts: &[&'static str]) -> Option<Self> {
-        let mut options = Options { parts: Vec::new(), rounds: None, seed: 1 };
+        let mut options = Options { parts: Vec::new(), rounds: None, seed: 1, slow: false };
         while let Some(argument) = arguments.next() {
             match argument.as_str() {
                 "--cases" => options.rounds = Some(arguments.next()?.parse().ok()?),
                 "--seed" => options.seed = arguments.next()?.parse().ok()?,
+                "--slow" => options.slow = true,
                 part => options.parts.push(parts.iter().find(|known| **known == part)?),
             }
         }

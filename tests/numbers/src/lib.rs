@@ -1,8 +1,8 @@
 //! The cases of docs/NUMBERS.md: for each number the smallest input that gives it.
 //!
-//! A case is a fenced block `case` of lines `KEY: VALUE`. Text is added to the schema or the message by `schema: TEXT`,
-//! `schema N times: TEXT` or `schema for @ in CHARACTERS: TEXT`, and likewise `message`. A line that four spaces begin
-//! goes on with the line before it.
+//! A case is a fenced block `case` of lines `KEY: VALUE`. Text is added to the schema, the message or the stream by
+//! `schema: TEXT`, `schema N times: TEXT` or `schema for @ in CHARACTERS: TEXT`, and likewise `message` and `stream`. A
+//! line that four spaces begin goes on with the line before it.
 
 #![forbid(unsafe_code)]
 
@@ -19,21 +19,25 @@ pub struct Case {
     pub message: Option<Vec<u8>>,
     /// Words instead of the schema's table.
     pub table: Option<Vec<u32>>,
+    /// Where there is one, the answer is what it gives.
+    pub stream: Option<Vec<u8>>,
+    /// Bytes lent for a stream's message, where they aren't as many as one may have.
+    pub message_bytes: Option<usize>,
     /// Words lent, where they aren't as many as the program lends.
     pub row_words: Option<usize>,
     pub record_words: Option<usize>,
-    /// The line that the program prints, or would print.
+    /// The line that the program prints, or would print; the numbers that a stream gives.
     pub answer: String,
-    /// Bytes of schema and message.
+    /// Bytes of schema, message and stream.
     pub size: usize,
     /// A piece of the schema without which it is accepted.
     pub fault: Option<String>,
 }
 
 impl Case {
-    /// Whether the program can be given it: it has its own table and room.
+    /// Whether the program can be given it: it has its own table and room, and reads lines.
     pub fn is_for_program(&self) -> bool {
-        self.table.is_none() && self.row_words.is_none() && self.record_words.is_none()
+        self.table.is_none() && self.row_words.is_none() && self.record_words.is_none() && self.stream.is_none()
     }
 
     /// The number that the answer starts with.
@@ -46,12 +50,14 @@ impl Case {
         match key.split_once(' ').unwrap_or((key, "")) {
             ("schema", how) => self.schema.extend(repeated(how, value)?.bytes()),
             ("message", how) => self.message.get_or_insert_default().extend(repeated(how, value)?.bytes()),
+            ("stream", how) => self.stream.get_or_insert_default().extend(repeated(how, value)?.bytes()),
             ("table", "") => {
                 self.table = Some(value.split(' ').map(|word| word.parse().ok()).collect::<Option<_>>()?);
                 self.message.get_or_insert_default();
             }
             ("words", "for rows") => self.row_words = Some(value.parse().ok()?),
             ("words", "for records") => self.record_words = Some(value.parse().ok()?),
+            ("bytes", "lent") => self.message_bytes = Some(value.parse().ok()?),
             ("accepted", "without") => self.fault = Some(value.to_string()),
             ("answer", "") => {
                 let (answer, size) = value.split_once(", size ")?;
@@ -121,6 +127,13 @@ mod tests {
         assert_eq!((&message.message, &message.table), (&Some(vec![]), &None));
         assert_eq!((&table.message, &table.table), (&Some(vec![]), &Some(vec![1, 2])));
         assert!(message.is_for_program() && !table.is_for_program());
+    }
+
+    #[test]
+    fn a_stream_is_not_for_the_program() {
+        let cases = parse("```case\nstream 2 times: [\nbytes lent: 1\nanswer: 22, size 2\n```\n").unwrap();
+        assert_eq!((cases[0].stream.as_deref(), cases[0].message_bytes), (Some(&b"[["[..]), Some(1)));
+        assert!(!cases[0].is_for_program());
     }
 
     #[test]

@@ -35,7 +35,7 @@ fn check_cases(tally: &mut Tally) -> Check {
 }
 
 fn check_case(case: &Case) -> Check {
-    let size = case.schema.len() + case.message.as_ref().map_or(0, Vec::len);
+    let size = case.schema.len() + [&case.message, &case.stream].into_iter().flatten().map(Vec::len).sum::<usize>();
     ensure(size == case.size, || format!("its size is {size}, not {}", case.size))?;
     let answer = calls::answer(case);
     ensure(answer == case.answer, || format!("the product answers {answer}"))?;
@@ -65,7 +65,9 @@ fn with_less(case: &Case) -> impl Iterator<Item = Case> + '_ {
     let messages = case.message.iter().flat_map(|message| each_left_out(message));
     let messages = messages.map(|message| Case { message: Some(message), ..case.clone() });
     let tables = case.table.iter().flat_map(|table| each_left_out(table));
-    schemas.chain(messages).chain(tables.map(|table| Case { table: Some(table), ..case.clone() }))
+    let tables = tables.map(|table| Case { table: Some(table), ..case.clone() });
+    let streams = case.stream.iter().flat_map(|stream| each_left_out(stream));
+    schemas.chain(messages).chain(tables).chain(streams.map(|stream| Case { stream: Some(stream), ..case.clone() }))
 }
 
 fn each_left_out<T: Copy + PartialEq>(parts: &[T]) -> impl Iterator<Item = Vec<T>> + '_ {

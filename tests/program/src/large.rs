@@ -6,13 +6,13 @@ use std::process::ChildStdin;
 use std::thread;
 use std::time::Instant;
 
+use harness::usage::{most_memory, reads_and_writes};
 use harness::{ensure, Check};
 
 use crate::folder::{example, Folder, STOP_LOT, STOP_LOT_ANSWER};
 use crate::lines::{STOP, STOPPED};
 use crate::printed::{by_reference, same};
 use crate::running::{feed, reason, Running};
-use crate::usage::{most_memory, reads_and_writes};
 use crate::Checks;
 
 pub const CHECKS: Checks = &[

@@ -15,7 +15,6 @@ mod running;
 mod schemas;
 mod streams;
 mod terminal;
-mod usage;
 
 use std::path::{Path, PathBuf};
 use std::process::ExitCode;

@@ -2,7 +2,8 @@
 //! alone, not from specs/ or the code. docs/REFERENCE.md states the same rules.
 //!
 //! Modules in the order that data flows: `text` and its tokens, `keys`, the rows and the rules over them, then the two
-//! calls `schema::compile` and `message::check`, with `table::is_sound` between them.
+//! calls `schema::compile` and `message::check`, with `table::is_sound` between them; `stream` is by itself, from the
+//! change requests.
 
 #![forbid(unsafe_code)]
 
@@ -21,3 +22,4 @@ pub mod schema;
 pub mod table;
 
 pub mod message;
+pub mod stream;

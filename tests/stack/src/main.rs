@@ -4,7 +4,9 @@ mod inputs;
 mod painted;
 
 use windosprio::calls;
-use windosprio::limits::{CHECK_STACK, COMPILE_STACK, IS_SOUND_STACK, MESSAGE_BYTES, RECORD_WORDS, ROWS, ROW_WORDS};
+use windosprio::limits::{
+    CHECK_STACK, COMPILE_STACK, IS_SOUND_STACK, MESSAGE_BYTES, RECORD_WORDS, ROWS, ROW_WORDS, STREAM_STACK,
+};
 
 /// A call, the most bytes that it used, and those that suffice by the documents.
 struct Use {
@@ -24,6 +26,7 @@ fn uses() -> Vec<Use> {
         Use { call: "compile", most: compile(), documented: COMPILE_STACK },
         Use { call: "check", most: check(), documented: CHECK_STACK },
         Use { call: "is_sound", most: is_sound(), documented: IS_SOUND_STACK },
+        Use { call: "stream", most: stream(), documented: STREAM_STACK },
     ]
 }
 
@@ -55,6 +58,24 @@ fn is_sound() -> usize {
     painted::bytes_used(|| {
         for input in &inputs {
             calls::is_sound(&input.schema, &input.table);
+        }
+    })
+}
+
+/// Every message of a schema as a stream, whole and a byte at a time, with a clearing byte between two.
+fn stream() -> usize {
+    let inputs = inputs::messages();
+    let streams: Vec<_> = inputs.iter().map(|input| input.messages.join(&b"\xFF"[..])).collect();
+    let mut buffer = vec![0; MESSAGE_BYTES];
+    painted::bytes_used(|| {
+        let mut state = calls::stream_start();
+        for stream in &streams {
+            for piece in [&stream[..]].into_iter().chain(stream.chunks(1)) {
+                let mut rest = piece;
+                while !rest.is_empty() {
+                    rest = &rest[calls::stream_feed(&mut state, &mut buffer, rest).taken..];
+                }
+            }
         }
     })
 }

@@ -64,7 +64,7 @@ impl Case {
         for more in [0, self.call.unit() - 1] {
             let mut random = Random::new(more as u64);
             let mut lent = LentWords::with_garbage(&mut random, self.lent + more);
-            let numbers = self.call.answer(calls, &mut random, lent.words_mut());
+            let numbers = self.call.answer(calls, &mut random, lent.items_mut());
             ensure(numbers == self.numbers, || format!("answers {numbers:?}, expected {:?}", self.numbers))?;
             let mut expected = self.used.clone();
             expected.resize(self.lent + more, 0);

@@ -53,18 +53,34 @@ impl Object {
         words.ok_or_else(|| format!("{key} is no array of words"))
     }
 
+    /// An array of anything.
+    pub fn list(&mut self, key: &str) -> Result<Vec<Value>, String> {
+        match self.take(key)? {
+            Value::List(elements) => Ok(elements),
+            other => Err(format!("{key} is no array: {other:?}")),
+        }
+    }
+
     /// Bytes, two hexadecimal digits each.
     pub fn bytes(&mut self, key: &str) -> Result<Vec<u8>, String> {
         let text = self.text(key)?;
-        let (pairs, rest) = text.as_bytes().as_chunks::<2>();
-        let bytes = pairs.iter().map(|&[high, low]| Some(16 * hex_digit(high)? + hex_digit(low)?));
-        let bytes = if rest.is_empty() { bytes.collect() } else { None };
-        bytes.ok_or_else(|| format!("{key} isn't made of hexadecimal bytes: {text}"))
+        bytes(&text).ok_or_else(|| format!("{key} isn't made of hexadecimal bytes: {text}"))
     }
 
     /// Fails where a member wasn't taken.
     pub fn finish(self) -> Check {
         ensure(self.members.is_empty(), || format!("members that no such call has: {:?}", self.members))
+    }
+}
+
+/// Bytes, two hexadecimal digits each.
+pub fn bytes(text: &str) -> Option<Vec<u8>> {
+    let (pairs, rest) = text.as_bytes().as_chunks::<2>();
+    let bytes = pairs.iter().map(|&[high, low]| Some(16 * hex_digit(high)? + hex_digit(low)?));
+    if rest.is_empty() {
+        bytes.collect()
+    } else {
+        None
     }
 }
 
@@ -190,6 +206,7 @@ mod tests {
         for key in ["d", "e", "f", "g"] {
             assert!(object.clone().words(key).is_err() && object.clone().number(key).is_err(), "{key}");
         }
+        assert!(object.clone().list("g").is_err() && object.clone().list("h").is_err());
         assert!(object.clone().text("h").is_err());
     }
 

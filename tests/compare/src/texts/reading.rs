@@ -23,13 +23,13 @@ pub fn compare(random: &mut Random, dialect: Dialect, text: &[u8], tally: &mut T
     check_read(dialect, text, &mut lent, verdict)?;
     tally.add("words lent", "enough");
     if matches!(verdict, Verdict::Whole(_)) {
-        check_nodes(&nodes, lent.words(), 0)?;
+        check_nodes(&nodes, lent.items(), 0)?;
     }
     if !text.is_empty() && random.one_in(2) {
         compare_in_too_few_words(random, dialect, text, verdict, &nodes)?;
         tally.add("words lent", "too few");
     }
-    Ok(Read { verdict, nodes, words: lent.words().to_vec() })
+    Ok(Read { verdict, nodes, words: lent.items().to_vec() })
 }
 
 /// The reference's verdict in the product's form, and the nodes of a whole text.
@@ -42,8 +42,8 @@ fn by_reference(dialect: Dialect, text: &[u8]) -> (Verdict, Vec<Node>) {
 }
 
 fn check_read(dialect: Dialect, text: &[u8], lent: &mut LentWords, expected: Verdict) -> Check {
-    let verdict = product::text::read(dialect == Dialect::Schema, text, lent.words_mut());
-    let count = lent.words().len();
+    let verdict = product::text::read(dialect == Dialect::Schema, text, lent.items_mut());
+    let count = lent.items().len();
     ensure(verdict == expected, || format!("product {verdict:?}, reference {expected:?}, in {count} words"))?;
     ensure(lent.is_intact_around(), || format!("words beside the {count} lent were written"))
 }
@@ -61,7 +61,7 @@ fn compare_in_too_few_words(
     let mut lent = LentWords::new(random.below(needed), filling);
     check_read(dialect, text, &mut lent, expected)?;
     match expected {
-        Verdict::Whole(_) => check_nodes(nodes, lent.words(), filling),
+        Verdict::Whole(_) => check_nodes(nodes, lent.items(), filling),
         _ => Ok(()),
     }
 }

@@ -13,6 +13,11 @@ pub fn most_memory(id: u32) -> Option<u64> {
     field(&fs::read_to_string(format!("/proc/{id}/status")).ok()?, "VmHWM:")
 }
 
+/// The memory it has now, in KiB.
+pub fn memory(id: u32) -> Option<u64> {
+    field(&fs::read_to_string(format!("/proc/{id}/status")).ok()?, "VmRSS:")
+}
+
 fn field(text: &str, name: &str) -> Option<u64> {
     text.lines().find_map(|line| line.strip_prefix(name))?.split_whitespace().next()?.parse().ok()
 }
