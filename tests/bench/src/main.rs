@@ -5,9 +5,11 @@
 #![forbid(unsafe_code)]
 
 mod calls;
+mod framing;
 mod inputs;
 mod line;
 mod programs;
+mod streams;
 mod texts;
 mod wide;
 
@@ -19,7 +21,8 @@ fn main() {
     let mut random = Random::new(1);
     let inputs = Inputs::new(&mut random);
     println!("{}", Line::heading());
-    let lines = [texts::lines(&mut random, &inputs), calls::lines(&inputs), wide::lines()].concat();
+    let lines =
+        [texts::lines(&mut random, &inputs), calls::lines(&inputs), wide::lines(), streams::lines(&inputs)].concat();
     for line in lines.into_iter().chain(programs::line(&inputs)) {
         println!("{line}");
     }
