@@ -25,10 +25,10 @@ use Rattle.buckets.proofs.ChainWalks.{walk-start, walk-end, walk-out}
 use Rattle.rows.proofs.IndexLaws.{Walk, walk-hit, walk-on}
 use Rattle.lookups.specs.Lookups.{NodeMeans}
 use Rattle.children.specs.Index.{headsOf, linksOf, ownersOf, isLong, Child, childAt, rowOf, childHash, IndexedTable}
-use Rattle.children.specs.Children.{MeaningAt}
+use Rattle.lookups.specs.Lookups.{MeaningAt}
 use Rattle.children.specs.Lookup.{namedIn, firstNamed, MeaningHash, RowMeant, ChildListed, ChildIndexed}
 use Rattle.children.proofs.PartLaws.{head-at}
-use Rattle.children.proofs.ScanLaws.{meaning-is}
+use Rattle.lookups.proofs.TokenLaws.{meaning-is}
 
 -- whether a row is meant
 module _ {S T m w owners : List ℕ} {r k c x : ℕ} (p : x ≡ getD owners c 0) where

@@ -12,13 +12,9 @@ use Rattle.rules.specs.Sound.{sound}
 use Rattle.rows.specs.Rows.{Follows, First, Counted}
 use Rattle.rows.proofs.ChildLaws.{LinkLeft, link-starts, link-hit, link-on, link-ends}
 use Rattle.text.specs.Nodes.{nodeKind}
-use Rattle.lookups.specs.Lookups.{plainKind, NodeMeans}
-use Rattle.children.specs.Children.{MeaningAt, InnerBytes, RowNamed, ChildNamed, ChildScanned}
-use Rattle.children.specs.Children.MeaningAt.{a-key, a-string}
-
-pub meaning-is : {m w : List ℕ} {k : ℕ} {name cs : List ℕ} {r : Bool} → NodeMeans message m w k name r → MeaningAt m w k cs → r ≡ same cs name
-meaning-is {cs = cs} n (a-key u) = n .key cs u
-meaning-is {cs = cs} n (a-string a e l u) = n .string a e l cs u
+use Rattle.lookups.specs.Lookups.{plainKind, MeaningAt, NodeMeans, InnerBytes}
+use Rattle.lookups.proofs.TokenLaws.{meaning-is}
+use Rattle.children.specs.Children.{RowNamed, ChildNamed, ChildScanned}
 
 -- a walk over a row's children: what is left to look at for a name
 pub record NameLeft (S T cs : List ℕ) (r c n : ℕ) : Type 0 where

@@ -3,27 +3,13 @@ use Prim.Native.Nat.{ℕ, _^_, _≤_}
 use mathlib.Core.Path.{_≡_}
 use mathlib.Core.Bool.{Bool, true}
 use mathlib.Core.List.{List}
-use Rattle.grammar.specs.Tree.Scalar.{str}
-use Rattle.grammar.specs.Tree.Json.{leaf}
-use Rattle.grammar.specs.Serving.Machine.Message.{message}
 use Rattle.grammar.specs.Notation.{same}
 use Rattle.rules.specs.Rows.{children, nameOf}
 use Rattle.rules.specs.SchemaTable.{memberIn}
 use Rattle.rules.specs.Sound.{sound}
-use Rattle.text.specs.Nodes.{Holds, nodeKind}
-use Rattle.text.specs.Keys.{KeyAt}
-use Rattle.lookups.specs.Lookups.{plainKind}
+use Rattle.lookups.specs.Lookups.{MeaningAt}
 use Rattle.children.specs.Counts.{mandatoryIn}
 use Rattle.children.specs.Index.{IndexedTable}
-
--- node k is a key or a string that means cs
-pub data MeaningAt (m w : List ℕ) (k : ℕ) (cs : List ℕ) : Type 0 where
-  a-key : KeyAt message m w k cs → MeaningAt m w k cs
-  a-string : (a e l : ℕ) → Holds message m w (leaf a e (str cs)) l k → MeaningAt m w k cs
-
--- the bytes of a plain key or string are its code points
-pub record InnerBytes (m w : List ℕ) (k : ℕ) (bytes : List ℕ) : Type 0 where
-  pub told : (cs : List ℕ) → MeaningAt m w k cs → plainKind (nodeKind w k) ≡ true → bytes ≡ cs
 
 -- row c has that name
 pub record RowNamed (S T name : List ℕ) (c : ℕ) (b : Bool) : Type 0 where

@@ -13,7 +13,7 @@ use Rattle.rules.specs.Rows.{children, nameOf}
 use Rattle.rules.specs.SchemaTable.{memberIn}
 use Rattle.rows.specs.Index.{itself}
 use Rattle.children.specs.Index.{linksOf, ownersOf, isLong, IndexedTable}
-use Rattle.children.specs.Children.{MeaningAt}
+use Rattle.lookups.specs.Lookups.{MeaningAt}
 
 -- the hash of what the key or string at node k means
 pub record MeaningHash (m w : List ℕ) (k x : ℕ) : Type 0 where

@@ -2,10 +2,10 @@
 use crate::index::is_long;
 use crate::lookup::indexed_child;
 use crate::lookup::indexed_mandatory;
+use lookups::meanings::inner_bytes;
 use lookups::values::node_means;
 use lookups::values::plain_kind;
 use rows::names::name_of;
-use rows::names::part_of;
 use rows::names::same_bytes;
 use rows::rows::child_count;
 use rows::rows::first_child;
@@ -14,18 +14,14 @@ use rows::rows::wide;
 use rows::rows::word;
 use rules::row;
 use strings::dialects::Dialect;
-use text::nodes::NODE_END;
 use text::nodes::NODE_KIND;
-use text::nodes::NODE_START;
-use text::nodes::node_number;
 use text::nodes::node_word;
 ghost use mathlib.Core.Path.{_≡_};
 ghost use mathlib.Core.List.{[], _∷_};
-ghost use Prim.Native.Nat.{_-_};
 ghost use Rattle.rows.specs.Rows.{Near};
 ghost use Rattle.rules.specs.Rows.{children};
 ghost use Rattle.children.specs.Counts.{mandatoryIn};
-ghost use Rattle.children.specs.Children.{InnerBytes, RowNamed, ChildNamed, ChildScanned, ChildMeant, OwnMandatory};
+ghost use Rattle.children.specs.Children.{RowNamed, ChildNamed, ChildScanned, ChildMeant, OwnMandatory};
 
 // The link of the first child of row r that the key or string at node k means; 0 if there is none.
 fn scanned_child(schema: &[u8], rows: &[u32], m: &[u8], nodes: &[u32], r: usize, k: usize) -> usize
@@ -69,28 +65,6 @@ fn named_child(schema: &[u8], rows: &[u32], r: usize, name: &[u8]) -> usize
         left -= 1;
     }
     0
-}
-
-// How many bytes stand between the quotes of a token from a to e.
-fn inner_size(a: usize, e: usize) -> usize
-    ensures { λ n. ⌜ n ≡ e - a - 2 ⌝ }
-{
-    if e <= a {
-        return 0;
-    }
-    if e - a < 2 {
-        return 0;
-    }
-    e - a - 2
-}
-
-// The bytes between the quotes of the key or string at node k.
-fn inner_bytes<'a>(m: &'a [u8], nodes: &[u32], k: usize) -> &'a [u8]
-    ensures { λ w. ⌜ InnerBytes (now (m .entry)) (now (nodes .entry)) k (now w) ⌝ }
-{
-    let a = node_number(nodes, k, NODE_START);
-    let e = node_number(nodes, k, NODE_END);
-    part_of(m, a + 1, inner_size(a, e))
 }
 
 // The link of the child of row r that the key or string at node k means, where the bytes of a plain one are compared as they are; 0 if there is none.

@@ -1,4 +1,5 @@
 -- Laws of looking into nodes.
 pub mod NodeLaws
+pub mod TokenLaws
 pub mod FieldLaws
 pub mod KeyCounts

@@ -36,14 +36,14 @@ module _ (D : Dialect) (s w : List ℕ) where
   string-node (arr a e js) l k h = ap stringKind (h .0 .has-kind)
   string-node (obj a e fs) l k h = ap stringKind (h .0 .has-kind)
 
-  plain-string : (a e : ℕ) → plainKind (cond (plainString s a e) plain-string-node other-string-node) ≡ true → plainString s a e ≡ true
+  pub plain-string : (a e : ℕ) → plainKind (cond (plainString s a e) plain-string-node other-string-node) ≡ true → plainString s a e ≡ true
   plain-string a e t = go (plainString s a e) t
     where
       go : (b : Bool) → plainKind (cond b plain-string-node other-string-node) ≡ true → b ≡ true
       go true q = refl
       go false q = q
 
-  plain-key : (a e : ℕ) → plainKind (keyNode s a e) ≡ true → plainString s a e ≡ true
+  pub plain-key : (a e : ℕ) → plainKind (keyNode s a e) ≡ true → plainString s a e ≡ true
   plain-key a e t = go (plainString s a e) t
     where
       go : (b : Bool) → plainKind (cond b plain-key-node other-key-node) ≡ true → b ≡ true

@@ -12,10 +12,13 @@ use Rattle.grammar.specs.Tree.Scalar.{str}
 use Rattle.grammar.specs.Tree.Json.{leaf}
 use Rattle.grammar.specs.Keys.{keysOf}
 use Rattle.grammar.specs.Serving.Machine.{Dialect}
+use Rattle.grammar.specs.Serving.Machine.Message.{message}
 use Rattle.strings.specs.declared.dialects.Dialect as Dialects
+use Rattle.strings.specs.declared.decoded.Decoded.{Decoded}
 use Rattle.strings.specs.Strings.{grammarOf}
+use Rattle.strings.specs.Decoding.{DecodedAs, decodedSize}
 use Rattle.rules.specs.Values.{valueAt, anyOf}
-use Rattle.text.specs.Nodes.{next, Holds, HoldsFields}
+use Rattle.text.specs.Nodes.{next, nodeKind, Holds, HoldsFields}
 use Rattle.text.specs.Keys.{KeyAt}
 use Rattle.tokens.specs.NodeKinds.{plain-string-node, other-string-node, plain-key-node}
 
@@ -30,6 +33,20 @@ plainKind k = eqb k plain-string-node || eqb k plain-key-node
 pub record NodeMeans (D : Dialect) (s w : List ℕ) (k : ℕ) (name : List ℕ) (r : Bool) : Type 0 where
   pub key : (cs : List ℕ) → KeyAt D s w k cs → r ≡ same cs name
   pub string : (a e l : ℕ) (cs : List ℕ) → Holds D s w (leaf a e (str cs)) l k → r ≡ same cs name
+
+-- node k of a message is a key or a string that means cs
+pub data MeaningAt (m w : List ℕ) (k : ℕ) (cs : List ℕ) : Type 0 where
+  a-key : KeyAt message m w k cs → MeaningAt m w k cs
+  a-string : (a e l : ℕ) → Holds message m w (leaf a e (str cs)) l k → MeaningAt m w k cs
+
+-- the bytes of a plain key or string are its code points
+pub record InnerBytes (m w : List ℕ) (k : ℕ) (bytes : List ℕ) : Type 0 where
+  pub told : (cs : List ℕ) → MeaningAt m w k cs → plainKind (nodeKind w k) ≡ true → bytes ≡ cs
+
+-- the key or string, decoded into the bytes
+pub record NodeDecodes (m w : List ℕ) (k : ℕ) (bytes : List ℕ) (r : Decoded) : Type 0 where
+  pub fits : decodedSize r ≤ length bytes
+  pub told : (cs : List ℕ) → MeaningAt m w k cs → DecodedAs cs bytes r
 
 -- where the value under a key stands: at a node, or nowhere
 abbrev pub ValueFound : Dialect → List ℕ → List ℕ → ℕ → Option Json → ℕ → Type 0

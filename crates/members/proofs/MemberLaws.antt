@@ -17,7 +17,8 @@ use Rattle.rules.specs.SchemaTable.{memberIn}
 use Rattle.rules.specs.Serving.ReadingOf.{branchLink}
 use Rattle.rules.proofs.Lists.{none-not-some}
 use Rattle.children.specs.Index.{IndexedTable}
-use Rattle.children.specs.Children.{MeaningAt, ChildMeant}
+use Rattle.lookups.specs.Lookups.{MeaningAt}
+use Rattle.children.specs.Children.{ChildMeant}
 use Rattle.members.specs.Members.{MemberMeant, FieldMember}
 
 -- a link is there

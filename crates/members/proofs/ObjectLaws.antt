@@ -31,7 +31,7 @@ use Rattle.lookups.proofs.NodeLaws.{string-node}
 use Rattle.members.specs.Members.{FieldsAt, BranchTold, BranchOf, StructsTold, StructsAt}
 use Rattle.children.specs.Index.{IndexedTable}
 use Rattle.children.specs.Children.{ChildMeant}
-use Rattle.children.specs.Children.MeaningAt.{a-string}
+use Rattle.lookups.specs.Lookups.MeaningAt.{a-string}
 use Rattle.members.specs.declared.objects.Structs.{Structs}
 use Rattle.members.specs.declared.objects.Structs.the-variants.{Links, NoObject}
 use Rattle.members.proofs.MemberLaws.{members-zero, branch-none, branch-at}

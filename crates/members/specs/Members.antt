@@ -17,7 +17,7 @@ use Rattle.rules.specs.SchemaTable.{memberIn}
 use Rattle.rules.specs.Serving.ReadingOf.{chosen, membersAt}
 use Rattle.text.specs.Nodes.{next, HoldsFields}
 use Rattle.children.specs.Index.{IndexedTable}
-use Rattle.children.specs.Children.{MeaningAt}
+use Rattle.lookups.specs.Lookups.{MeaningAt}
 use Rattle.members.specs.declared.objects.Structs.{Structs}
 use Rattle.members.specs.declared.objects.Structs.the-variants.{Links, NoObject}
 

@@ -1,2 +1,3 @@
 -- Laws of the probe's proofs.
 pub mod Dialects
+pub mod Commands

@@ -1,4 +1,7 @@
 // What tests and benchmarks in other languages call of the inner layers. The gateway itself does not use it.
+use message::commands::Command;
+use message::commands::find_command;
+use rules::ROW_WORDS;
 use strings::dialects::Dialect;
 use strings::meanings::means;
 use strings::meanings::same_meaning;
@@ -16,7 +19,7 @@ ghost use Rattle.grammar.specs.Integers.{negative, unsignedPart, decimal};
 ghost use Rattle.strings.specs.Strings.{grammarOf};
 ghost use Rattle.strings.specs.Meanings.{MeansName, MeansSame};
 ghost use Rattle.text.specs.Keys.{KeysOnce};
-ghost use Rattle.probe.specs.Probe.{dialectOf, verdict, place, ReadsText, Probed};
+ghost use Rattle.probe.specs.Probe.{dialectOf, verdict, place, ReadsText, Probed, rowOf, CommandProbed};
 
 // The dialect that a caller in another language names.
 fn dialect_of(schema: bool) -> Dialect
@@ -122,4 +125,27 @@ pub extern "C" fn windosprio_probe_same(
     ensures { λ r. ⌜ MeansSame (grammarOf (dialectOf schema)) (now (s .entry)) a e «plain_a» b f «plain_b» r ⌝ }
 {
     same_meaning(s, dialect_of(schema), a, e, plain_a, b, f, plain_b)
+}
+
+fn row_of(found: Command, rows: &[u32]) -> usize
+    ensures { λ r. ⌜ r ≡ rowOf (now (rows .entry)) found ⌝ }
+{
+    match found {
+        Command::Row(r) => r,
+        Command::Unknown => rows.len() / ROW_WORDS,
+    }
+}
+
+// The row of the first command whose name the string at a node of the message means; the number of rows if there is none.
+#[no_mangle]
+pub extern "C" fn windosprio_probe_command(
+    rows: &[u32],
+    schema: &[u8],
+    message: &[u8],
+    nodes: &[u32],
+    node: usize,
+) -> usize
+    ensures { λ r. ⌜ CommandProbed (now (schema .entry)) (now (rows .entry)) (now (message .entry)) (now (nodes .entry)) node r ⌝ }
+{
+    row_of(find_command(schema, rows, message, nodes, node), rows)
 }

@@ -29,7 +29,7 @@ use Rattle.lookups.specs.Lookups.{stringKind}
 use Rattle.lookups.proofs.NodeLaws.{string-node}
 use Rattle.children.specs.Index.{IndexedTable}
 use Rattle.children.specs.Children.{ChildMeant}
-use Rattle.children.specs.Children.MeaningAt.{a-string}
+use Rattle.lookups.specs.Lookups.MeaningAt.{a-string}
 use Rattle.members.specs.Members.{StructsTold, StructsAt}
 use Rattle.readings.specs.Parts.{BuiltInTakes, EnumHas, AtBuiltIn, ContentTold, Elsewhere, ScalarContent, ArrayContent, ObjectContent, ContentAt}
 use Rattle.members.specs.declared.objects.Structs.{Structs}

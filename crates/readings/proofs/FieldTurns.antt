@@ -27,7 +27,7 @@ use Rattle.text.specs.Nodes.{next, Holds, HoldsFields}
 use Rattle.text.proofs.KeyLaws.{goes-on}
 use Rattle.members.specs.Members.{FieldMember}
 use Rattle.members.specs.Mandatory.{metBy, met, MandatoryMembers}
-use Rattle.children.specs.Children.MeaningAt.{a-key}
+use Rattle.lookups.specs.Lookups.MeaningAt.{a-key}
 use Rattle.readings.specs.Records.{ReadTold}
 use Rattle.readings.specs.Readers.{Within, completeReading, ReadsValue, FieldsRead, ReadsFields}
 use Rattle.readings.specs.declared.readings.Count.{Count}

@@ -1,15 +1,14 @@
--- Laws of names: parts of the schema's bytes, equal bytes, good names.
+-- Laws of names: equal bytes, good names.
 -- Equal bytes are a test of every place from the first on.
 use Prim.Native.Nat.{ℕ, zero, suc, _+_, _-_, _≤_, _<_}
 use mathlib.Core.Path.{_≡_, refl, sym, ap, _∙_}
 use mathlib.Core.Bool.{Bool, true, false, not, _&&_, _||_, and-true, and-false, or-true, or-false}
 use mathlib.Core.List.{List, [], _∷_}
-use native.Mathlib.Nat.{sub-self}
 use native.Mathlib.Numerals.{add-one}
 use native.Mathlib.Omega.{arith}
 use lib.Dec.{eqb, leb}
 use lib.ListN.{length, take, drop, getD, drop-of-length-le, length-drop}
-use lib.Seq.{take-nil, take-all, drop-cons}
+use lib.Seq.{drop-cons}
 use borrow.Author.Tests.{eq-eqb, ne-eqb, le-leb, lt-leb}
 use Rattle.grammar.proofs.Lists.{different}
 use Rattle.grammar.proofs.Booleans.{within-is, within-below, within-above, within-out, Outside}
@@ -21,19 +20,6 @@ use Rattle.rules.specs.Names.{letter, nameByte, goodName, cByte, cName, clash}
 use Rattle.strings.proofs.Tables.{entry}
 use Rattle.strings.specs.Classes.{classOf, tabulate, digit-class, letter-class}
 use Rattle.rows.proofs.Walks.{upTo, upTo-of}
-
--- n bytes from a on, or those that there are
-module _ (s : List ℕ) (a n : ℕ) where
-  pub part-past : length s ≤ a → take (length s - length s) (drop (length s) s) ≡ take n (drop a s)
-  part-past h = rw (sub-self, drop-of-length-le s h, take-nil)
-
-  pub part-rest : length s - a ≤ n → take (length s - a) (drop a s) ≡ take n (drop a s)
-  part-rest h =
-      let e : length (drop a s) ≡ length s - a = length-drop a s in
-      take-all (length s - a) (drop a s) (omega arith) ∙ sym (take-all n (drop a s) (omega arith))
-
-  pub part-within : take (a + n - a) (drop a s) ≡ take n (drop a s)
-  part-within = let e : a + n - a ≡ n = omega arith in rw e
 
 -- equal bytes of equal length
 pub same-upTo : (x y : List ℕ) → length x ≡ length y → same x y ≡ upTo (λ k. eqb (getD x k 0) (getD y k 0)) 0 (length x)

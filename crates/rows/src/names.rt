@@ -3,6 +3,8 @@ use crate::rows::wide;
 use crate::rows::word;
 use rules::NAME_BYTES;
 use rules::row;
+use strings::bytes::part_of;
+use strings::bytes::same_parts;
 use strings::class;
 use strings::classes::class_in;
 ghost use mathlib.Core.Path.{_≡_};
@@ -13,21 +15,6 @@ ghost use Rattle.rules.specs.Names.{letter, nameByte, goodName, cByte, clash};
 ghost use Rattle.rules.specs.Rows.{nameOf};
 ghost use Rattle.strings.specs.Classes.{classOf, tabulate};
 
-// The n bytes from a on, or those of them that there are.
-pub fn part_of(s: &[u8], a: usize, n: usize) -> &[u8]
-    ensures { λ r. ⌜ now r ≡ take n (drop a (now (s .entry))) ⌝ }
-{
-    let m = s.len();
-    if m <= a {
-        return &s[m..];
-    }
-    if m - a <= n {
-        return &s[a..];
-    }
-    let e = a + n;
-    &s[a..e]
-}
-
 // Whether two slices are equal: their lengths, their last bytes, then the rest.
 pub fn same_bytes(x: &[u8], y: &[u8]) -> bool
     ensures { λ r. ⌜ r ≡ same (now (x .entry)) (now (y .entry)) ⌝ }
@@ -36,20 +23,7 @@ pub fn same_bytes(x: &[u8], y: &[u8]) -> bool
     if n != y.len() {
         return false;
     }
-    if n == 0 {
-        return true;
-    }
-    if x[n - 1] != y[n - 1] {
-        return false;
-    }
-    let mut i = 0;
-    while i < n {
-        if x[i] != y[i] {
-            return false;
-        }
-        i += 1;
-    }
-    true
+    same_parts(x, 0, y, 0, n)
 }
 
 // The byte that a byte of a name becomes in C.

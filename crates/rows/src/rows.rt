@@ -4,9 +4,10 @@ use rules::kind;
 use rules::row;
 use words::word_of;
 ghost use mathlib.Core.Path.{_≡_};
-ghost use Prim.Native.Nat.{_+_, _-_, _≤_, _<_, _^_};
+ghost use Prim.Native.Nat.{_+_, _-_, _*_, _≤_, _<_, _^_};
+ghost use Rattle.grammar.specs.Limits.{row-words};
 ghost use Rattle.rules.specs.Rows as Rows;
-ghost use Rattle.rules.specs.Rows.{past, unnamed, owns, pastChildren};
+ghost use Rattle.rules.specs.Rows.{rowCount, past, unnamed, owns, pastChildren};
 ghost use Rattle.rows.specs.Rows.{Countable, Follows, Room, First, Counted};
 
 pub fn wide(x: u32) -> usize
@@ -20,6 +21,14 @@ pub fn word(rows: &[u32], r: usize, i: usize) -> u32
     ensures { λ w. ⌜ w ≡ Rows.word (now (rows .entry)) r i ⌝ }
 {
     word_of(rows, ROW_WORDS, r, i)
+}
+
+// Word i of row r, one of the table's, where nothing has to be asked.
+pub fn word_at(rows: &[u32], r: usize, i: usize) -> u32
+    requires { ⌜ (r < rowCount (now rows)) × (i < row-words) ⌝ }
+    ensures { λ w. ⌜ w ≡ Rows.word (now (rows .entry)) r i ⌝ }
+{
+    rows[ROW_WORDS * r + i]
 }
 
 // The row after row r and what belongs to that row alone.

@@ -4,9 +4,11 @@ pub mod Utf8
 pub mod MessageChars
 pub mod SchemaChars
 pub mod PlainBytes
+pub mod ByteNumbers
 pub mod Parts
 pub mod StringRuns
 pub mod StringReads
 pub mod Codes
 pub mod Comparisons
 pub mod HashLaws
+pub mod DecodingLaws

@@ -8,10 +8,6 @@ use Rattle.grammar.specs.Notation.{same}
 use Rattle.grammar.specs.Serving.Machine.{Dialect}
 use Rattle.strings.specs.Strings.{plainString, Means}
 
--- whether n bytes of s from place i on are those of t from place j on
-unfoldable pub sameParts : List ℕ → ℕ → List ℕ → ℕ → ℕ → Bool
-sameParts s i t j n = same (take n (drop i s)) (take n (drop j t))
-
 -- the bytes of the string from place a to e, its quotes left out
 abbrev pub inside : List ℕ → ℕ → ℕ → List ℕ
 inside s a e = take (e - a - 2) (drop (a + 1) s)

@@ -1,35 +1,12 @@
 // What strings mean, compared without decoding them. A string goes from its opening quote to past its closing one; any places may be asked.
+use crate::bytes::same_parts;
 use crate::chars::Char;
 use crate::chars::next_char;
 use crate::chars::wide;
 use crate::dialects::Dialect;
 ghost use mathlib.Core.Path.{_≡_};
-ghost use Prim.Native.Nat.{_+_, _≤_};
-ghost use lib.ListN.{length};
 ghost use Rattle.strings.specs.Strings.{grammarOf};
-ghost use Rattle.strings.specs.Meanings.{sameParts, BytesMean, BytesSame, CodesMean, CodesSame, MeansName, MeansSame};
-
-// Whether n bytes of `s` from i on are those of `t` from j on: the last of them first, in which names differ most.
-fn same_bytes(s: &[u8], i: usize, t: &[u8], j: usize, n: usize) -> bool
-    requires { ⌜ (i + n ≤ length (now s)) × (j + n ≤ length (now t)) ⌝ }
-    ensures { λ r. ⌜ r ≡ sameParts (now (s .entry)) i (now (t .entry)) j n ⌝ }
-{
-    if n == 0 {
-        return true;
-    }
-    let last = n - 1;
-    if s[i + last] != t[j + last] {
-        return false;
-    }
-    let mut k = 0;
-    while k < last {
-        if s[i + k] != t[j + k] {
-            return false;
-        }
-        k += 1;
-    }
-    true
-}
+ghost use Rattle.strings.specs.Meanings.{BytesMean, BytesSame, CodesMean, CodesSame, MeansName, MeansSame};
 
 fn bytes_mean(s: &[u8], a: usize, e: usize, name: &[u8]) -> bool
     ensures { λ r. ⌜ BytesMean (now (s .entry)) a e (now (name .entry)) r ⌝ }
@@ -43,7 +20,7 @@ fn bytes_mean(s: &[u8], a: usize, e: usize, name: &[u8]) -> bool
     if s.len() < e {
         return false;
     }
-    same_bytes(s, a + 1, name, 0, name.len())
+    same_parts(s, a + 1, name, 0, name.len())
 }
 
 fn bytes_same(s: &[u8], a: usize, e: usize, b: usize, f: usize) -> bool
@@ -68,7 +45,7 @@ fn bytes_same(s: &[u8], a: usize, e: usize, b: usize, f: usize) -> bool
     if s.len() < f {
         return false;
     }
-    same_bytes(s, a + 1, s, b + 1, n - 2)
+    same_parts(s, a + 1, s, b + 1, n - 2)
 }
 
 fn codes_mean(s: &[u8], dialect: Dialect, a: usize, name: &[u8]) -> bool

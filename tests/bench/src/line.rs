@@ -20,9 +20,9 @@ pub struct Task<'a, T> {
 /// What one input takes on average.
 #[derive(Clone, Copy)]
 pub struct Line {
-    what: &'static str,
+    pub what: &'static str,
     bytes: usize,
-    product: Duration,
+    pub product: Duration,
     rust: Duration,
 }
 
@@ -56,6 +56,26 @@ pub fn measured<T, const N: usize>(
     std::array::from_fn(|i| Line::new(tasks[i].what, bytes / count, totals[i].map(each)))
 }
 
+/// Runs a task over all inputs, by the product and by Rust in turns, so many rounds. Each counts with the median of its
+/// rounds, which hardly moves where the machine is busy in some of them.
+pub fn median_in_turns<T>(inputs: &[T], bytes: impl Fn(&T) -> usize, rounds: usize, task: Task<T>) -> Line {
+    let Task { what, mut product, mut rust } = task;
+    assert!(inputs.iter().all(|input| product(input) == rust(input)), "the two differ on an input of: {what}");
+    let mut times = [Vec::new(), Vec::new()];
+    for _ in 0..rounds {
+        times[0].push(timed(inputs, &mut product));
+        times[1].push(timed(inputs, &mut rust));
+    }
+    let count = inputs.len();
+    let each = times.map(|times| median(times) / count as u32);
+    Line::new(what, inputs.iter().map(bytes).sum::<usize>() / count, each)
+}
+
+fn median(mut times: Vec<Duration>) -> Duration {
+    times.sort();
+    times[times.len() / 2]
+}
+
 fn timed<T>(batch: &[T], run: &mut Way<T>) -> Duration {
     let begun = Instant::now();
     for input in batch {
@@ -75,6 +95,11 @@ impl Line {
             "{:<48} {:>7} {:>11} {:>9} {:>13} {:>10} {:>6}",
             "what", "bytes", "product µs", "Rust µs", "product MB/s", "Rust MB/s", "ratio"
         )
+    }
+
+    /// The product's time by that of Rust.
+    pub fn ratio(&self) -> f64 {
+        self.product.as_secs_f64() / self.rust.as_secs_f64()
     }
 
     /// What is left of both times without a part of them.
@@ -97,7 +122,7 @@ impl fmt::Display for Line {
             self.bytes,
             rate(product),
             rate(rust),
-            product / rust
+            self.ratio()
         )
     }
 }

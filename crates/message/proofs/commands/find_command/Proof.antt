@@ -1,48 +1,38 @@
--- `commands::find_command` meets its contract: the rows left decide what all do. The measure is the rows left.
-use Prim.Native.Nat.{_-_}
-use Rattle.rules.specs.Rows.{rowCount}
-use Rattle.message.proofs.CommandLaws.{CommandLeft, command-begin, command-hit, command-on, command-end}
+-- `commands::find_command` meets its contract: a plain name is its bytes, any other is decoded.
+use Rattle.message.proofs.CommandLaws.{plain-found}
 use borrow.Author.Needs.{needs}
 use Rattle.message.proofs.commands.find_command.Statement.{statement}
 use Rattle.message.proofs.commands.find_command.Tie as tie
 
-abbrev Inv-loop : tie.InvT-loop
-Inv-loop schema rows m nodes k n r₀ r = CommandLeft schema rows m nodes k r (rowCount rows - r)
+node-word-requires : tie.Need-node-word-requires
+node-word-requires c κs = search needs
 
-abbrev μ-loop : tie.MeasureT-loop
-μ-loop schema rows m nodes k n r₀ r = rowCount rows - r
+plain-kind-requires : tie.Need-plain-kind-requires
+plain-kind-requires c κs = search needs
 
-loop-holds : tie.Need-loop-holds Inv-loop μ-loop
-loop-holds c = command-begin (c .before .before .before .before .args .schema .now) (c .before .before .before .before .args .rows .now) (c .before .before .before .before .args .m .now) (c .before .before .before .before .args .nodes .now) _
+inner-bytes-requires : tie.Need-inner-bytes-requires
+inner-bytes-requires c κs = search needs
 
-is-named-requires : tie.Need-is-named-requires Inv-loop μ-loop
-is-named-requires c κs = search needs
+named-command-requires : tie.Need-named-command-requires
+named-command-requires c κs = search needs
 
-returns : tie.Need-returns Inv-loop μ-loop
-returns c = command-hit (c .before .before .before .before .before .before .before .before .args .schema .now) (c .before .before .before .before .before .before .before .before .args .rows .now) (c .before .before .before .before .before .before .before .before .args .m .now) (c .before .before .before .before .before .before .before .before .args .nodes .now) (c .before .before .before .loop .inv) (search needs) (c .before .is-named .ensures) (c .if1 .taken)
+returns : tie.Need-returns
+returns c = plain-found (c .before .before .before .before .node-word .ensures) (c .before .before .before .plain-kind .ensures) (c .before .before .if1 .taken) (c .before .inner-bytes .ensures) (c .named-command .ensures)
 
-add-r : tie.Need-add-r Inv-loop μ-loop
-add-r c = search needs
+coded-command-requires : tie.Need-coded-command-requires
+coded-command-requires c κs = search needs
 
-loop-less : tie.Need-loop-less Inv-loop μ-loop
-loop-less c = search needs
-
-loop-again : tie.Need-loop-again Inv-loop μ-loop
-loop-again c = command-on (c .before .before .before .before .before .before .before .before .args .schema .now) (c .before .before .before .before .before .before .before .before .args .rows .now) (c .before .before .before .before .before .before .before .before .args .m .now) (c .before .before .before .before .before .before .before .before .args .nodes .now) (c .before .before .before .loop .inv) (search needs) (c .before .is-named .ensures) (c .if1 .left)
-
-returns-2 : tie.Need-returns-2 Inv-loop μ-loop
-returns-2 c = command-end (c .before .before .before .before .before .before .args .schema .now) (c .before .before .before .before .before .before .args .rows .now) (c .before .before .before .before .before .before .args .m .now) (c .before .before .before .before .before .before .args .nodes .now) (c .before .loop .inv) (search needs)
+returns-2 : tie.Need-returns-2
+returns-2 c = search needs
 
 pub find-command-spec : {M : Type 1} → statement M
 find-command-spec =
     tie.close
     (tie.spec
-    Inv-loop
-    μ-loop
-    loop-holds
-    is-named-requires
+    node-word-requires
+    plain-kind-requires
+    inner-bytes-requires
+    named-command-requires
     returns
-    add-r
-    loop-less
-    loop-again
+    coded-command-requires
     returns-2)

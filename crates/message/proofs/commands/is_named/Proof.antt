@@ -1,25 +1,51 @@
--- `commands::is_named` meets its contract: the row's kind, then its name.
-use Rattle.message.proofs.CommandLaws.{no-command, a-command}
-use borrow.Author.Tests.{not-true, not-false}
+-- `commands::is_named` meets its contract: the row's kind, the size of its name, then the name itself.
+use mathlib.Core.Path.{_∙_}
+use Rattle.message.proofs.CommandLaws.{no-command, short-name, whole-name}
 use borrow.Author.Needs.{needs}
 use Rattle.message.proofs.commands.is_named.Statement.{statement}
 use Rattle.message.proofs.commands.is_named.Tie as tie
 
-word-requires : tie.Need-word-requires
-word-requires c κs = search needs
+word-at-requires : tie.Need-word-at-requires
+word-at-requires c κs = search needs
 
 returns : tie.Need-returns
-returns c = no-command (c .before .before .before .before .before .before .args .schema .now) (c .before .before .before .before .before .before .args .rows .now) (c .before .before .before .before .before .before .args .m .now) (c .before .before .before .before .before .before .args .nodes .now) (c .before .word .ensures) (c .if1 .taken)
+returns c = no-command _ _ _ _ (c .before .word-at .ensures) (c .if1 .taken)
 
-name-of-requires : tie.Need-name-of-requires
-name-of-requires c κs = search needs
+word-at-requires-2 : tie.Need-word-at-requires-2
+word-at-requires-2 c κs = search needs
 
-node-means-requires : tie.Need-node-means-requires
-node-means-requires c κs = search needs
+wide-requires : tie.Need-wide-requires
+wide-requires c κs = search needs
 
 returns-2 : tie.Need-returns-2
-returns-2 c = a-command (c .before .before .before .before .before .before .before .before .args .schema .now) (c .before .before .before .before .before .before .before .before .args .rows .now) (c .before .before .before .before .before .before .before .before .args .m .now) (c .before .before .before .before .before .before .before .before .args .nodes .now) (c .before .before .before .word .ensures) (c .before .before .if1 .left) (c .before .name-of .ensures) (c .node-means .ensures)
+returns-2 c = short-name _ _ _ _ (c .before .before .before .before .word-at .ensures) (c .before .wide .ensures ∙ c .before .before .word-at2 .ensures) (c .if2 .taken)
+
+word-at-requires-3 : tie.Need-word-at-requires-3
+word-at-requires-3 c κs = search needs
+
+wide-requires-2 : tie.Need-wide-requires-2
+wide-requires-2 c κs = search needs
+
+part-of-requires : tie.Need-part-of-requires
+part-of-requires c κs = search needs
+
+same-bytes-requires : tie.Need-same-bytes-requires
+same-bytes-requires c κs = search needs
+
+returns-3 : tie.Need-returns-3
+returns-3 c = whole-name _ _ _ _ (c .before .before .before .before .before .before .before .before .word-at .ensures) (c .before .before .before .before .before .before .before .if1 .left) (c .before .before .wide2 .ensures ∙ c .before .before .before .word-at3 .ensures) (c .before .before .before .before .before .wide .ensures ∙ c .before .before .before .before .before .before .word-at2 .ensures) (c .before .part-of .ensures) (c .same-bytes .ensures)
 
 pub is-named-spec : {M : Type 1} → statement M
 is-named-spec =
-    tie.close (tie.spec word-requires returns name-of-requires node-means-requires returns-2)
+    tie.close
+    (tie.spec
+    word-at-requires
+    returns
+    word-at-requires-2
+    wide-requires
+    returns-2
+    word-at-requires-3
+    wide-requires-2
+    part-of-requires
+    same-bytes-requires
+    returns-3)

@@ -18,16 +18,16 @@ returns-2 c = name-other (λ w d. c .if2 .taken d)
 returns-3 : tie.Need-returns-3
 returns-3 c = name-other (λ w d. omega (arith, w .within))
 
-add-same-bytes : tie.Need-add-same-bytes
-add-same-bytes c = search needs
+add-same-parts : tie.Need-add-same-parts
+add-same-parts c = search needs
 
-same-bytes-requires : tie.Need-same-bytes-requires
-same-bytes-requires c κs = search needs
+same-parts-requires : tie.Need-same-parts-requires
+same-parts-requires c κs = search needs
 
 returns-4 : tie.Need-returns-4
-returns-4 c = name-told (c .before .before .if2 .left) (c .same-bytes .ensures)
+returns-4 c = name-told (c .before .before .if2 .left) (c .same-parts .ensures)
 
 pub bytes-mean-spec : {M : Type 1} → statement M
 bytes-mean-spec =
     tie.close
-    (tie.spec returns add-if2 returns-2 returns-3 add-same-bytes same-bytes-requires returns-4)
+    (tie.spec returns add-if2 returns-2 returns-3 add-same-parts same-parts-requires returns-4)

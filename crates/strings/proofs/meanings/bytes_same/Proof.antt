@@ -24,17 +24,17 @@ returns-5 c = strings-other (λ v w d. omega (arith, v .within))
 returns-6 : tie.Need-returns-6
 returns-6 c = strings-other (λ v w d. omega (arith, w .within))
 
-add-same-bytes : tie.Need-add-same-bytes
-add-same-bytes c = search needs
+add-same-parts : tie.Need-add-same-parts
+add-same-parts c = search needs
 
-add-same-bytes-2 : tie.Need-add-same-bytes-2
-add-same-bytes-2 c = search needs
+add-same-parts-2 : tie.Need-add-same-parts-2
+add-same-parts-2 c = search needs
 
-same-bytes-requires : tie.Need-same-bytes-requires
-same-bytes-requires c κs = search needs
+same-parts-requires : tie.Need-same-parts-requires
+same-parts-requires c κs = search needs
 
 returns-7 : tie.Need-returns-7
-returns-7 c = strings-told (c .before .before .before .before .if3 .left) (c .same-bytes .ensures)
+returns-7 c = strings-told (c .before .before .before .before .if3 .left) (c .same-parts .ensures)
 
 pub bytes-same-spec : {M : Type 1} → statement M
 bytes-same-spec =
@@ -46,7 +46,7 @@ bytes-same-spec =
     returns-4
     returns-5
     returns-6
-    add-same-bytes
-    add-same-bytes-2
-    same-bytes-requires
+    add-same-parts
+    add-same-parts-2
+    same-parts-requires
     returns-7)

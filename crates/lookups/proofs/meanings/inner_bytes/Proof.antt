@@ -1,11 +1,11 @@
--- `lists::inner_bytes` meets its contract: the words of the node say where the token stands.
+-- `meanings::inner_bytes` meets its contract: the words of the node say where the token stands.
 use Prim.Native.Nat.{_+_, _*_}
 use mathlib.Core.Path.{refl}
 use native.Mathlib.Omega.{arith}
-use Rattle.children.proofs.HashLaws.{token-bytes}
+use Rattle.lookups.proofs.TokenLaws.{token-bytes}
 use borrow.Author.Needs.{needs}
-use Rattle.children.proofs.lists.inner_bytes.Statement.{statement}
-use Rattle.children.proofs.lists.inner_bytes.Tie as tie
+use Rattle.lookups.proofs.meanings.inner_bytes.Statement.{statement}
+use Rattle.lookups.proofs.meanings.inner_bytes.Tie as tie
 use Rattle.text.specs.Nodes.{node-words}
 
 node-number-requires : tie.Need-node-number-requires

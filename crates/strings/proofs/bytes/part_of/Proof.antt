@@ -1,10 +1,10 @@
--- `table::names::part_of` gives n bytes from a on, or those that there are.
+-- `bytes::part_of` gives n bytes from a on, or those that there are.
 -- Three cases: past the end, up to the end, within.
 use native.Mathlib.Omega.{arith}
 use borrow.Author.Needs.{needs}
-use Rattle.rows.proofs.NameFacts.{part-past, part-rest, part-within}
-use Rattle.rows.proofs.names.part_of.Statement.{statement}
-use Rattle.rows.proofs.names.part_of.Tie as tie
+use Rattle.strings.proofs.Parts.{part-past, part-rest, part-within}
+use Rattle.strings.proofs.bytes.part_of.Statement.{statement}
+use Rattle.strings.proofs.bytes.part_of.Tie as tie
 
 sub-result : tie.Need-sub-result
 sub-result c = search needs
