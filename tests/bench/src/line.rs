@@ -56,26 +56,6 @@ pub fn measured<T, const N: usize>(
     std::array::from_fn(|i| Line::new(tasks[i].what, bytes / count, totals[i].map(each)))
 }
 
-/// Runs a task over all inputs, by the product and by Rust in turns, so many rounds. Each counts with the median of its
-/// rounds, which hardly moves where the machine is busy in some of them.
-pub fn median_in_turns<T>(inputs: &[T], bytes: impl Fn(&T) -> usize, rounds: usize, task: Task<T>) -> Line {
-    let Task { what, mut product, mut rust } = task;
-    assert!(inputs.iter().all(|input| product(input) == rust(input)), "the two differ on an input of: {what}");
-    let mut times = [Vec::new(), Vec::new()];
-    for _ in 0..rounds {
-        times[0].push(timed(inputs, &mut product));
-        times[1].push(timed(inputs, &mut rust));
-    }
-    let count = inputs.len();
-    let each = times.map(|times| median(times) / count as u32);
-    Line::new(what, inputs.iter().map(bytes).sum::<usize>() / count, each)
-}
-
-fn median(mut times: Vec<Duration>) -> Duration {
-    times.sort();
-    times[times.len() / 2]
-}
-
 fn timed<T>(batch: &[T], run: &mut Way<T>) -> Duration {
     let begun = Instant::now();
     for input in batch {

@@ -14,7 +14,7 @@ use reference::strings::Token;
 use reference::text::{read, Dialect, Node, Verdict};
 
 use crate::calls::ROWS;
-use crate::line::{median_in_turns, Line, Task};
+use crate::line::{measured, Line, Task};
 
 /// Commands of the table, with names of 40 bytes that differ in their last four only, the last of which is a digit.
 const COMMANDS: usize = 500;
@@ -39,6 +39,8 @@ const NAME_NODE: usize = 2;
 
 pub fn lines() -> Vec<Line> {
     let stocked = Table::new((0..COMMANDS).map(name));
+    let differ_first = Table::new((0..COMMANDS).map(|i| name_with(1, i)));
+    let differ_midway = Table::new((0..COMMANDS).map(|i| name_with(STEM.len() / 2, i)));
     let stop_lot_last = Table::new((1..COMMANDS).map(name).chain(["stop-lot".to_string()]));
     let missing = |escape: fn(&str) -> String| {
         OTHER_LAST.chars().map(|last| escape(&format!("{STEM}000{last}"))).collect::<Vec<_>>()
@@ -50,7 +52,10 @@ pub fn lines() -> Vec<Line> {
         stocked.line("100 lookups: a name in the first row", row(0)),
         stocked.line("100 lookups: a name in the middle row", row(COMMANDS / 2)),
         stocked.line("100 lookups: a name in the last row", row(COMMANDS - 1)),
+        differ_first.line("100 lookups: last row, first bytes differ", vec![name_with(1, COMMANDS - 1)]),
+        differ_midway.line("100 lookups: last row, middle bytes differ", vec![name_with(STEM.len() / 2, COMMANDS - 1)]),
         stocked.line("100 lookups: missing, first letter escaped", missing(first_escaped)),
+        stocked.line("100 lookups: missing, a letter that is no byte", vec![format!("\\u0173{}", &name(0)[1..])]),
         stocked.line("100 lookups: missing, escaped throughout", missing(all_escaped)),
         stocked.line("100 lookups: last row, first letter escaped", vec![first_escaped(&name(COMMANDS - 1))]),
         stop_lot_last.line("100 lookups: \\u0073top-lot in the last row", vec![first_escaped("stop-lot")]),
@@ -90,7 +95,12 @@ fn check(line: &Line) -> Check {
 }
 
 fn name(i: usize) -> String {
-    format!("{STEM}{i:04}")
+    name_with(STEM.len(), i)
+}
+
+/// A name with its four digits at a place.
+fn name_with(place: usize, i: usize) -> String {
+    format!("{}{i:04}{}", &STEM[..place], &STEM[place..])
 }
 
 fn first_escaped(name: &str) -> String {
@@ -146,7 +156,8 @@ impl Table {
             product: Box::new(|message| repeated(message, by_product)),
             rust: Box::new(|message| repeated(message, by_rust)),
         };
-        median_in_turns(&messages, |message| message.text.len() * LOOKUPS, ROUNDS, task)
+        let [line] = measured(&messages, |message| message.text.len() * LOOKUPS, ROUNDS, [task]);
+        line
     }
 
     fn found_by_product(&self, message: &Message) -> usize {
@@ -179,7 +190,7 @@ mod tests {
 
     #[test]
     fn names_are_of_the_kind_that_is_timed() {
-        assert!([name(0), name(499), format!("{STEM}000a")].iter().all(|name| name.len() == 40));
+        assert!([name(0), name_with(1, 499), format!("{STEM}000a")].iter().all(|name| name.len() == 40));
         assert!((0..COMMANDS).all(|i| !OTHER_LAST.contains(name(i).chars().last().unwrap())));
         assert_eq!(first_escaped("stop-lot"), "\\u0073top-lot");
     }
