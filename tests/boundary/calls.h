@@ -4,6 +4,7 @@
 
 #include "inputs.h"
 #include "memory.h"
+#include "windosprio.h"
 
 /* The most words lent: more than a message of the most bytes can need. */
 #define MOST_ROOM 65600
