@@ -1,25 +1,27 @@
 -- Laws of hashes: names that clash have one hash, so names of different hashes do not clash; hashes of rows are written one after the other.
 -- Runs of rows are apart where the name of each row of one is fresh in the other.
-use Prim.Native.Nat.{ℕ, _+_, _-_, _≤_, _<_}
+use Prim.Native.Nat.{ℕ, _+_, _-_, _≤_, _<_, _^_}
+use Prim.Native.Char.{code}
 use mathlib.Core.Path.{_≡_, refl, sym, ap, _∙_, subst}
 use mathlib.Core.Bool.{Bool, true, false, not}
 use mathlib.Core.Logic.{⊎-elim}
 use mathlib.Core.List.{List}
 use native.Mathlib.Nat.{eq-or-lt-of-le}
 use native.Mathlib.Omega.{arith}
-use lib.ListN.{length, getD, set, length-set}
-use lib.Seq.{getD-set-same, getD-set-other}
-use lib.Dec.{eqb}
-use borrow.Author.Tests.{eqb-false, not-true}
-use Rattle.grammar.proofs.Booleans.{clash as contradiction}
+use lib.ListN.{length, getD, take, drop, set, length-set, length-take, List·getD-eq-default}
+use lib.Seq.{getD-set-same, getD-set-other, getD-take, getD-drop}
+use lib.Dec.{eqb, ltb}
+use borrow.Author.Tests.{eqb-false, not-true, ltb-true, ltb-false}
+use Rattle.grammar.proofs.Booleans.{by, clash as contradiction}
 use Rattle.grammar.proofs.Lists.{same-true, different}
 use Rattle.grammar.specs.Notation.{apart}
-use Rattle.rules.specs.Names.{sameName, cName, clash}
-use Rattle.rules.specs.Rows.{walk, nameOf}
+use Rattle.rules.specs.Names.{sameName, cByte, cName, clash}
+use Rattle.rules.specs.Rows.{start, size, walk, nameOf}
 use Rattle.rules.specs.Rules.{namesOf, noClash}
 use Rattle.rows.specs.Rows.{Follows}
 use Rattle.rows.specs.Hashes.{ends, hashOf, Hashes, Other, freshIn}
 use Rattle.rows.proofs.ListLaws.{all-map}
+use Rattle.rows.proofs.NameFacts.{c-byte}
 use Rattle.rules.proofs.First.{decided}
 use Rattle.rules.proofs.Clashes.{fresh}
 use Rattle.rows.proofs.LoopLaws.{WalkLeft, AllWalk, left-at}
@@ -28,6 +30,34 @@ use Rattle.rows.proofs.LoopLaws.{WalkLeft, AllWalk, left-at}
 pub clash-hash : (x y : List ℕ) → clash x y ≡ true → hashOf x ≡ hashOf y
 unfolding clash hashOf
 clash-hash x y e = ap ends (same-true (cName x) (cName y) e)
+
+-- of bytes a hash is below 2 ^ 31
+c-small : (b : ℕ) → b < 256 → cByte b < 256
+c-small b h = by (λ n. n < 256) (eqb b (code "-")) (λ _. omega arith) (λ _. h)
+
+abbrev Bytes : List ℕ → Type 0
+Bytes x = (i : ℕ) → getD x i 0 < 256
+
+hash-small : (x : List ℕ) → Bytes x → hashOf x < 2 ^ 31
+unfolding hashOf
+hash-small x h =
+    let at : (i : ℕ) → getD (cName x) i 0 < 256 = λ i. rw (c-byte x i) (c-small (getD x i 0) (h i)) in
+    let n = length (cName x) in
+    omega (arith, at (n - n), at (n - 1), at (n - 2), at (n - 3))
+
+take-bytes : (n : ℕ) (x : List ℕ) → Bytes x → Bytes (take n x)
+take-bytes n x h i = go (ltb i n) refl
+  where
+    go : (b : Bool) → ltb i n ≡ b → getD (take n x) i 0 < 256
+    go true e = rw (getD-take n x i 0 (ltb-true i n e)) (h i)
+    go false e = let f : length (take n x) ≤ i = simp length-take (omega (arith, ltb-false i n e)) in rw (List·getD-eq-default (take n x) 0 {n = i} f) (omega arith)
+
+name-bytes : (S T : List ℕ) (r : ℕ) → Bytes S → Bytes (nameOf S T r)
+unfolding nameOf
+name-bytes S T r h = take-bytes (size T r) (drop (start T r) S) (λ i. rw (getD-drop (start T r) S i 0) (h (start T r + i)))
+
+pub hashes-small : {S T M : List ℕ} → Bytes S → Hashes S T M → (r : ℕ) → r < length M → getD M r 0 < 2 ^ 31
+hashes-small {S} {T} h k r l = rw (k .told r l) (hash-small (nameOf S T r) (name-bytes S T r h))
 
 -- a hash that is not there tells nothing
 pub hash-missing : {M : List ℕ} {r m : ℕ} → Other M r m false

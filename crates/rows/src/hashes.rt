@@ -1,34 +1,23 @@
 // Hashes: a number for each row that rows whose names clash share, so that few names are compared byte by byte.
+use crate::names::byte_back;
 use crate::names::c_byte;
 use crate::names::name_of;
 use crate::names::names_clash;
 use crate::names::same_bytes;
 use crate::rows::next_row;
 ghost use mathlib.Core.Path.{_≡_};
-ghost use Prim.Native.Nat.{_-_};
-ghost use lib.ListN.{length, getD};
 ghost use Rattle.grammar.specs.Notation.{apart};
 ghost use Rattle.rules.specs.Names.{sameName, cByte, clash};
 ghost use Rattle.rules.specs.Rows.{walk, nameOf};
 ghost use Rattle.rules.specs.Rules.{namesOf, noClash};
-ghost use Rattle.rows.specs.Hashes.{hashOf, Hashes, Other, freshIn};
+ghost use Rattle.rows.specs.Hashes.{back, hashOf, Hashes, Other, freshIn};
 ghost use Rattle.rows.specs.Rows.{Room};
 
-// What the byte k bytes before the end of a name, or the first, becomes in C; 0 of an empty name.
-fn byte_back(name: &[u8], k: usize) -> u8
-    ensures { λ r. ⌜ r ≡ cByte (getD (now (name .entry)) (length (now (name .entry)) - k) 0) ⌝ }
+// The byte k bytes before the end of a name, or the first, as it is in C; 0 of an empty name.
+fn c_byte_back(name: &[u8], k: usize) -> u8
+    ensures { λ r. ⌜ r ≡ cByte (back (now (name .entry)) k) ⌝ }
 {
-    let n = name.len();
-    if n == 0 {
-        return 0;
-    }
-    if k == 0 {
-        return 0;
-    }
-    if n < k {
-        return c_byte(name[0]);
-    }
-    c_byte(name[n - k])
+    c_byte(byte_back(name, k))
 }
 
 // A number that names share if they clash: of the length and the first byte, and of the last three bytes.
@@ -36,10 +25,10 @@ pub fn hash_of(name: &[u8]) -> u32
     ensures { λ r. ⌜ r ≡ hashOf (now (name .entry)) ⌝ }
 {
     let n = name.len();
-    let front = ((n + byte_back(name, n) as usize) % 256) as u32;
-    let a = byte_back(name, 1) as u32;
-    let b = byte_back(name, 2) as u32;
-    let c = byte_back(name, 3) as u32;
+    let front = ((n + c_byte_back(name, n) as usize) % 256) as u32;
+    let a = c_byte_back(name, 1) as u32;
+    let b = c_byte_back(name, 2) as u32;
+    let c = c_byte_back(name, 3) as u32;
     front + 37 * (a + 37 * (b + 37 * c))
 }
 

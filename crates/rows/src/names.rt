@@ -14,6 +14,24 @@ ghost use Rattle.grammar.specs.Notation.{text, same, all, digit};
 ghost use Rattle.rules.specs.Names.{letter, nameByte, goodName, cByte, clash};
 ghost use Rattle.rules.specs.Rows.{nameOf};
 ghost use Rattle.strings.specs.Classes.{classOf, tabulate};
+ghost use Rattle.rows.specs.Hashes.{back};
+
+// The byte k bytes before the end of a name, or the first of a shorter one; 0 of an empty name.
+pub fn byte_back(name: &[u8], k: usize) -> u8
+    ensures { λ r. ⌜ r ≡ back (now (name .entry)) k ⌝ }
+{
+    let n = name.len();
+    if n == 0 {
+        return 0;
+    }
+    if k == 0 {
+        return 0;
+    }
+    if n < k {
+        return name[0];
+    }
+    name[n - k]
+}
 
 // Whether two slices are equal: their lengths, their last bytes, then the rest.
 pub fn same_bytes(x: &[u8], y: &[u8]) -> bool

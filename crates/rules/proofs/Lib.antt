@@ -12,6 +12,7 @@ pub mod CellFinds
 pub mod CellDiscriminators
 pub mod SoundFacts
 pub mod Grid
+pub mod Mixes
 pub mod Lookups
 pub mod ReadingParts
 pub mod ReadingExact

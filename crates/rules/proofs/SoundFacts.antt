@@ -17,7 +17,7 @@ use Rattle.rules.specs.Kinds.{struct-kind, union-kind, branch-kind, alte
 use Rattle.rules.specs.Types.{column, sameKind}
 use Rattle.rules.specs.Names.{clash}
 use Rattle.rules.specs.Rows.{upFrom, rowCount, kind, isEnum, isStruct, isUnion, isAlternate, isCommand, base, typeRef, unionBase, discriminator, branchStruct, dataStruct, next, unnamed, owns, children, members, after, typeKind, nameOf, ownerLink}
-use Rattle.rules.specs.Rules.{everyRow, namesOf, is, sameKinds, kindsOf, noClash, those, isDefinition, definitionNames, distinctNames, goodChains, goodUnions, goodAlternates, chainFits, unionFits, alternateFits, discriminatorFits, branchFits}
+use Rattle.rules.specs.Rules.{everyRow, namesOf, is, sameKinds, kindsOf, noClash, those, isDefinition, definitionNames, distinctNames, goodChains, goodUnions, kindsFit, goodAlternates, chainFits, unionFits, alternateFits, discriminatorFits, branchFits}
 use Rattle.rules.specs.Envelope.{Names}
 use Rattle.rules.specs.Sound.{sound, restZero, structLinked, unionLinked, dataLinked, commandLinked, referencesFit, toStruct}
 use Rattle.rules.proofs.Lists.{none-not-some, and-left, and-right, and-of, or-cases, or-right, or-implies, not-of, all-true, is-true, is-at, in-those, in-upFrom, in-map, apart-only, apart-injective}
@@ -202,13 +202,14 @@ module _ (S T : List ℕ) (h : sound S T ≡ true) where
       (is-at (members T chain-structs (branchStruct T b)) (λ xs. noClash (namesOf S T ms) (namesOf S T xs)) bs (search (and-left, and-right)) f)
 
   -- alternatives
-  alternate-fits : (r : ℕ) → kind T r ≡ alternate-kind → alternateFits T r ≡ true
+  pub alternate-fits : (r : ℕ) → kind T r ≡ alternate-kind → alternateFits S T r ≡ true
   unfolding sound goodAlternates
-  alternate-fits r k = every-one T (isAlternate T) (alternateFits T) (search (and-left, and-right) depth 13) r (there r (omega arith)) (eq-eqb (kind T r) alternate-kind k)
+  alternate-fits r k = every-one T (isAlternate T) (alternateFits S T) (search (and-left, and-right) depth 13) r (there r (omega arith)) (eq-eqb (kind T r) alternate-kind k)
 
   kind-of : (r c : ℕ) → kind T r ≡ alternate-kind → List·Memᴰ c (children T r) → (k : Kind) × (typeKind T (typeRef T c) ≡ some k)
+  unfolding kindsFit
   kind-of r c e m =
-      let f : alternateFits T r ≡ true = alternate-fits r e in
+      let f : alternateFits S T r ≡ true = alternate-fits r e in
       let k : List·Memᴰ (typeKind T (typeRef T c)) (kindsOf T (children T r)) = in-map (λ x. typeKind T (typeRef T x)) (children T r) c m in
       let g = all-true (λ k. is k (λ _. true)) (kindsOf T (children T r)) (search (and-left, and-right)) (typeKind T (typeRef T c)) k in
       let i = is-true (typeKind T (typeRef T c)) (λ (k : Kind). true) g in
@@ -216,8 +217,9 @@ module _ (S T : List ℕ) (h : sound S T ≡ true) where
 
   of-one-kind : (r c c′ : ℕ) (k : Kind) → kind T r ≡ alternate-kind → List·Memᴰ c (children T r) → List·Memᴰ c′ (children T r)
       → typeKind T (typeRef T c) ≡ some k → typeKind T (typeRef T c′) ≡ some k → c ≡ c′
+  unfolding kindsFit
   of-one-kind r c c′ k e m m′ p q =
-      let f : alternateFits T r ≡ true = alternate-fits r e in
+      let f : alternateFits S T r ≡ true = alternate-fits r e in
       let z : sameKind k k ≡ true = eq-eqb (column k) (column k) refl in
       apart-only (λ x. typeKind T (typeRef T x)) sameKinds (children T r) (search (and-left, and-right)) c c′ m m′ (rw (p, q) z) (rw (p, q) z)
 

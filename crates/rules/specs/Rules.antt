@@ -5,10 +5,12 @@ use mathlib.Core.List.{List, [], _∷_, map}
 use mathlib.Core.Option.{Option, none, some}
 use lib.Dec.{eqb, ltb, leb}
 use Rattle.grammar.specs.Limits.{chain-structs}
-use Rattle.grammar.specs.Notation.{all, apart}
+use lib.ListN.{getD}
+use Rattle.grammar.specs.Notation.{text, digit, all, apart}
 use Rattle.grammar.specs.Tree.{Kind}
+use Rattle.grammar.specs.Tree.Kind.{number, boolean}
 use Rattle.rules.specs.Kinds.{value-kind, branch-kind}
-use Rattle.rules.specs.Types.{first-row, built-ins, sameKind}
+use Rattle.rules.specs.Types.{first-row, str-type, built-ins, sameKind}
 use Rattle.rules.specs.Names.{goodName, sameName, clash}
 use Rattle.rules.specs.Rows.{link, upFrom, rowCount, kind, isEnum, isStruct, isUnion, isAlternate, isCommand, count, base, typeRef, arrayMark, optional, unionBase, branchCount, discriminator, branchStruct, returns, unnamed, children, members, typeKind, nameOf}
 
@@ -103,20 +105,62 @@ module _ (S T : List ℕ) where
   goodUnions = everyRow T (λ r. not (isUnion T r) || unionFits r)
 
 module _ (T : List ℕ) where
-  -- 10: an alternate has an alternative, each has a JSON kind (any and alternates have none), and no two have the same
+  -- 10, the first of five: an alternate has an alternative
+  abbrev pub hasAlternative : ℕ → Bool
+  hasAlternative r = ltb 0 (count T r)
+
+  -- the second: each has a JSON kind (any and alternates have none), and no two have the same
   abbrev pub kindsOf : List ℕ → List (Option Kind)
   kindsOf rs = map (λ r. typeKind T (typeRef T r)) rs
 
-  abbrev pub alternateFits : ℕ → Bool
-  alternateFits r = ltb 0 (count T r) && all (λ k. is k (λ _. true)) (kindsOf (children T r)) && apart sameKinds (kindsOf (children T r))
+  unfoldable pub kindsFit : List ℕ → Bool
+  kindsFit rs = all (λ k. is k (λ _. true)) (kindsOf rs) && apart sameKinds (kindsOf rs)
 
+  -- a type of that JSON kind: of number they are the number types, built-ins 2 to 12, of boolean it is bool
+  abbrev pub ofJsonKind : Kind → ℕ → Bool
+  ofJsonKind k t = is (typeKind T t) (sameKind k)
+
+  abbrev pub typesOf : List ℕ → List ℕ
+  typesOf rs = map (typeRef T) rs
+
+-- what a value without its quotes is taken for, by its exact bytes: a number, true or false
+abbrev pub startsWithDigit : List ℕ → Bool
+startsWithDigit x = digit (getD x 0 0)
+
+abbrev pub onOrOff : List ℕ → Bool
+onOrOff x = sameName x (text "on") || sameName x (text "off")
+
+module _ (S T : List ℕ) where
+  -- type t is an enum, and some value of it has the property
+  abbrev pub hasValue : (List ℕ → Bool) → ℕ → Bool
+  hasValue f t = leb first-row t && isEnum T (t - first-row) && any f (namesOf S T (children T (t - first-row)))
+
+  -- the third, of every two alternatives, t and u their types: str, which takes any string, isn't mixed with a number type or bool
+  abbrev pub strMix : ℕ → ℕ → Bool
+  strMix t u = eqb t str-type && (ofJsonKind T number u || ofJsonKind T boolean u)
+
+  -- the fourth: an enum of which a value begins with a digit isn't mixed with a number type
+  abbrev pub digitMix : ℕ → ℕ → Bool
+  digitMix t u = hasValue startsWithDigit t && ofJsonKind T number u
+
+  -- the fifth: an enum that has the value on or off isn't mixed with bool
+  abbrev pub onOffMix : ℕ → ℕ → Bool
+  onOffMix t u = hasValue onOrOff t && ofJsonKind T boolean u
+
+  unfoldable pub unmixed : List ℕ → Bool
+  unmixed ts = all (λ t. all (λ u. not (strMix t u || digitMix t u || onOffMix t u)) ts) ts
+
+  abbrev pub alternateFits : ℕ → Bool
+  alternateFits r = hasAlternative T r && kindsFit T (children T r) && unmixed (typesOf T (children T r))
+
+  unfoldable pub goodAlternates : Bool
+  goodAlternates = everyRow T (λ r. not (isAlternate T r) || alternateFits r)
+
+module _ (T : List ℕ) where
   -- 11: a command returns nothing, or a struct or a union, or an array of these
   abbrev pub returnFits : ℕ → Bool
   returnFits t = eqb t 0 || leb first-row t && (isStruct T (t - first-row) || isUnion T (t - first-row))
 
 module _ (S T : List ℕ) where
-  unfoldable pub goodAlternates : Bool
-  goodAlternates = everyRow T (λ r. not (isAlternate T r) || alternateFits T r)
-
   unfoldable pub goodReturns : Bool
   goodReturns = everyRow T (λ r. not (isCommand T r) || returnFits T (returns T r))

@@ -25,7 +25,10 @@ first-row = suc (length built-ins)
 abbrev pub isBuiltIn : ℕ → Bool
 isBuiltIn t = ltb 0 t && ltb t first-row
 
--- the last built-in, which takes every value
+-- the built-in of all strings, and the last one, which takes every value
+abbrev pub str-type : ℕ
+str-type = 1
+
 abbrev pub any-type : ℕ
 any-type = length built-ins
 

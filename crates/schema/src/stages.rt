@@ -32,21 +32,26 @@ fn judge_room(table: &[u32], rows: &mut [u32], schema: &[u8]) -> SchemaAnswer
     SchemaAnswer::Accepted(n)
 }
 
-// The rules on chains, unions, alternates and returns.
-fn judge_definitions(schema: &[u8], table: &[u32], hashes: &[u32], rows: &mut [u32]) -> SchemaAnswer
-    requires { ⌜ (length (now table) < 2 ^ 32) × Zero (now rows) × IsTable (now schema) (now table) × Hashes (now schema) (now table) (now hashes) ⌝ }
+// The rules on chains, unions, alternates and returns. The words come with hashes of names.
+fn judge_definitions(
+    schema: &[u8],
+    table: &[u32],
+    words: &mut [u32],
+    rows: &mut [u32],
+) -> SchemaAnswer
+    requires { ⌜ (length (now table) < 2 ^ 32) × Zero (now rows) × IsTable (now schema) (now table) × Hashes (now schema) (now table) (now words) ⌝ }
     ensures { λ r. ⌜ Answered (now (schema .entry)) BadChain (now (rows .entry)) (now (rows .exit)) r ⌝ }
 {
-    if !every_row_fits(Rule::Chains, schema, table, hashes) {
+    if !every_row_fits(Rule::Chains, schema, table, words) {
         return SchemaAnswer::Refused(SchemaRefusal::BadChain);
     }
-    if !every_row_fits(Rule::Unions, schema, table, hashes) {
+    if !every_row_fits(Rule::Unions, schema, table, words) {
         return SchemaAnswer::Refused(SchemaRefusal::BadUnion);
     }
-    if !every_row_fits(Rule::Alternates, schema, table, hashes) {
+    if !every_row_fits(Rule::Alternates, schema, table, words) {
         return SchemaAnswer::Refused(SchemaRefusal::BadAlternate);
     }
-    if !every_row_fits(Rule::Returns, schema, table, hashes) {
+    if !every_row_fits(Rule::Returns, schema, table, words) {
         return SchemaAnswer::Refused(SchemaRefusal::BadReturn);
     }
     judge_room(table, rows, schema)

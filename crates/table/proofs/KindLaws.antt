@@ -1,4 +1,4 @@
--- Rules 10 and 11 of a row: JSON kinds as columns of the grid, alternatives that are apart, and what a command may return.
+-- JSON kinds as columns of the grid, alternatives whose kinds are apart, and what a command may return.
 -- Alternatives are taken off the front of their list.
 use Prim.Native.Nat.{ℕ, _-_, _≤_, _<_}
 use mathlib.Core.Path.{_≡_, refl, sym, ap, _∙_}
@@ -7,20 +7,19 @@ use mathlib.Core.List.{List, _∷_}
 use mathlib.Core.Option.{Option, none, some}
 use native.Mathlib.Omega.{arith}
 use lib.Dec.{eqb}
-use borrow.Author.Tests.{lt-ltb, le-leb, lt-leb, eq-eqb, ne-eqb}
+use borrow.Author.Tests.{le-leb, lt-leb, ne-eqb}
 use Rattle.grammar.specs.Notation.{all, apart}
 use Rattle.grammar.specs.Tree.{Kind}
 use Rattle.rules.specs.Kinds.{struct-kind, union-kind}
 use Rattle.rules.specs.Types.{first-row, column}
-use Rattle.rules.specs.Rows.{kind, count, typeRef, walk, children, typeKind}
-use Rattle.rules.specs.Rules.{is, sameKinds, kindsOf, alternateFits, returnFits}
+use Rattle.rules.specs.Rows.{kind, typeRef, typeKind}
+use Rattle.rules.specs.Rules.{is, sameKinds, kindsOf, kindsFit, returnFits}
 use Rattle.rules.proofs.Grid.{built-in-kind, row-kind}
 use Rattle.builtins.specs.Kinds.{no-column, kindColumn, builtInKind}
 use Rattle.builtins.proofs.KindLaws.{column-small}
-use Rattle.table.specs.RuleParts.{rowColumn, kindNew, kindsFit}
+use Rattle.table.specs.RuleParts.{rowColumn}
+use Rattle.table.specs.Alternatives.{columnOf, kindNew}
 use Rattle.rows.proofs.ListLaws.{all-map, all-same, eqb-sym}
-use Rattle.rows.specs.Rows.{Follows}
-use Rattle.rows.proofs.LoopLaws.{WalkLeft, left-at, left-hit, left-ends}
 
 -- the column of a type
 module _ (T : List ℕ) where
@@ -30,7 +29,7 @@ module _ (T : List ℕ) where
   pub row-column : {t k c : ℕ} → first-row ≤ t → k ≡ kind T (t - first-row) → c ≡ rowColumn k → c ≡ kindColumn (typeKind T t)
   row-column {t} {k} h p q = q ∙ ap rowColumn p ∙ sym (ap kindColumn (row-kind T t (t - first-row) (omega arith)))
 
-  pub column-at : (r : ℕ) {t k : ℕ} → k ≡ kindColumn (typeKind T t) → t ≡ typeRef T r → k ≡ kindColumn (typeKind T (typeRef T r))
+  pub column-at : (r : ℕ) {t k : ℕ} → k ≡ kindColumn (typeKind T t) → t ≡ typeRef T r → k ≡ columnOf T r
   column-at r e p = rw p at e
 
 -- alternatives
@@ -48,8 +47,8 @@ module _ (T : List ℕ) where
       all-map kindOf (λ y. not (sameKinds (some j) y)) l
       ∙ all-same (λ r. not (sameKinds (some j) (kindOf r))) (λ r. not (eqb (kindColumn (kindOf r)) (column j))) l (λ r. same-column j (kindOf r))
 
-  module _ (r : ℕ) (l : List ℕ) {k : ℕ} (e : k ≡ kindColumn (kindOf r)) where
-    kinds-none : k ≡ no-column → kindsFit T (r ∷ l) ≡ false
+  module _ (r : ℕ) (l : List ℕ) {k : ℕ} (e : k ≡ columnOf T r) where
+    pub kinds-none : k ≡ no-column → kindsFit T (r ∷ l) ≡ false
     unfolding kindsFit
     kinds-none z = go (kindOf r) refl
       where
@@ -57,7 +56,7 @@ module _ (T : List ℕ) where
         go none q = rw q
         go (some j) q = let c : kindColumn (kindOf r) ≡ column j = ap kindColumn q in absurd (omega (arith, column-small j))
 
-    kinds-more : (k ≡ no-column → ⊥) → kindsFit T (r ∷ l) ≡ kindNew T k l && kindsFit T l
+    pub kinds-more : (k ≡ no-column → ⊥) → kindsFit T (r ∷ l) ≡ kindNew T k l && kindsFit T l
     unfolding kindsFit
     kinds-more n = go (kindOf r) refl
       where
@@ -74,40 +73,6 @@ module _ (T : List ℕ) where
         go : (o : Option Kind) → kindOf r ≡ o → kindsFit T (r ∷ l) ≡ kindNew T k l && kindsFit T l
         go none q = absurd (n (e ∙ ap kindColumn q))
         go (some j) q = let c : k ≡ column j = e ∙ ap kindColumn q in rw (q, new-kinds j l, c) (in-front (kindNew T (column j) l))
-
--- a column against k
-module _ {x y k : ℕ} (p : x ≡ y) where
-  pub column-hit : x ≡ k → not (eqb y k) ≡ false
-  column-hit e = rw (eq-eqb y k (omega arith))
-
-  pub column-new : (x ≡ k → ⊥) → not (eqb y k) ≡ true
-  column-new n = rw (ne-eqb y k (omega arith))
-
--- a walk over alternatives: `whole` is true where those left fit
-module _ {T : List ℕ} {whole : Bool} {c n : ℕ} (l : WalkLeft (kindsFit T) T whole c n) where
-  pub kinds-end : n ≤ 0 → true ≡ whole
-  unfolding kindsFit
-  kinds-end h = left-ends l h
-
-  module _ (h : 0 < n) {k : ℕ} (p : k ≡ kindColumn (typeKind T (typeRef T c))) where
-    pub kinds-fail : k ≡ no-column → false ≡ whole
-    kinds-fail z = left-hit l h (λ rs. kinds-none T c rs p z)
-
-    module _ (m : k ≡ no-column → ⊥) {c′ : ℕ} (f : Follows T c c′) where
-      pub kinds-clash : kindNew T k (walk T c′ (n - 1)) ≡ false → false ≡ whole
-      kinds-clash e = sym (left-at l h (f .is) ∙ kinds-more T c (walk T c′ (n - 1)) p m ∙ rw e)
-
-      pub kinds-on : kindNew T k (walk T c′ (n - 1)) ≡ true → WalkLeft (kindsFit T) T whole c′ (n - 1)
-      kinds-on e = record { left = left-at l h (f .is) ∙ kinds-more T c (walk T c′ (n - 1)) p m ∙ rw e }
-
--- an alternate: some alternative, and alternatives that fit
-module _ (T : List ℕ) (r : ℕ) {n : ℕ} (p : n ≡ count T r) where
-  pub alternate-empty : n ≡ 0 → false ≡ alternateFits T r
-  alternate-empty z = rw (← p, z)
-
-  pub alternate-is : (n ≡ 0 → ⊥) → {b : Bool} → b ≡ kindsFit T (children T r) → b ≡ alternateFits T r
-  unfolding kindsFit
-  alternate-is h f = rw (← p, lt-ltb 0 n (omega arith)) f
 
 -- a return: nothing, or a struct or a union
 module _ (T : List ℕ) {t : ℕ} where

@@ -6,5 +6,7 @@ pub mod ReferenceLaws
 pub mod ChainLaws
 pub mod UnionLaws
 pub mod KindLaws
+pub mod AlternateLaws
+pub mod LookLaws
 pub mod RuleLaws
 pub mod SoundLaws

@@ -2,4 +2,6 @@
 pub mod Definitions
 pub mod Chains
 pub mod RuleParts
+pub mod Looks
+pub mod Alternatives
 pub mod Kept

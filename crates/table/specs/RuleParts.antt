@@ -1,18 +1,17 @@
 -- Serves contracts: the parts of rules that one function of the judge looks at.
 use Prim.Native.Nat.{ℕ, _+_, _-_}
-use mathlib.Core.Bool.{Bool, true, not, cond, _&&_, _||_}
+use mathlib.Core.Bool.{Bool, cond, _&&_, _||_}
 use mathlib.Core.List.{List}
 use mathlib.Core.Option.{none, some}
 use lib.Dec.{eqb, ltb, leb}
 use lib.ListN.{length}
 use Rattle.grammar.specs.Limits.{chain-structs}
-use Rattle.grammar.specs.Notation.{all, apart}
 use Rattle.grammar.specs.Tree.Kind.{object, string}
 use Rattle.rules.specs.Kinds.{enum-kind, struct-kind, union-kind}
 use Rattle.rules.specs.Types.{first-row}
 use Rattle.rules.specs.Rows.{rowCount, start, size, isEnum, typeRef, arrayMark, optional, unionBase, discriminator, branchStruct}
-use Rattle.rules.specs.Rows.{typeKind, nameOf}
-use Rattle.rules.specs.Rules.{is, everyRow, sameKinds, kindsOf, discriminatorRow, goodNames, distinctNames, goodChains, goodUnions, goodAlternates, goodReturns}
+use Rattle.rules.specs.Rows.{nameOf}
+use Rattle.rules.specs.Rules.{everyRow, discriminatorRow, goodNames, distinctNames, goodChains, goodUnions, goodAlternates, goodReturns}
 use Rattle.rules.specs.Sound.{laidOut, restZero, referencesFit}
 use Rattle.builtins.specs.Kinds.{kindColumn}
 use Rattle.table.specs.Chains.{chainEnds, hasChild, isMember, membersApart}
@@ -30,14 +29,6 @@ module _ (T : List ℕ) where
   -- the discriminator of union r can discriminate and is a member of the base, as a walk up the chain finds them
   unfoldable pub discriminates : ℕ → Bool
   discriminates r = ltb 0 (discriminator T r) && isMember T chain-structs (unionBase T r) (discriminatorRow T r) && canDiscriminate (discriminatorRow T r)
-
-  -- no row of a list has a type of the JSON kind with the column k
-  unfoldable pub kindNew : ℕ → List ℕ → Bool
-  kindNew k rs = all (λ r. not (eqb (kindColumn (typeKind T (typeRef T r))) k)) rs
-
-  -- of rows that are alternatives: each has a JSON kind, and no two the same
-  unfoldable pub kindsFit : List ℕ → Bool
-  kindsFit rs = all (λ k. is k (λ _. true)) (kindsOf T rs) && apart sameKinds (kindsOf T rs)
 
   unfoldable pub rowsFit : Bool
   rowsFit = everyRow T (λ r. restZero T r && referencesFit T r)

@@ -3,6 +3,7 @@ pub mod alternates;
 pub mod chains;
 pub mod layout;
 pub mod links;
+pub mod looks;
 pub mod names;
 pub mod returns;
 pub mod rule;

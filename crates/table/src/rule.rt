@@ -12,8 +12,7 @@ ghost use mathlib.Core.Path.{_≡_};
 ghost use Prim.Native.Nat.{_<_, _^_};
 ghost use lib.ListN.{length};
 ghost use Rattle.rows.specs.Rows.{Near};
-ghost use Rattle.rows.specs.Hashes.{Hashes};
-ghost use Rattle.table.specs.Kept.{ruledKind, fitsRule, keepsRule};
+ghost use Rattle.table.specs.Kept.{ruledKind, fitsRule, keepsRule, Lent, Judged};
 
 // A rule on the rows of one kind: the chain of a struct, a union, an alternate, what a command returns.
 pub enum Rule {
@@ -36,29 +35,29 @@ fn ruled_kind(rule: Rule) -> u32
 }
 
 // Whether row r, of the kind that the rule is on, keeps it.
-fn row_fits(rule: Rule, schema: &[u8], rows: &[u32], hashes: &[u32], r: usize) -> bool
-    requires { ⌜ Near r × Hashes (now schema) (now rows) (now hashes) ⌝ }
-    ensures { λ b. ⌜ b ≡ fitsRule rule (now (schema .entry)) (now (rows .entry)) r ⌝ }
+fn row_fits(rule: Rule, schema: &[u8], rows: &[u32], words: &mut [u32], r: usize) -> bool
+    requires { ⌜ Near r × Lent rule (now schema) (now rows) (now words) ⌝ }
+    ensures { λ b. ⌜ Judged rule (now (schema .entry)) (now (rows .entry)) (now (words .exit)) (fitsRule rule (now (schema .entry)) (now (rows .entry)) r) b ⌝ }
 {
     match rule {
-        Rule::Chains => chain_fits(schema, rows, hashes, r),
-        Rule::Unions => union_fits(schema, rows, hashes, r),
-        Rule::Alternates => alternate_fits(rows, r),
+        Rule::Chains => chain_fits(schema, rows, words, r),
+        Rule::Unions => union_fits(schema, rows, words, r),
+        Rule::Alternates => alternate_fits(schema, rows, words, r),
         Rule::Returns => return_fits(rows, wide(word(rows, r, row::RETURNS))),
     }
 }
 
-// Whether every row of the kind that the rule is on keeps it.
-pub fn every_row_fits(rule: Rule, schema: &[u8], rows: &[u32], hashes: &[u32]) -> bool
-    requires { ⌜ (length (now rows) < 2 ^ 32) × Hashes (now schema) (now rows) (now hashes) ⌝ }
-    ensures { λ b. ⌜ b ≡ keepsRule rule (now (schema .entry)) (now (rows .entry)) ⌝ }
+// Whether every row of the kind that the rule is on keeps it. The words hold hashes of names, and from rule 10 on what enums look like.
+pub fn every_row_fits(rule: Rule, schema: &[u8], rows: &[u32], words: &mut [u32]) -> bool
+    requires { ⌜ (length (now rows) < 2 ^ 32) × Lent rule (now schema) (now rows) (now words) ⌝ }
+    ensures { λ b. ⌜ Judged rule (now (schema .entry)) (now (rows .entry)) (now (words .exit)) (keepsRule rule (now (schema .entry)) (now (rows .entry))) b ⌝ }
 {
     let n = rows.len() / ROW_WORDS;
     let k = ruled_kind(rule);
     let mut r = 0;
     while r < n {
         if word(rows, r, row::KIND) == k {
-            if !row_fits(rule, schema, rows, hashes, r) {
+            if !row_fits(rule, schema, rows, words, r) {
                 return false;
             }
         }

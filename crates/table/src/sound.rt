@@ -74,21 +74,21 @@ fn is_shaped(schema: &[u8], rows: &[u32]) -> bool
     rows_fit(rows)
 }
 
-// Rules 8 to 11: chains, unions, alternates and what commands return.
-fn definitions_fit(schema: &[u8], rows: &[u32], hashes: &[u32]) -> bool
-    requires { ⌜ (length (now rows) < 2 ^ 32) × Hashes (now schema) (now rows) (now hashes) ⌝ }
+// Rules 8 to 11: chains, unions, alternates and what commands return. The words come with hashes of names.
+fn definitions_fit(schema: &[u8], rows: &[u32], words: &mut [u32]) -> bool
+    requires { ⌜ (length (now rows) < 2 ^ 32) × Hashes (now schema) (now rows) (now words) ⌝ }
     ensures { λ b. ⌜ b ≡ definitionsFit (now (schema .entry)) (now (rows .entry)) ⌝ }
 {
-    if !every_row_fits(Rule::Chains, schema, rows, hashes) {
+    if !every_row_fits(Rule::Chains, schema, rows, words) {
         return false;
     }
-    if !every_row_fits(Rule::Unions, schema, rows, hashes) {
+    if !every_row_fits(Rule::Unions, schema, rows, words) {
         return false;
     }
-    if !every_row_fits(Rule::Alternates, schema, rows, hashes) {
+    if !every_row_fits(Rule::Alternates, schema, rows, words) {
         return false;
     }
-    every_row_fits(Rule::Returns, schema, rows, hashes)
+    every_row_fits(Rule::Returns, schema, rows, words)
 }
 
 // Rules 5 to 11, of which 7 is that references fit; with room for a hash and a link of each row lent.

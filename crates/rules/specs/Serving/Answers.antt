@@ -26,7 +26,7 @@ use Rattle.rules.specs.Values.{_>>=_}
 use Rattle.rules.specs.Definitions.{Definition, definitions}
 use Rattle.rules.specs.Names.{sameName, clash}
 use Rattle.rules.specs.Rows.{rowCount, isCommand, nameOf, next, walk, past, unnamed, owns, firstChild, childCount, children, pastChildren, members, typeKind}
-use Rattle.rules.specs.Rules.{is, goodNames, distinctNames, goodChains, goodUnions, goodAlternates, goodReturns}
+use Rattle.rules.specs.Rules.{is, goodNames, distinctNames, goodChains, goodUnions, kindsFit, unmixed, goodAlternates, goodReturns}
 use Rattle.rules.specs.SchemaTable.{table, allRefer}
 use Rattle.rules.specs.SchemaAnswers.{refusalNumber, schemaOrder}
 use Rattle.rules.specs.Sound.{laidOut, memberLinked, unionLinked, dataLinked, commandLinked, sound}
@@ -99,7 +99,7 @@ module _ (S : List ℕ) (room : ℕ) where
   ofDefinitions js ds = schemaAnswered (tableIn ds) (first (schemaTest js ds) schemaOrder)
 
   unfoldable pub schemaResult : SchemaResult
-  unfolding readSchema definitions table allRefer clash goodNames distinctNames goodChains goodUnions goodAlternates goodReturns next walk past unnamed owns firstChild childCount children pastChildren members typeKind nameOf
+  unfolding readSchema definitions table allRefer clash goodNames distinctNames goodChains goodUnions kindsFit unmixed goodAlternates goodReturns next walk past unnamed owns firstChild childCount children pastChildren members typeKind nameOf
   schemaResult = let js = objectsIn (readSchema S) in ofDefinitions js (js >>= definitions)
 
 module _ (S T : List ℕ) where
@@ -164,5 +164,5 @@ unfolding readMessage laidOut next walk past unnamed owns firstChild childCount 
 soundResult S T m room = cond (ltb message-bytes (length m)) (refusedBy room M.TooLong) (textResult S T room (readMessage m))
 
 unfoldable pub messageResult : (S T m : List ℕ) → ℕ → MessageResult
-unfolding soundResult sound memberLinked unionLinked dataLinked commandLinked clash goodNames distinctNames goodChains goodUnions goodAlternates goodReturns
+unfolding soundResult sound memberLinked unionLinked dataLinked commandLinked clash goodNames distinctNames goodChains goodUnions kindsFit unmixed goodAlternates goodReturns
 messageResult S T m room = cond (sound S T) (soundResult S T m room) (refusedBy room M.UnsoundTable)

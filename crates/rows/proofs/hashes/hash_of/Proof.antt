@@ -8,8 +8,8 @@ use borrow.Author.Needs.{needs}
 use Rattle.rows.proofs.hashes.hash_of.Statement.{statement}
 use Rattle.rows.proofs.hashes.hash_of.Tie as tie
 
-byte-back-requires : tie.Need-byte-back-requires
-byte-back-requires c κs = search needs
+c-byte-back-requires : tie.Need-c-byte-back-requires
+c-byte-back-requires c κs = search needs
 
 cast-front : tie.Need-cast-front
 cast-front c = search needs
@@ -20,20 +20,20 @@ add-front c = search needs
 cast-front-2 : tie.Need-cast-front-2
 cast-front-2 c = search needs
 
-byte-back-requires-2 : tie.Need-byte-back-requires-2
-byte-back-requires-2 c κs = search needs
+c-byte-back-requires-2 : tie.Need-c-byte-back-requires-2
+c-byte-back-requires-2 c κs = search needs
 
 cast-a : tie.Need-cast-a
 cast-a c = search needs
 
-byte-back-requires-3 : tie.Need-byte-back-requires-3
-byte-back-requires-3 c κs = search needs
+c-byte-back-requires-3 : tie.Need-c-byte-back-requires-3
+c-byte-back-requires-3 c κs = search needs
 
 cast-b : tie.Need-cast-b
 cast-b c = search needs
 
-byte-back-requires-4 : tie.Need-byte-back-requires-4
-byte-back-requires-4 c κs = search needs
+c-byte-back-requires-4 : tie.Need-c-byte-back-requires-4
+c-byte-back-requires-4 c κs = search needs
 
 cast-c : tie.Need-cast-c
 cast-c c = search needs
@@ -61,21 +61,21 @@ unfolding hashOf
 returns c =
     let x = c .before .before .before .before .before .args .name .now in
     rw (c-length, c-byte x (length x - length x), c-byte x (length x - 1), c-byte x (length x - 2), c-byte x (length x - 3))
-    (rw (← c .before .before .before .byte-back .ensures, ← c .before .before .byte-back2 .ensures, ← c .before .byte-back3 .ensures, ← c .byte-back4 .ensures))
+    (rw (← c .before .before .before .c-byte-back .ensures, ← c .before .before .c-byte-back2 .ensures, ← c .before .c-byte-back3 .ensures, ← c .c-byte-back4 .ensures))
 
 pub hash-of-spec : {M : Type 1} → statement M
 hash-of-spec =
     tie.close
     (tie.spec
-    byte-back-requires
+    c-byte-back-requires
     cast-front
     add-front
     cast-front-2
-    byte-back-requires-2
+    c-byte-back-requires-2
     cast-a
-    byte-back-requires-3
+    c-byte-back-requires-3
     cast-b
-    byte-back-requires-4
+    c-byte-back-requires-4
     cast-c
     mul-result
     add-result

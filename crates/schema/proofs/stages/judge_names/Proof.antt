@@ -56,7 +56,7 @@ same-length-7 c = search needs
 
 returns-4 : tie.Need-returns-4
 unfolding rank
-returns-4 c = let p = c .before .before .before .before .before .before .before .before .before .before .before .before .before .before .before .before .before .before .before .before .before .before .before .pre in let S = c .before .before .before .before .before .before .before .before .before .before .before .before .before .before .before .before .before .before .before .before .before .before .before .args .schema .now in kept (p .4) BadName (goodNames S) refl refl (granted (c .before .before .before .before .before .before .before .before .before .before .before .before .before .before .before .before .before .good-names .ensures) (c .before .before .before .before .before .before .before .before .before .before .before .before .before .before .before .before .if1 .left)) (kept (p .4) RepeatedName (distinctNames S) refl refl (granted (c .before .before .before .before .before .before .before .before .before .distinct-names .ensures) (c .before .before .before .before .before .before .if2 .left)) (all-known (p .4) (p .5) (not-false _ (c .before .before .before .before .before .if3 .left)) (c .before .before .judge-definitions .ensures)))
+returns-4 c = let p = c .before .before .before .before .before .before .before .before .before .before .before .before .before .before .before .before .before .before .before .before .before .before .before .before .before .pre in let S = c .before .before .before .before .before .before .before .before .before .before .before .before .before .before .before .before .before .before .before .before .before .before .before .before .before .args .schema .now in kept (p .4) BadName (goodNames S) refl refl (granted (c .before .before .before .before .before .before .before .before .before .before .before .before .before .before .before .before .before .before .before .good-names .ensures) (c .before .before .before .before .before .before .before .before .before .before .before .before .before .before .before .before .before .before .if1 .left)) (kept (p .4) RepeatedName (distinctNames S) refl refl (granted (c .before .before .before .before .before .before .before .before .before .before .before .distinct-names .ensures) (c .before .before .before .before .before .before .before .before .if2 .left)) (all-known (p .4) (p .5) (not-false _ (c .before .before .before .before .before .before .before .if3 .left)) (c .before .before .before .before .judge-definitions .ensures)))
 
 pub judge-names-spec : {M : Type 1} → statement M
 judge-names-spec =

@@ -1,10 +1,9 @@
 -- `keeps_rules` meets its contract.
 -- The first of three tests that fails decides.
-use mathlib.Core.Path.{refl}
-use Rattle.table.specs.RuleParts.{keepsRules}
-use Rattle.rows.proofs.Walks.{denied, granted}
-use Rattle.table.proofs.DistinctLaws.{index-links}
 use borrow.Author.Needs.{needs}
+use Rattle.rows.proofs.Walks.{denied, granted}
+use Rattle.table.specs.RuleParts.{keepsRules}
+use Rattle.table.proofs.DistinctLaws.{index-links}
 use Rattle.table.proofs.sound.keeps_rules.Statement.{statement}
 use Rattle.table.proofs.sound.keeps_rules.Tie as tie
 
@@ -19,7 +18,7 @@ put-hashes-requires : tie.Need-put-hashes-requires
 put-hashes-requires c κs = search needs
 
 index-definitions-requires : tie.Need-index-definitions-requires
-index-definitions-requires c κs = (c .before .before .before .before .before .before .before .before .before .before .before .before .pre .1, c .before .before .before .before .before .before .before .before .before .before .before .before .pre .2, refl)
+index-definitions-requires c κs = search needs
 
 distinct-names-requires : tie.Need-distinct-names-requires
 distinct-names-requires c κs = (search needs, search needs, index-links (c .before .before .before .before .index-definitions .ensures), search needs)
@@ -45,7 +44,7 @@ same-length-4 c = search needs
 
 returns-3 : tie.Need-returns-3
 unfolding keepsRules
-returns-3 c = rw (granted (c .before .before .before .before .before .before .before .before .before .before .before .before .before .before .before .before .before .before .good-names .ensures) (c .before .before .before .before .before .before .before .before .before .before .before .before .before .before .before .before .before .if1 .left), granted (c .before .before .before .before .before .distinct-names .ensures) (c .before .before .if2 .left)) (c .definitions-fit .ensures)
+returns-3 c = rw (granted (c .before .before .before .before .before .before .before .before .before .before .before .before .before .before .before .before .before .before .before .before .good-names .ensures) (c .before .before .before .before .before .before .before .before .before .before .before .before .before .before .before .before .before .before .before .if1 .left), granted (c .before .before .before .before .before .before .before .distinct-names .ensures) (c .before .before .before .before .if2 .left)) (c .before .before .definitions-fit .ensures)
 
 pub keeps-rules-spec : {M : Type 1} → statement M
 keeps-rules-spec =
