@@ -18,12 +18,12 @@ const struct seed seeds[] = {
     },
     {
         "# lots\n"
-        "{'enum':'Grade','data':['fine','coarse','2nd']}"
+        "{'enum':'Grade','data':['fine','coarse','2nd']}{'enum':'Share','data':['half','all']}"
         "{'struct':'Base','data':{'id':'uint32','*grade':'Grade'}}"
         "{'struct':'Lot','base':'Base','data':{'name':'str','*parts':['Lot'],'*note':'any'}}"
         "{'struct':'Sack','data':{'weight':'number','*full':'bool'}}"
         "{'union':'Batch','base':{'kind':'Grade','*lots':['Lot']},'discriminator':'kind','data':{'fine':'Sack','2nd':'Base'}}"
-        "{'alternate':'Which','data':{'lot':'Lot','id':'int64','all':'bool','none':'null','name':'str'}}"
+        "{'alternate':'Which','data':{'lot':'Lot','id':'int64','all':'bool','none':'null','share':'Share'}}"
         "{'command':'move','data':{'what':['Which'],'*batch':'Batch'},'returns':['Lot'],'allow-oob':true}"
         "{'command':'look','data':'Lot','returns':'Batch'}"
         "{'command':'quit'}",
@@ -81,6 +81,8 @@ const char *const refused_schemas[] = {
     "{'enum':'e','data':['v']}{'struct':'s','data':{'d':'e'}}{'union':'u','base':{'d':'e'},'discriminator':'d','data':{'v':'s'}}",
     "{'alternate':'a','data':{'i':'int','n':'number'}}",
     "{'alternate':'a','data':{'o':'any'}}",
+    "{'alternate':'a','data':{'s':'str','b':'bool'}}",
+    "{'enum':'e','data':['off','0']}{'alternate':'a','data':{'e':'e','n':'number'}}",
     "{'command':'c','returns':'any'}",
     NULL,
 };

@@ -6,7 +6,7 @@ use reference::schema::compile_into;
 use reference::table::is_sound;
 use windosprio::calls;
 
-use crate::inputs::Inputs;
+use crate::inputs::{self, Inputs};
 use crate::line::{measured, Line, Task};
 
 pub const ROWS: usize = 1_024 * 8;
@@ -16,13 +16,20 @@ const SCHEMA_REPETITIONS: usize = 100;
 const MESSAGE_REPETITIONS: usize = 7;
 
 pub fn lines(inputs: &Inputs) -> Vec<Line> {
-    [schema_lines(&inputs.schemas), message_lines(&inputs.schemas[0], &inputs.messages)].concat()
+    let large = ["compile a schema of about 32 KB and 1,000 rows", "judge its table"];
+    let alternates = ["compile 200 alternates of an enum of 300 values", "judge their table"];
+    [
+        schema_lines(large, &inputs.schemas),
+        schema_lines(alternates, &[inputs::alternates()]),
+        message_lines(&inputs.schemas[0], &inputs.messages),
+    ]
+    .concat()
 }
 
-fn schema_lines(schemas: &[Schema]) -> Vec<Line> {
+fn schema_lines([compiled, judged]: [&'static str; 2], schemas: &[Schema]) -> Vec<Line> {
     let (mut rows, mut rust_rows) = (vec![0; ROWS], vec![0; ROWS]);
     let compile = Task {
-        what: "compile a schema of about 32 KB and 1,000 rows",
+        what: compiled,
         product: Box::new(|schema: &Schema| accepted(calls::compile(&schema.bytes, &mut rows))),
         rust: Box::new(|schema: &Schema| {
             let (number, count) = compile_into(&schema.bytes, &mut rust_rows);
@@ -30,7 +37,7 @@ fn schema_lines(schemas: &[Schema]) -> Vec<Line> {
         }),
     };
     let judge = Task {
-        what: "judge its table",
+        what: judged,
         product: Box::new(|schema: &Schema| usize::from(calls::is_sound(&schema.bytes, &schema.words))),
         rust: Box::new(|schema: &Schema| usize::from(is_sound(&schema.words, &schema.bytes))),
     };

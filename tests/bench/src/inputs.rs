@@ -1,6 +1,7 @@
 //! What is timed: large schemas with their tables, and messages for one of them.
 
 use generate::messages::Messages;
+use generate::model::{Definition, Model};
 use generate::schemas::{self, Schema};
 use generate::Random;
 
@@ -23,6 +24,18 @@ impl Inputs {
         let messages = (0..MESSAGES).map(|_| source.usual(random).message).collect();
         Inputs { schemas, messages }
     }
+}
+
+/// An enum, and alternates of it and an integer type, which it may stand beside: no value starts with a digit.
+pub fn alternates() -> Schema {
+    let values = (0..300).map(|i| format!("v{i:03}")).collect();
+    let of = |name: &str, of: &str| (name.to_string(), of.to_string());
+    let alternate = |i: usize| Definition::Alternate {
+        name: format!("Which{i:03}"),
+        alternatives: vec![of("word", "Word"), of("count", "int")],
+    };
+    let words = Definition::Enum { name: "Word".to_string(), values };
+    schemas::from_model(&Model { definitions: [words].into_iter().chain((0..200).map(alternate)).collect() })
 }
 
 fn long_schema(random: &mut Random) -> Schema {

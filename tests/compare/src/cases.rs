@@ -28,9 +28,11 @@ struct CaseSet {
 
 const SETS: &[CaseSet] = &[
     // All rules but those of change requests.
-    CaseSet { name: "base", folders: 240, calls: 0 },
+    CaseSet { name: "base", folders: 173, calls: 0 },
     // Names that meet in C.
-    CaseSet { name: "req02", folders: 60, calls: 222 },
+    CaseSet { name: "req02", folders: 53, calls: 169 },
+    // Stricter alternates.
+    CaseSet { name: "req05", folders: 60, calls: 216 },
     // Messages in pieces.
     CaseSet { name: "req10", folders: 0, calls: 254 },
 ];

@@ -38,9 +38,11 @@ pub fn table_of(schema: &[u8]) -> Vec<u32> {
     answer.words
 }
 
-/// Schemas beside the limits, with each fault and with names that meet or nearly do, each in rooms of every kind.
+/// Schemas beside the limits, with each fault, with names that meet or nearly do and with alternates of every two
+/// types, each in rooms of every kind.
 fn compare_fixed(tally: &mut Tally) -> Check {
-    for case in schemas::limits().into_iter().chain(schemas::every_fault()).chain(schemas::every_pair()) {
+    let cases = schemas::limits().into_iter().chain(schemas::every_fault());
+    for case in cases.chain(schemas::every_pair()).chain(schemas::every_mix()) {
         let answer = compare_schema(&case.bytes, case.room, 1, tally)?;
         check_number(&case, answer.number)?;
         for room in need(&case.bytes).every_room() {

@@ -2,7 +2,7 @@
 
 use std::collections::HashMap;
 
-use crate::names::{good_name, Names, Taken};
+use crate::names::{good_name, Names, Taken, TELLING_VALUES};
 use crate::Random;
 
 #[derive(Clone, Debug)]
@@ -144,6 +144,26 @@ impl Model {
     }
 }
 
+/// The JSON kinds of alternatives.
+#[derive(Clone, Copy, PartialEq, Eq)]
+enum Kind {
+    Null,
+    Bool,
+    Number,
+    String,
+    Object,
+}
+
+/// Whether an enum value starts with a digit, so that its enum can't stand beside a number type.
+pub fn looks_like_number(value: &str) -> bool {
+    value.starts_with(|letter: char| letter.is_ascii_digit())
+}
+
+/// Whether its enum can't stand beside bool.
+pub fn looks_like_bool(value: &str) -> bool {
+    value == "on" || value == "off"
+}
+
 /// Makes a valid model: names first, so that every type may refer to every other.
 struct Maker<'a> {
     random: &'a mut Random,
@@ -182,7 +202,12 @@ impl<'a> Maker<'a> {
     fn make_enums(&mut self) {
         for (i, name) in self.enums.clone().into_iter().enumerate() {
             let count = self.random.between(usize::from(i == 0), self.longest);
-            let values = Taken::default().take(self.random, count, true);
+            let mut taken = Taken::default();
+            let mut values = taken.take(self.random, count, true);
+            let value = *self.random.pick(&TELLING_VALUES);
+            if !values.is_empty() && self.random.one_in(3) && taken.insert(value) {
+                values.insert(self.random.below(values.len() + 1), value.to_string());
+            }
             self.model.definitions.push(Definition::Enum { name, values });
         }
     }
@@ -282,28 +307,41 @@ impl<'a> Maker<'a> {
         name
     }
 
-    /// One alternative for each of some JSON kinds.
+    /// One alternative for each of some JSON kinds; none of strings where no type of them may stand beside the others.
     fn make_alternates(&mut self) {
         for name in self.alternates.clone() {
-            let mut kinds = [0, 1, 2, 3, 4];
+            let mut kinds = [Kind::Null, Kind::Bool, Kind::Number, Kind::String, Kind::Object];
             self.random.shuffle(&mut kinds);
-            let count = self.random.between(1, kinds.len());
-            let names = Taken::default().take(self.random, count, false);
-            let alternatives =
-                names.into_iter().zip(kinds).map(|(name, kind)| (name, self.type_of_kind(kind))).collect();
+            let kinds = &kinds[..self.random.between(1, kinds.len())];
+            let types: Vec<_> = kinds.iter().filter_map(|&kind| self.type_of_kind(kind, kinds)).collect();
+            let names = Taken::default().take(self.random, types.len(), false);
+            let alternatives = names.into_iter().zip(types).collect();
             self.model.definitions.push(Definition::Alternate { name, alternatives });
         }
     }
 
-    fn type_of_kind(&mut self, kind: usize) -> String {
-        match kind {
-            0 => "null".to_string(),
-            1 => "bool".to_string(),
-            2 => self.random.pick(&BUILT_INS[1..12]).to_string(),
-            3 if self.random.one_in(2) => "str".to_string(),
-            3 => self.random.pick(&self.enums).clone(),
-            _ => self.any_object(),
+    /// A type that may stand beside others of some kinds, if there is one.
+    fn type_of_kind(&mut self, kind: Kind, beside: &[Kind]) -> Option<String> {
+        Some(match kind {
+            Kind::Null => "null".to_string(),
+            Kind::Bool => "bool".to_string(),
+            Kind::Number => self.random.pick(&BUILT_INS[1..12]).to_string(),
+            Kind::String => return self.string_type(beside.contains(&Kind::Number), beside.contains(&Kind::Bool)),
+            Kind::Object => self.any_object(),
+        })
+    }
+
+    /// str, or an enum, that may stand beside a number type, bool or both.
+    fn string_type(&mut self, number: bool, boolean: bool) -> Option<String> {
+        let fits = |name: &&String| {
+            let mut values = self.model.enum_values(name).iter();
+            !values.any(|value| number && looks_like_number(value) || boolean && looks_like_bool(value))
+        };
+        let mut types: Vec<_> = self.enums.iter().filter(fits).cloned().collect();
+        if !number && !boolean && (types.is_empty() || self.random.one_in(2)) {
+            types = vec!["str".to_string()];
         }
+        (!types.is_empty()).then(|| self.random.pick(&types).clone())
     }
 
     fn any_object(&mut self) -> String {

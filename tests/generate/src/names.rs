@@ -12,6 +12,10 @@ const LONGEST: usize = 63;
 
 const STEMS: [&str; 12] = ["lot", "stop", "Line", "batch", "valve", "mode", "Tank", "pump", "a", "q", "has", "List"];
 
+/// Enum values that a number or a bool could be meant by, and values beside them.
+pub const TELLING_VALUES: [&str; 14] =
+    ["on", "off", "On", "OFF", "on1", "o", "of", "offs", "0", "0a", "a0", "9", "9-", "o0"];
+
 /// The name that C has for it.
 fn in_c(name: &str) -> String {
     name.replace('-', "_")

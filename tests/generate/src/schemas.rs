@@ -5,6 +5,7 @@ mod faults;
 mod layout;
 mod limits;
 mod meeting;
+mod mixes;
 
 use crate::damage::damage;
 use crate::model::Model;
@@ -16,6 +17,7 @@ use crate::Random;
 
 pub use limits::{every_fault, limits};
 pub use meeting::{every_pair, every_respelled, Respelled};
+pub use mixes::{every_mix, every_respelled_value};
 
 const MOST_BYTES: usize = 32_768;
 const MOST_ROWS: usize = 1_024;

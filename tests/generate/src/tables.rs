@@ -1,6 +1,6 @@
 //! Tables beside schema bytes: compiled ones, ones with words changed, names moved or bytes added, and random words.
 
-use crate::names::{good_name, met};
+use crate::names::{good_name, met, TELLING_VALUES};
 use crate::schemas::{pad, Schema};
 use crate::Random;
 
@@ -59,7 +59,8 @@ fn moved_names(random: &mut Random, schema: &Schema) -> TableCase {
     case
 }
 
-/// A good name of any sort, or one that meets that of a row beside in C.
+/// A good name of any sort, one that tells a number or a bool as an enum value, or one that meets that of a row beside
+/// in C.
 fn any_name(random: &mut Random, case: &TableCase, row: usize) -> String {
     let place = (row / ROW + random.below(5)).saturating_sub(2) * ROW;
     let span = case.words.get(place + 1..place + 3).map(|span| (span[0] as usize, span[1] as usize));
@@ -67,6 +68,7 @@ fn any_name(random: &mut Random, case: &TableCase, row: usize) -> String {
     let known = known.map(|name| String::from_utf8_lossy(name).into_owned()).filter(|_| random.one_in(2));
     match known.and_then(|name| met(random, &name)) {
         Some(name) => name,
+        None if random.one_in(8) => random.pick(&TELLING_VALUES).to_string(),
         None => {
             let digit_first = random.one_in(4);
             good_name(random, digit_first)

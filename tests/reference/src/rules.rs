@@ -1,7 +1,9 @@
 //! Numbers 5, 6 and 8 to 11, judged of rows: of those a schema compiles to and of those of a table alike.
 //! From 8 on, all references are filled in and fit.
 
-use crate::builtins;
+use std::collections::HashMap;
+
+use crate::builtins::{self, JsonKind, STR};
 use crate::names::{self, InC, NameMap, NameSet};
 use crate::rows::{Rows, ALTERNATE, BRANCH, COMMAND, ENUM, LONGEST_CHAIN, STRUCT, UNION, VALUE};
 
@@ -105,17 +107,71 @@ fn members_names<'a>(rows: Rows<'a>, structure: usize) -> impl Iterator<Item = &
     rows.members(structure).map(move |member| rows.name(member))
 }
 
-/// 10: an alternate whose alternatives can't be told apart by JSON kind, or that has none.
+/// 10: an alternate without alternatives, or whose alternatives can't be told apart, by the JSON kind of a value or by
+/// its text alone.
 pub fn has_bad_alternate(rows: Rows) -> bool {
-    rows.of_kind(ALTERNATE).any(|alternate| rows.list(alternate).is_empty() || has_bad_alternative(rows, alternate))
+    let mut enums = Enums::new(rows);
+    rows.of_kind(ALTERNATE).any(|alternate| {
+        rows.list(alternate).is_empty()
+            || has_bad_alternative(rows, alternate)
+            || has_bad_mix(rows, alternate, &mut enums)
+    })
 }
 
 fn has_bad_alternative(rows: Rows, alternate: usize) -> bool {
     let mut taken = [false; 6];
-    rows.list(alternate).any(|row| match rows.json_kind(rows.type_reference(row)) {
+    types_of(rows, alternate).any(|reference| match rows.json_kind(reference) {
         Some(kind) => std::mem::replace(&mut taken[kind as usize], true),
         None => true,
     })
+}
+
+/// The type references of an alternate's alternatives.
+fn types_of<'a>(rows: Rows<'a>, alternate: usize) -> impl Iterator<Item = u32> + Clone + 'a {
+    rows.list(alternate).map(move |row| rows.type_reference(row))
+}
+
+/// Two types that a tool which drops the quotes of a value takes for each other: bool or a number type next to str, a
+/// number type next to an enum of which a value begins with a digit, bool next to an enum that has on or off.
+fn has_bad_mix(rows: Rows, alternate: usize, enums: &mut Enums) -> bool {
+    let has = |kind: JsonKind| types_of(rows, alternate).any(|reference| rows.json_kind(reference) == Some(kind));
+    let (number, boolean) = (has(JsonKind::Number), has(JsonKind::Bool));
+    (number || boolean)
+        && types_of(rows, alternate).any(|reference| match Rows::referred(reference) {
+            None => reference == STR,
+            Some(row) if rows.kind(row) == ENUM => {
+                let Looks { like_number, like_bool } = enums.looks(row);
+                number && like_number || boolean && like_bool
+            }
+            Some(_) => false,
+        })
+}
+
+/// What some value of an enum looks like without its quotes.
+#[derive(Clone, Copy)]
+struct Looks {
+    like_number: bool,
+    like_bool: bool,
+}
+
+/// The enums of a table, the values of each looked through at most once.
+struct Enums<'a> {
+    rows: Rows<'a>,
+    known: HashMap<usize, Looks>,
+}
+
+impl<'a> Enums<'a> {
+    fn new(rows: Rows<'a>) -> Self {
+        Enums { rows, known: HashMap::new() }
+    }
+
+    fn looks(&mut self, row: usize) -> Looks {
+        let values = self.rows.list(row).map(|value| self.rows.name(value));
+        *self.known.entry(row).or_insert_with(|| Looks {
+            like_number: values.clone().any(|value| value.first().is_some_and(u8::is_ascii_digit)),
+            like_bool: values.clone().any(|value| matches!(value, b"on" | b"off")),
+        })
+    }
 }
 
 /// 11: a command returns what isn't made of objects.

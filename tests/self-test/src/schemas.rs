@@ -10,8 +10,8 @@ use reference::table::is_sound;
 const WHOLE_ROOM: usize = 1_024 * 8;
 
 pub fn check_limits(tally: &mut Tally) -> Check {
-    let mut cases = schemas::limits().into_iter().chain(schemas::every_fault()).chain(schemas::every_pair());
-    cases.try_for_each(|case| check_case(&case, tally))
+    let cases = schemas::limits().into_iter().chain(schemas::every_fault());
+    cases.chain(schemas::every_pair()).chain(schemas::every_mix()).try_for_each(|case| check_case(&case, tally))
 }
 
 /// No fault, each single one, each pair, in turn.

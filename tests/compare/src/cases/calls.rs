@@ -1,5 +1,5 @@
-//! A line of a file of calls: what a call is handed and its whole answer. Of the words lent those used stand there; all
-//! later ones are 0.
+//! A line of a file of calls: what a call is handed and its whole answer. The words of an answer are its rows or
+//! records alone: what was lent beyond them must hold 0.
 
 use generate::Random;
 use harness::{ensure, Check};

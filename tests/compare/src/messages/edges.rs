@@ -129,9 +129,12 @@ const SCHEMA: &str = "
     {'struct':'B','data':{'*n':'int'}}
     {'struct':'S','base':'B','data':{'m':'str'}}
     {'struct':'T','data':{'*tree':'T','*any':'any','*xs':['X'],'*ns':['uint8'],'*anys':['any'],'*e':'E','*u':'U',
-                          '*x':'X','*b':'bool','*r':'number','*s':'str','*z':'null','*wide':'uint64','*es':['E']}}
+                          '*x':'X','*ys':['Y'],'*b':'bool','*r':'number','*s':'str','*z':'null','*wide':'uint64',
+                          '*es':['E']}}
     {'union':'U','base':{'t':'E','*k':'int'},'discriminator':'t','data':{'v':'S','7':'B'}}
-    {'alternate':'X','data':{'n':'int','o':'B','s':'str','z':'null'}}
+    {'enum':'F','data':['one','two']}
+    {'alternate':'X','data':{'n':'int','o':'B','s':'F','z':'null'}}
+    {'alternate':'Y','data':{'o':'B','s':'str','z':'null'}}
     {'command':'c','data':'T'}
     {'command':'none'}
     {'command':'empty','data':{}}
@@ -236,7 +239,11 @@ const SMALL: &[(&str, u32)] = &[
     (r#"{"execute":"c","arguments":{"u":{"k":1}}}"#, 29),
     (r#"{"execute":"c","arguments":{"u":"v"}}"#, 29),
     // Alternates: by JSON kind, without a second try.
-    (r#"{"execute":"c","arguments":{"x":1,"xs":["1",null,{},{"n":1},-5]}}"#, 0),
+    (r#"{"execute":"c","arguments":{"x":1,"xs":["one",null,{},{"n":1},-5]}}"#, 0),
+    (r#"{"execute":"c","arguments":{"x":"t\u0077o","ys":["1","one","",null,{},{"n":1}]}}"#, 0),
+    (r#"{"execute":"c","arguments":{"x":"1"}}"#, 29),
+    (r#"{"execute":"c","arguments":{"ys":["1",1]}}"#, 29),
+    (r#"{"execute":"c","arguments":{"ys":[true]}}"#, 29),
     (r#"{"execute":"c","arguments":{"x":true}}"#, 29),
     (r#"{"execute":"c","arguments":{"x":[]}}"#, 29),
     (r#"{"execute":"c","arguments":{"x":1.5}}"#, 29),

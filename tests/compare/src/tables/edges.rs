@@ -2,7 +2,7 @@
 
 use std::time::{Duration, Instant};
 
-use generate::schemas::{every_respelled, Respelled};
+use generate::schemas::{every_respelled, every_respelled_value, Respelled};
 use harness::{ensure, Check, Tally};
 
 use super::compare_table;
@@ -117,9 +117,10 @@ fn check_relinked_tables(check: &mut impl FnMut(&[u32], &[u8], bool) -> Check) -
     Ok(())
 }
 
-/// Compiled tables beside bytes in which two of their names meet in C.
+/// Compiled tables beside bytes in which two of their names meet in C, or an enum has another value beside a number or
+/// bool type.
 fn check_respelled_schemas(check: &mut impl FnMut(&[u32], &[u8], bool) -> Check) -> Check {
-    for Respelled { schema, bytes, sound } in every_respelled() {
+    for Respelled { schema, bytes, sound } in every_respelled().chain(every_respelled_value()) {
         let table = table_of(&schema);
         check(&table, &schema, true)?;
         check(&table, &bytes, sound)?;
@@ -161,6 +162,11 @@ type Rows = &'static [[u32; 8]];
 type Words = &'static [(u32, bool)];
 type Spellings = &'static [(&'static str, bool)];
 
+/// Rows: 0 E, 3 F, 6 G, 9 S; 10 A with its alternatives 11 and 12, 13 B with 14 and 15, 16 C with 17 and 18.
+const MIXED: &str = "{'enum':'E','data':['x','on']}{'enum':'F','data':['y','0']}{'enum':'G','data':['On','a0']}
+    {'struct':'S','data':{}}{'alternate':'A','data':{'s':'G','b':'bool'}}{'alternate':'B','data':{'s':'G','n':'int'}}
+    {'alternate':'C','data':{'s':'G','z':'null'}}";
+
 /// A schema, a row and a place from 1 on; the words there, each with whether the table is then sound.
 const RELINKED: &[(&str, usize, usize, Words)] = &[
     // A discriminator: the base's own `t`, that of another struct, another member, no member.
@@ -201,6 +207,13 @@ const RELINKED: &[(&str, usize, usize, Words)] = &[
         5,
         &[(0, true), (1, false), (3, false), (5, true), (2, false), (7, false)],
     ),
+    // An alternative beside bool, beside a number type and beside null: an enum with neither on nor a digit first, one
+    // with on, one with a digit, str, a struct, other built-ins.
+    (MIXED, 11, 4, &[(22, true), (16, false), (19, true), (1, false), (25, true), (14, true), (12, true), (13, false)]),
+    (MIXED, 14, 4, &[(22, true), (16, true), (19, false), (1, false), (25, true), (14, true), (12, false), (13, true)]),
+    (MIXED, 17, 4, &[(22, true), (16, true), (19, true), (1, true), (25, true), (14, false), (12, true), (13, true)]),
+    // A type beside the enum with neither.
+    (MIXED, 12, 4, &[(13, true), (2, true), (3, true), (12, true), (14, true), (1, false), (16, false), (22, false)]),
     // A command's return: a struct, a union or an array of these.
     (
         "{'command':'c','returns':['S']}{'struct':'S','data':{}}{'enum':'E','data':[]}{'alternate':'A','data':{'x':'S'}}",

@@ -1,6 +1,6 @@
 //! Definitions that are each refused with one number, whatever valid schema they stand in.
 
-use super::meeting;
+use super::{meeting, mixes};
 use crate::names::{met, Names};
 use crate::tree::{parse_schema, Tree};
 use crate::Random;
@@ -15,6 +15,7 @@ pub fn trees(random: &mut Random, names: &mut Names, number: u32) -> Vec<Tree> {
         (8, 0) => long_chain(random),
         (8, 1) => long_inheritance(random),
         (9, 1) => long_union(random),
+        (10, 0 | 1) => mixes::fault(random),
         (_, 2) => meeting::fault(random, number).unwrap_or_else(|| random.pick(texts(number)).to_string()),
         _ => random.pick(texts(number)).to_string(),
     };
@@ -374,6 +375,13 @@ const BAD_ALTERNATES: &[&str] = &[
     "{'alternate':'%a','data':{'x':'%b'}}{'alternate':'%b','data':{'x':'str'}}",
     "{'alternate':'%a','data':{'x':'int','y':'number'}}",
     "{'alternate':'%a','data':{'x':'int8','y':'bool','z':'size'}}",
+    "{'alternate':'%a','data':{'x':'str','y':'int'}}",
+    "{'alternate':'%a','data':{'x':'number','y':'null','z':'str'}}",
+    "{'alternate':'%a','data':{'x':'bool','y':'str'}}",
+    "{'alternate':'%a','data':{'x':'%b','y':'int'}}{'enum':'%b','data':['x','y','0']}",
+    "{'enum':'%b','data':['9z','x']}{'alternate':'%a','data':{'w':'%c','x':'size','y':'%b'}}{'struct':'%c','data':{}}",
+    "{'alternate':'%a','data':{'x':'bool','y':'%b'}}{'enum':'%b','data':['x','on']}",
+    "{'alternate':'%a','data':{'x':'%b','y':'bool'}}{'enum':'%b','data':['off','x']}",
     "{'alternate':'%a','data':{'x':'str','y':'str'}}",
     "{'alternate':'%a','data':{'x':'str','y':'%b'}}{'enum':'%b','data':[]}",
     "{'alternate':'%a','data':{'x':'%b','y':'%c'}}{'enum':'%b','data':['x']}{'enum':'%c','data':['y']}",

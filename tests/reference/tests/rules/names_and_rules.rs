@@ -235,9 +235,44 @@ fn alternatives_differ_in_json_kind_and_are_neither_any_nor_alternates() {
         10,
         &["{'alternate':'a','data':{'x':'bool','y':'bool'}}", "{'alternate':'a','data':{'x':'null','y':'null'}}"],
     );
-    all_are(0, &["{'alternate':'a','data':{'v':'E','w':'number','x':'U','y':'bool','z':'null'}}"]);
+    all_are(
+        0,
+        &["{'enum':'e','data':['v']}{'alternate':'a','data':{'v':'e','w':'number','x':'U','y':'bool','z':'null'}}"],
+    );
     all_are(0, &["{'enum':'e','data':[]}{'alternate':'a','data':{'x':'e','y':'int'}}"]);
     all_are(10, &["{'enum':'e','data':[]}{'alternate':'a','data':{'x':'e','y':'str'}}"]);
+}
+
+#[test]
+fn str_stands_beside_no_number_type_and_not_beside_bool() {
+    for (other, number) in
+        [("int", 10), ("number", 10), ("uint8", 10), ("size", 10), ("bool", 10), ("null", 0), ("S", 0)]
+    {
+        all_are(number, &[&format!("{{'alternate':'a','data':{{'x':'str','y':'{other}'}}}}")]);
+        all_are(number, &[&format!("{{'alternate':'a','data':{{'x':'{other}','y':'str'}}}}")]);
+    }
+    all_are(0, &["{'alternate':'a','data':{'x':'str','y':'null','z':'U'}}"]);
+    all_are(10, &["{'alternate':'a','data':{'x':'str','y':'null','z':'int64'}}"]);
+}
+
+#[test]
+fn an_enum_stands_beside_what_none_of_its_values_looks_like() {
+    let values = [("on", 0, 10), ("off", 0, 10), ("On", 0, 0), ("on1", 0, 0), ("o", 0, 0), ("offs", 0, 0)];
+    let digits = [("0", 10, 0), ("0a", 10, 0), ("9", 10, 0), ("a0", 0, 0), ("a", 0, 0)];
+    for (value, with_number, with_bool) in values.into_iter().chain(digits) {
+        for list in
+            [format!("'{value}'"), format!("'{value}','x'"), format!("'x','{value}','y'"), format!("'x','{value}'")]
+        {
+            let with =
+                |others: &str| format!("{{'alternate':'a','data':{{'e':'e',{others}}}}}{{'enum':'e','data':[{list}]}}");
+            all_are(with_number, &[&with("'n':'int'"), &with("'n':'number'"), &with("'z':'null','n':'size','s':'S'")]);
+            all_are(with_bool, &[&with("'b':'bool'"), &with("'s':'U','b':'bool','z':'null'")]);
+            all_are(with_number.max(with_bool), &[&with("'n':'int8','b':'bool'")]);
+            all_are(0, &[&with("'z':'null','s':'S'")]);
+        }
+    }
+    all_are(10, &["{'alternate':'a','data':{'e':'E','n':'int'}}"]);
+    all_are(0, &["{'alternate':'a','data':{'e':'E','b':'bool'}}"]);
 }
 
 #[test]

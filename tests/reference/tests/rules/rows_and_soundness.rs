@@ -184,6 +184,24 @@ fn a_table_whose_names_meet_in_c_is_unsound() {
 }
 
 #[test]
+fn a_table_with_an_alternate_of_types_taken_for_each_other_is_unsound() {
+    let schema = "{'enum':'E','data':['x','y0','no']}{'alternate':'A','data':{'e':'E','n':'int'}}";
+    let rows = table(schema.as_bytes());
+    for (bytes, sound) in [("'x','0y'", false), ("'7','y0'", false), ("'x','yy'", true)] {
+        assert_eq!(is_sound(&rows, schema.replace("'x','y0'", bytes).as_bytes()), sound, "{bytes}");
+    }
+    assert!(is_sound(&rows, schema.replace("'no'", "'on'").as_bytes()));
+    for (reference, sound) in [(13, true), (1, false), (14, true)] {
+        assert_eq!(sound_with(schema, &[(6, 4, reference)]), sound, "{reference}");
+    }
+    let boolean = schema.replace("'int'", "'bool'");
+    let rows = table(boolean.as_bytes());
+    assert!(is_sound(&rows, boolean.replace("'y0'", "'0y'").as_bytes()));
+    assert!(!is_sound(&rows, boolean.replace("'no'", "'on'").as_bytes()));
+    assert!(!sound_with("{'struct':'S','data':{}}{'alternate':'A','data':{'s':'str','o':'S'}}", &[(3, 4, 2)]));
+}
+
+#[test]
 fn the_rules_hold_of_the_rows() {
     let schema = format!("{TYPES}{{'struct':'s','base':'S','data':{{'n':'int'}}}}{{'command':'c','returns':'S'}}");
     let e = schema.find('E').unwrap() as u32;
