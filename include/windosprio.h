@@ -65,7 +65,7 @@ enum windosprio_schema_refusal {
     WINDOSPRIO_SCHEMA_UNKNOWN_NAME = 7,     /* a name that refers to no definition of a fitting kind */
     WINDOSPRIO_SCHEMA_BAD_CHAIN = 8,        /* a chain of bases with a cycle, over 16 structs, or a member twice */
     WINDOSPRIO_SCHEMA_BAD_UNION = 9,        /* no branch, or a discriminator or branch that doesn't fit */
-    WINDOSPRIO_SCHEMA_BAD_ALTERNATE = 10,   /* an alternate without alternatives, or two of one JSON kind */
+    WINDOSPRIO_SCHEMA_BAD_ALTERNATE = 10,   /* an alternate without alternatives, or two that can't be told apart */
     WINDOSPRIO_SCHEMA_BAD_RETURN = 11,      /* a return other than a struct, a union or an array of these */
     WINDOSPRIO_SCHEMA_TOO_MANY_ROWS = 12,   /* over WINDOSPRIO_ROWS rows needed */
     WINDOSPRIO_SCHEMA_NO_ROOM = 13          /* fewer whole rows lent than needed */
