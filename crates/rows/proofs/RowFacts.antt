@@ -12,7 +12,6 @@ use lib.ListN.{getD}
 use mir.Syntax.{w32}
 use mir.Val.{Fits}
 use borrow.Author.Tests.{eq-eqb, ne-eqb}
-use Rattle.grammar.specs.Limits.{row-words}
 use Rattle.rules.specs.Kinds.{struct-kind, union-kind, command-kind}
 use Rattle.rules.specs.Rows.{kind, start, size, base, isEnum, isStruct, isUnion, isAlternate, count, branchCount, next, unnamed, owns, childCount, ownerLink}
 use Rattle.rows.specs.Rows.{Follows}
@@ -66,6 +65,6 @@ module _ (T : List ℕ) (small : (k : ℕ) → Fits w32 (getD T k 0)) where
   childCount-small r = go (isEnum T r || isStruct T r || isAlternate T r) (isUnion T r)
     where
       go : (a b : Bool) → cond a (count T r) (cond b (branchCount T r) 0) < 2 ^ 32
-      go true b = small (row-words * r + 3) .fits
-      go false true = small (row-words * r + 4) .fits
+      go true b = small _ .fits
+      go false true = small _ .fits
       go false false = omega arith

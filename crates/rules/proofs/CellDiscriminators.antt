@@ -15,7 +15,7 @@ use Rattle.grammar.specs.Limits.{row-words}
 use Rattle.rules.specs.Definitions.{Name, Data, Definition}
 use Rattle.rules.specs.SchemaTable.{tableFrom, memberIn, memberInChain}
 use Rattle.rules.specs.Serving.RawTable.{EveryName}
-use Rattle.rules.specs.Rows.{rowCount, kind, count, base, next, walk, firstChild, childCount, children, members, after, nameOf}
+use Rattle.rules.specs.Rows.{rowCount, word, kind, start, size, count, base, next, walk, firstChild, childCount, children, members, after, nameOf}
 use Rattle.rules.specs.Rows as Rows
 use Rattle.rules.specs.Serving.Cells.{Entry, blank, entries, wordsOf, wordsFrom}
 use Rattle.rules.specs.Serving.Cells.Entry.{enumRow, alternateRow, valueRow, structRow, inlineRow, memberRow, unionRow, branchRow, alternativeRow, commandRow}
@@ -26,11 +26,29 @@ use Rattle.rules.proofs.Cells.{table-words}
 use Rattle.rules.proofs.CellRows.{Behind, word-is, word-past, rows-are, kind-past}
 use Rattle.rules.proofs.CellLayout.{table-laid-out}
 
--- words 1 to 5 of every row are the same
+-- the word of a union's row that its discriminator becomes; every kind of row has the words before it whatever discriminators become
+abbrev pub discriminator-word : ℕ
+discriminator-word = 5
+
 pub record Alike (U T : List ℕ) : Type 0 where
-  pub same-word : (r i : ℕ) → i < 5 → getD U (row-words * r + i) 0 ≡ getD T (row-words * r + i) 0
+  pub same-word : (r i : ℕ) → i < discriminator-word → word U r i ≡ word T r i
 
 module _ {U T : List ℕ} (a : Alike U T) where
+  same-kind : (r : ℕ) → kind U r ≡ kind T r
+  same-kind r = a .same-word r 0 (omega arith)
+
+  same-start : (r : ℕ) → start U r ≡ start T r
+  same-start r = a .same-word r 1 (omega arith)
+
+  same-size : (r : ℕ) → size U r ≡ size T r
+  same-size r = a .same-word r 2 (omega arith)
+
+  same-count : (r : ℕ) → count U r ≡ count T r
+  same-count r = a .same-word r 3 (omega arith)
+
+  same-base : (r : ℕ) → base U r ≡ base T r
+  same-base r = a .same-word r 4 (omega arith)
+
   alike-next : (r : ℕ) → next U r ≡ next T r
   unfolding next
   alike-next r = refl
@@ -47,19 +65,19 @@ module _ {U T : List ℕ} (a : Alike U T) where
 
   pub alike-unnamed : (r : ℕ) → Rows.unnamed U r ≡ Rows.unnamed T r
   unfolding Rows.unnamed
-  alike-unnamed r = rw (a .same-word r 0 (omega arith), a .same-word r 1 (omega arith), a .same-word r 2 (omega arith), a .same-word r 4 (omega arith))
+  alike-unnamed r = rw (same-kind r, same-start r, same-size r, same-base r)
 
   alike-owns : (r : ℕ) → Rows.owns U r ≡ Rows.owns T r
   unfolding Rows.owns
-  alike-owns r = rw (alike-next r, alike-unnamed (next T r), a .same-word r 0 (omega arith), a .same-word r 3 (omega arith))
+  alike-owns r = rw (alike-next r, alike-unnamed (next T r), same-kind r, same-count r)
 
   alike-first : (r : ℕ) → firstChild U r ≡ firstChild T r
   unfolding firstChild
-  alike-first r = rw (alike-owns r, alike-next r, alike-next (next T r), a .same-word (next T r) 3 (omega arith), alike-past (count T (next T r)) (next T (next T r)))
+  alike-first r = rw (alike-owns r, alike-next r, alike-next (next T r), same-count (next T r), alike-past (count T (next T r)) (next T (next T r)))
 
   alike-count : (r : ℕ) → childCount U r ≡ childCount T r
   unfolding childCount
-  alike-count r = rw (a .same-word r 0 (omega arith), a .same-word r 3 (omega arith), a .same-word r 4 (omega arith))
+  alike-count r = rw (same-kind r, same-count r, same-base r)
 
   pub alike-children : (r : ℕ) → children U r ≡ children T r
   unfolding children
@@ -70,11 +88,11 @@ module _ {U T : List ℕ} (a : Alike U T) where
   alike-members zero zero = refl
   alike-members zero (suc r) = refl
   alike-members (suc n) zero = refl
-  alike-members (suc n) (suc r) = rw (a .same-word r 4 (omega arith), alike-members n (base T r), alike-children r)
+  alike-members (suc n) (suc r) = rw (same-base r, alike-members n (base T r), alike-children r)
 
   pub alike-name : (S : List ℕ) (r : ℕ) → nameOf S U r ≡ nameOf S T r
   unfolding nameOf
-  alike-name S r = rw (a .same-word r 1 (omega arith), a .same-word r 2 (omega arith))
+  alike-name S r = rw (same-start r, same-size r)
 
   alike-member : (S x ms : List ℕ) → memberIn S U x ms ≡ memberIn S T x ms
   alike-member S x [] = refl
@@ -130,12 +148,12 @@ module _ (f g : Name → ℕ) (h k : ℕ → Name → ℕ) where
       rw (same-words r e (same-discriminator r e (q r (omega arith) (omega arith))), same-rows (suc r) es (λ j a b. q j (omega arith) (omega arith)))
 
   -- a union's words but for its discriminator
-  pub union-words : (r : ℕ) (n : Name) (b : Data) (discriminator : Name) (c : ℕ) (l : List ℕ) → set (wordsOf f g h r (unionRow n b discriminator c) ++ l) 5 (k r discriminator) ≡ wordsOf f g k r (unionRow n b discriminator c) ++ l
+  pub union-words : (r : ℕ) (n : Name) (b : Data) (discriminator : Name) (c : ℕ) (l : List ℕ) → set (wordsOf f g h r (unionRow n b discriminator c) ++ l) discriminator-word (k r discriminator) ≡ wordsOf f g k r (unionRow n b discriminator c) ++ l
   union-words r n b discriminator c l = refl
 
 -- all words but those of discriminators are the same: take the other's for a union
 module _ (f g : Name → ℕ) (h k : ℕ → Name → ℕ) where
-  pub head-words : (r : ℕ) (e : Entry) → take 5 (wordsOf f g h r e) ≡ take 5 (wordsOf f g k r e)
+  pub head-words : (r : ℕ) (e : Entry) → take discriminator-word (wordsOf f g h r e) ≡ take discriminator-word (wordsOf f g k r e)
   head-words r (enumRow n c) = refl
   head-words r (alternateRow n c) = refl
   head-words r (valueRow n) = refl
@@ -147,14 +165,14 @@ module _ (f g : Name → ℕ) (h k : ℕ → Name → ℕ) where
   head-words r (alternativeRow p) = refl
   head-words r (commandRow n b t oob) = refl
 
-  word-alike : (r i : ℕ) (e : Entry) → i < 5 → getD (wordsOf f g h r e) i 0 ≡ getD (wordsOf f g k r e) i 0
+  word-alike : (r i : ℕ) (e : Entry) → i < discriminator-word → getD (wordsOf f g h r e) i 0 ≡ getD (wordsOf f g k r e) i 0
   word-alike r i e l =
-      sym (getD-take 5 (wordsOf f g h r e) i 0 l) ∙ ap (λ w. getD w i 0) (head-words r e) ∙ getD-take 5 (wordsOf f g k r e) i 0 l
+      sym (getD-take discriminator-word (wordsOf f g h r e) i 0 l) ∙ ap (λ w. getD w i 0) (head-words r e) ∙ getD-take discriminator-word (wordsOf f g k r e) i 0 l
 
   pub words-alike : (es : List Entry) → Alike (wordsFrom f g h 0 es) (wordsFrom f g k 0 es)
   words-alike es = record { same-word = λ r i l. go r i l (ltb r (length es)) refl }
     where
-      go : (r i : ℕ) → i < 5 → (b : Bool) → ltb r (length es) ≡ b → getD (wordsFrom f g h 0 es) (row-words * r + i) 0 ≡ getD (wordsFrom f g k 0 es) (row-words * r + i) 0
+      go : (r i : ℕ) → i < discriminator-word → (b : Bool) → ltb r (length es) ≡ b → getD (wordsFrom f g h 0 es) (row-words * r + i) 0 ≡ getD (wordsFrom f g k 0 es) (row-words * r + i) 0
       go r i l true e =
           let m : r < length es = ltb-true r (length es) e in
           word-is f g h es r i m (omega arith) ∙ word-alike r i (getD es r blank) l ∙ sym (word-is f g k es r i m (omega arith))

@@ -1,46 +1,76 @@
 -- What a sound table asks of each row, of a row that was written from an entry: unused words 0, flags 0 or 1, and references to rows of fitting kinds,
 -- given that the names which refer became such references. By the ten kinds of entries.
-use Prim.Native.Nat.{ℕ, suc, _-_, _<_}
-use mathlib.Core.Path.{_≡_, refl}
+use Prim.Native.Nat.{ℕ, zero, suc, _+_, _-_, _≤_, _<_}
+use mathlib.Core.Path.{_≡_, refl, _∙_}
 use mathlib.Core.Bool.{Bool, true, false, _&&_, _||_}
 use mathlib.Core.List.{List}
 use mathlib.Core.Option.{Option, none, some}
 use native.Mathlib.Omega.{arith}
 use lib.Dec.{eqb, ltb}
 use lib.ListN.{length, getD}
+use Rattle.grammar.specs.Limits.{row-words}
+use Rattle.grammar.specs.Notation.{all}
 use borrow.Author.Tests.{eq-eqb}
-use Rattle.rules.specs.Kinds.{member-kind, union-kind}
+use Rattle.rules.specs.Kinds.{enum-kind, value-kind, struct-kind, member-kind, union-kind, branch-kind, alternate-kind, alternative-kind, command-kind}
 use Rattle.rules.specs.Values.{_>>=_, ifAbsent}
 use Rattle.rules.specs.Definitions.{Name, TypeText, Data}
 use Rattle.rules.specs.Definitions.Data.{inline, named}
-use Rattle.rules.specs.Rows.{word, kind, unionBase, discriminator}
+use Rattle.rules.specs.Rows.{upFrom, word, kind, base, typeRef, arrayMark, optional, unionBase, discriminator, ownerLink, allowOob, returns, returnsArray}
 use Rattle.rules.specs.Rows as Rows
 use Rattle.rules.specs.SchemaTable.{inlineMembers, flag, listFlag, typeOf, dataLink}
 use Rattle.rules.specs.Serving.RawTable.{IfThere}
-use Rattle.rules.specs.Sound.{restZero, memberLinked, unionLinked, dataLinked, commandLinked, referencesFit, isFlag, toStruct, toType}
+use Rattle.rules.specs.Sound.{wordsUsed, restZero, memberLinked, unionLinked, dataLinked, commandLinked, referencesFit, isFlag, toStruct, toType}
 use Rattle.rules.specs.Serving.Cells.{Entry, blank, wordsOf, wordsFrom, isInline, owns}
 use Rattle.rules.specs.Serving.Cells.Entry.{enumRow, alternateRow, valueRow, structRow, inlineRow, memberRow, unionRow, branchRow, alternativeRow, commandRow}
-use Rattle.rules.proofs.Lists.{clash, or-left, or-right}
+use Rattle.rules.proofs.Lists.{clash, and-left, and-right, and-of, or-left, or-right}
 use Rattle.rules.proofs.CellRows.{word-is}
 
--- the words of row r of T, which follow each other in ws
+-- the words of row r of T are ws, one after another
 pub record RowIs (T : List ℕ) (r : ℕ) (ws : List ℕ) : Type 0 where
-  pub word-0 : kind T r ≡ getD ws 0 0
-  pub word-3 : word T r 3 ≡ getD ws 3 0
-  pub word-4 : word T r 4 ≡ getD ws 4 0
-  pub word-5 : word T r 5 ≡ getD ws 5 0
-  pub word-6 : word T r 6 ≡ getD ws 6 0
-  pub word-7 : word T r 7 ≡ getD ws 7 0
+  pub same-word : (i : ℕ) → i < row-words → word T r i ≡ getD ws i 0
 
 pub row-is : (f g : Name → ℕ) (h : ℕ → Name → ℕ) (es : List Entry) (r : ℕ) → r < length es → RowIs (wordsFrom f g h 0 es) r (wordsOf f g h r (getD es r blank))
-row-is f g h es r l = record {
-  word-0 = word-is f g h es r 0 l (omega arith);
-  word-3 = word-is f g h es r 3 l (omega arith);
-  word-4 = word-is f g h es r 4 l (omega arith);
-  word-5 = word-is f g h es r 5 l (omega arith);
-  word-6 = word-is f g h es r 6 l (omega arith);
-  word-7 = word-is f g h es r 7 l (omega arith);
-}
+row-is f g h es r l = record { same-word = λ i k. word-is f g h es r i l k }
+
+module _ {T : List ℕ} {r : ℕ} {ws : List ℕ} (w : RowIs T r ws) where
+  kind-is : kind T r ≡ getD ws 0 0
+  kind-is = w .same-word 0 (omega arith)
+
+  type-is : typeRef T r ≡ getD ws 3 0
+  type-is = w .same-word 3 (omega arith)
+
+  array-is : arrayMark T r ≡ getD ws 4 0
+  array-is = w .same-word 4 (omega arith)
+
+  optional-is : optional T r ≡ getD ws 5 0
+  optional-is = w .same-word 5 (omega arith)
+
+  -- a link to a struct that is no base: a union's, a branch's or a command's
+  struct-is : ownerLink T r ≡ getD ws 3 0
+  struct-is = w .same-word 3 (omega arith)
+
+  base-is : base T r ≡ getD ws 4 0
+  base-is = w .same-word 4 (omega arith)
+
+  oob-is : allowOob T r ≡ getD ws 4 0
+  oob-is = w .same-word 4 (omega arith)
+
+  returns-is : returns T r ≡ getD ws 5 0
+  returns-is = w .same-word 5 (omega arith)
+
+  returns-array-is : returnsArray T r ≡ getD ws 6 0
+  returns-array-is = w .same-word 6 (omega arith)
+
+  zero-from : (a n : ℕ) → ((i : ℕ) → a ≤ i → i < a + n → i < row-words) → all (λ i. eqb (getD ws i 0) 0) (upFrom a n) ≡ true → all (λ i. eqb (word T r i) 0) (upFrom a n) ≡ true
+  zero-from a zero b z = refl
+  zero-from a (suc n) b z =
+      let z0 : eqb (getD ws a 0) 0 ≡ true = and-left (eqb (getD ws a 0) 0) (all (λ i. eqb (getD ws i 0) 0) (upFrom (suc a) n)) z in
+      let zs : all (λ i. eqb (getD ws i 0) 0) (upFrom (suc a) n) ≡ true = and-right (eqb (getD ws a 0) 0) (all (λ i. eqb (getD ws i 0) 0) (upFrom (suc a) n)) z in
+      and-of (eqb (word T r a) 0) (all (λ i. eqb (word T r i) 0) (upFrom (suc a) n)) (rw (w .same-word a (b a (omega arith) (omega arith))) z0) (zero-from (suc a) n (λ i l m. b i (omega arith) (omega arith)) zs)
+
+  -- the words that a row of kind k doesn't use are 0
+  unused : (k : ℕ) → getD ws 0 0 ≡ k → all (λ i. eqb (getD ws i 0) 0) (upFrom (wordsUsed T k) (row-words - wordsUsed T k)) ≡ true → restZero T r ≡ true
+  unused k e z = rw (kind-is ∙ e) (zero-from (wordsUsed T k) (row-words - wordsUsed T k) (λ i l m. omega arith) z)
 
 module _ (T : List ℕ) (f g : Name → ℕ) where
   -- what a name that refers became is a reference to a type, or a link to a struct
@@ -94,16 +124,16 @@ module _ (T : List ℕ) (f g : Name → ℕ) where
   module _ (h : ℕ → Name → ℕ) where
     -- unused words are 0
     pub rest-zero : (r : ℕ) (e : Entry) → RowIs T r (wordsOf f g h r e) → restZero T r ≡ true
-    rest-zero r (enumRow n c) w = rw (w .word-0) (rw (w .word-4, w .word-5, w .word-6, w .word-7))
-    rest-zero r (valueRow n) w = rw (w .word-0) (rw (w .word-3, w .word-4, w .word-5, w .word-6, w .word-7))
-    rest-zero r (structRow n b c) w = rw (w .word-0) (rw (w .word-5, w .word-6, w .word-7))
-    rest-zero r (inlineRow c) w = rw (w .word-0) (rw (w .word-5, w .word-6, w .word-7))
-    rest-zero r (memberRow m) w = rw (w .word-0) (rw (w .word-6, w .word-7))
-    rest-zero r (unionRow n b d c) w = rw (w .word-0) (rw (w .word-6, w .word-7))
-    rest-zero r (branchRow p) w = rw (w .word-0) (rw (w .word-4, w .word-5, w .word-6, w .word-7))
-    rest-zero r (alternateRow n c) w = rw (w .word-0) (rw (w .word-4, w .word-5, w .word-6, w .word-7))
-    rest-zero r (alternativeRow p) w = rw (w .word-0) (rw (w .word-4, w .word-5, w .word-6, w .word-7))
-    rest-zero r (commandRow n a t oob) w = rw (w .word-0) (rw (w .word-7))
+    rest-zero r (enumRow n c) w = unused w enum-kind refl refl
+    rest-zero r (valueRow n) w = unused w value-kind refl refl
+    rest-zero r (structRow n b c) w = unused w struct-kind refl refl
+    rest-zero r (inlineRow c) w = unused w struct-kind refl refl
+    rest-zero r (memberRow m) w = unused w member-kind refl refl
+    rest-zero r (unionRow n b d c) w = unused w union-kind refl refl
+    rest-zero r (branchRow p) w = unused w branch-kind refl refl
+    rest-zero r (alternateRow n c) w = unused w alternate-kind refl refl
+    rest-zero r (alternativeRow p) w = unused w alternative-kind refl refl
+    rest-zero r (commandRow n a t oob) w = unused w command-kind refl refl
 
     -- references fit, given that a union's discriminator is a member
     abbrev pub DiscriminatorLinked : ℕ → Type 0
@@ -111,18 +141,18 @@ module _ (T : List ℕ) (f g : Name → ℕ) where
 
     pub references-fit : (r : ℕ) (e : Entry) → RowIs T r (wordsOf f g h r e) → EntryLinked e → Rows.owns T r ≡ owns e → DiscriminatorLinked r → referencesFit T r ≡ true
     unfolding memberLinked unionLinked dataLinked commandLinked
-    references-fit r (enumRow n c) w k i t = rw (w .word-0)
-    references-fit r (valueRow n) w k i t = rw (w .word-0)
-    references-fit r (structRow n b c) w k i t = rw (w .word-0) (rw (w .word-4, base-linked b k))
-    references-fit r (inlineRow c) w k i t = rw (w .word-0) (rw (w .word-4))
+    references-fit r (enumRow n c) w k i t = rw (kind-is w)
+    references-fit r (valueRow n) w k i t = rw (kind-is w)
+    references-fit r (structRow n b c) w k i t = rw (kind-is w) (rw (base-is w, base-linked b k))
+    references-fit r (inlineRow c) w k i t = rw (kind-is w) (rw (base-is w))
     references-fit r (memberRow m) w k i t =
-        rw (w .word-0) (rw (w .word-3, w .word-4, w .word-5, k, is-flag (m .type .list), is-flag (m .optional)))
-    references-fit r (unionRow n b d c) w k i t = rw (w .word-0) (rw (w .word-3, union-linked r b k i, t (w .word-0)))
-    references-fit r (branchRow p) w k i t = rw (w .word-0) (rw (w .word-3, k))
-    references-fit r (alternateRow n c) w k i t = rw (w .word-0)
-    references-fit r (alternativeRow p) w k i t = rw (w .word-0) (rw (w .word-3, k))
+        rw (kind-is w) (rw (type-is w, array-is w, optional-is w, k, is-flag (m .type .list), is-flag (m .optional)))
+    references-fit r (unionRow n b d c) w k i t = rw (kind-is w) (rw (struct-is w, union-linked r b k i, t (kind-is w)))
+    references-fit r (branchRow p) w k i t = rw (kind-is w) (rw (struct-is w, k))
+    references-fit r (alternateRow n c) w k i t = rw (kind-is w)
+    references-fit r (alternativeRow p) w k i t = rw (kind-is w) (rw (type-is w, k))
     references-fit r (commandRow n a x oob) w k i t =
-        rw (w .word-0) (rw (w .word-3, w .word-4, w .word-5, w .word-6, data-linked r a (k .0) i, is-flag oob, return-linked x (k .1)))
+        rw (kind-is w) (rw (struct-is w, oob-is w, returns-is w, returns-array-is w, data-linked r a (k .0) i, is-flag oob, return-linked x (k .1)))
 
     -- a union's base is its own inline struct or a struct that has a name
     no-union : {A : Type 0} {a k : ℕ} → a ≡ k → a ≡ union-kind → eqb k union-kind ≡ false → A
@@ -130,13 +160,13 @@ module _ (T : List ℕ) (f g : Name → ℕ) where
 
     pub union-base : (r : ℕ) (e : Entry) → RowIs T r (wordsOf f g h r e) → EntryLinked e → Rows.owns T r ≡ owns e → kind T r ≡ union-kind
         → (Rows.owns T r || toStruct T (unionBase T r)) ≡ true
-    union-base r (enumRow n c) w k i e = no-union (w .word-0) e refl
-    union-base r (valueRow n) w k i e = no-union (w .word-0) e refl
-    union-base r (structRow n b c) w k i e = no-union (w .word-0) e refl
-    union-base r (inlineRow c) w k i e = no-union (w .word-0) e refl
-    union-base r (memberRow m) w k i e = no-union (w .word-0) e refl
-    union-base r (unionRow n b d c) w k i e = rw (w .word-3) (union-linked r b k i)
-    union-base r (branchRow p) w k i e = no-union (w .word-0) e refl
-    union-base r (alternateRow n c) w k i e = no-union (w .word-0) e refl
-    union-base r (alternativeRow p) w k i e = no-union (w .word-0) e refl
-    union-base r (commandRow n a t oob) w k i e = no-union (w .word-0) e refl
+    union-base r (enumRow n c) w k i e = no-union (kind-is w) e refl
+    union-base r (valueRow n) w k i e = no-union (kind-is w) e refl
+    union-base r (structRow n b c) w k i e = no-union (kind-is w) e refl
+    union-base r (inlineRow c) w k i e = no-union (kind-is w) e refl
+    union-base r (memberRow m) w k i e = no-union (kind-is w) e refl
+    union-base r (unionRow n b d c) w k i e = rw (struct-is w) (union-linked r b k i)
+    union-base r (branchRow p) w k i e = no-union (kind-is w) e refl
+    union-base r (alternateRow n c) w k i e = no-union (kind-is w) e refl
+    union-base r (alternativeRow p) w k i e = no-union (kind-is w) e refl
+    union-base r (commandRow n a t oob) w k i e = no-union (kind-is w) e refl
