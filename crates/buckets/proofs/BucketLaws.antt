@@ -89,6 +89,11 @@ module _ {A : Type 0} (place hash : A → ℕ) where
     pub index-walk : (m : ℕ) {w : ℕ} → w ≡ getD heads (bucketOf m) 0 → Chain place links w (inBucket hash (bucketOf m) items)
     index-walk m e = subst (λ (k : ℕ). Chain place links k (inBucket hash (bucketOf m) items)) (sym e) (x .chains (bucketOf m) (omega arith))
 
+    -- a store at a place that no item has changes nothing
+    pub index-kept : (i w : ℕ) → Free place i items → Indexed place hash heads (set links i w) items
+    index-kept i w f =
+        record { chains = λ h l. chain-kept place links i w (getD heads h 0) (inBucket hash h items) (bucket-kept hash (λ z. place z ≡ i → ⊥) h items f) (x .chains h l) }
+
     -- one item more
     pub index-added : (y : A) {m i : ℕ} {heads′ links′ : List ℕ} → length heads ≡ buckets → i < length links → place y ≡ i → hash y ≡ m → Free place i items
         → Added heads links m i heads′ links′ → Indexed place hash heads′ links′ (y ∷ items)
@@ -96,8 +101,7 @@ module _ {A : Type 0} (place hash : A → ℕ) where
       where
         old : (h : ℕ) → h < buckets → Chain place links′ (getD heads h 0) (inBucket hash h items)
         old h l =
-            subst (λ (w : List ℕ). Chain place w (getD heads h 0) (inBucket hash h items)) (sym (a .link))
-            (chain-kept place links i (getD heads (bucketOf m) 0) (getD heads h 0) (inBucket hash h items) (bucket-kept hash (λ z. place z ≡ i → ⊥) h items f) (x .chains h l))
+            subst (λ (w : List ℕ). Chain place w (getD heads h 0) (inBucket hash h items)) (sym (a .link)) (index-kept i (getD heads (bucketOf m) 0) f .chains h l)
 
         go : (h : ℕ) → h < buckets → (b : Bool) → eqb (bucketOf (hash y)) h ≡ b
             → Chain place links′ (getD heads′ h 0) (cond b (y ∷ inBucket hash h items) (inBucket hash h items))

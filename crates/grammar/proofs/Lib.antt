@@ -24,4 +24,5 @@ pub mod Spans
 pub mod Texts
 pub mod Openings
 pub mod Order
+pub mod Repeats
 pub mod Vectors

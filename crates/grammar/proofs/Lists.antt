@@ -3,7 +3,7 @@
 use Prim.Native.Nat.{ℕ, zero, suc, _<_}
 use native.Mathlib.Omega.{arith}
 use native.Mathlib.Nat.{le-of-suc-le-suc}
-use mathlib.Core.Path.{_≡_, refl, ap₂}
+use mathlib.Core.Path.{_≡_, refl, sym, ap₂}
 use mathlib.Core.Bool.{Bool, true, false, not}
 use mathlib.Core.List.{List, [], _∷_, List·Memᴰ, List·Memᴰ·head, List·Memᴰ·tail}
 use lib.ListN.{length, getD}
@@ -34,6 +34,13 @@ different x y n = go (same x y) refl
     go : (t : Bool) → same x y ≡ t → t ≡ false
     go true e = absurd (n (same-true x y e))
     go false e = refl
+
+pub same-comm : (x y : List ℕ) → same x y ≡ same y x
+same-comm x y = go (same x y) refl
+  where
+    go : (t : Bool) → same x y ≡ t → t ≡ same y x
+    go true e = sym (same-is y x (sym (same-true x y e)))
+    go false e = sym (different y x (λ q. same-false x y e (sym q)))
 
 module _ {A : Type 0} (f : A → Bool) where
   pub all-true : (l : List A) → all f l ≡ true → (x : A) → List·Memᴰ x l → f x ≡ true

@@ -188,7 +188,7 @@ schema-unquoted : {p q : ℕ} {l r : List ℕ} {v : Scalar} → SchemaUnquoted p
 schema-unquoted (word-true s) = spelled-span (omega arith) s
 schema-unquoted (word-false s) = spelled-span (omega arith) s
 
-schema-spans : TokenSpans schema-lexis
+pub schema-spans : TokenSpans schema-lexis
 schema-spans = record { char-span = schema-char; unquoted-span = schema-unquoted }
 
 pub schema-placed : {S : List ℕ} {js : Items} → SchemaText S js → PlacedItems (length S) js

@@ -5,11 +5,13 @@ use Prim.Native.Char.{code}
 use mathlib.Core.Path.{_≡_, refl}
 use mathlib.Core.Bool.{true, false}
 use mathlib.Core.List.{List, [], _∷_, _++_, map}
+use mathlib.Core.Option.{Option, some, none}
 use lib.ListN.{replicate}
 use Rattle.grammar.specs.Notation.{text}
 use Rattle.grammar.specs.Tree.{Scalar.null, Scalar.bool, Scalar.num, Scalar.str}
 use Rattle.grammar.specs.Tree.{Json, Json.leaf, Json.arr, Json.obj, Items.no-items, Items.item, Fields.no-fields, Fields.field}
 use Rattle.grammar.specs.Serving.Machine.{Out, Out.whole, Out.fault, Out.deep}
+use Rattle.grammar.specs.Serving.Repeats.{firstRepeatI}
 use Rattle.grammar.specs.Serving.Machine.Schema.{readSchema}
 use Rattle.grammar.specs.Serving.Machine.Message.{readMessage}
 
@@ -172,3 +174,28 @@ p1-message : Answers readMessage (
     (field 22 33 (text "arguments") (obj 34 47 (field 35 40 (text "lot") (leaf 41 46 (str (text "007"))) no-fields)) no-fields))) ∷ [])
 unfolding readMessage
 p1-message = refl
+
+-- Repeated keys, by meaning and in each object by itself: a key that repeats one comes before those inside its value, and after those inside an earlier value
+record KeyCase : Type 0 where
+  bytes : List ℕ
+  first : Option ℕ
+
+abbrev first-in : Out → Option ℕ
+first-in (whole js) = firstRepeatI js
+first-in (fault e) = none
+first-in (deep e) = none
+
+infix 70 _repeats-at_
+abbrev _repeats-at_ : List ℕ → Option ℕ → KeyCase
+l repeats-at o = record { bytes = l; first = o }
+
+abbrev Firsts : List KeyCase → Type 0
+Firsts cs = map (λ (c : KeyCase). first-in (readMessage (c .bytes))) cs ≡ map (λ (c : KeyCase). c .first) cs
+
+repeated-keys : Firsts (
+    text "{\"a\":{\"b\":1},\"b\":[{\"a\":1},{\"a\":2}]}" repeats-at none
+    ∷ text "{\"a\":1,\"a\":{\"b\":1,\"b\":2}}" repeats-at some 7
+    ∷ text "{\"a\":{\"b\":1,\"b\":2},\"a\":1}" repeats-at some 12
+    ∷ text "[{\"a\":1},{\"a\":1,\"\\u0061\":2,\"a\":3}]" repeats-at some 16 ∷ [])
+unfolding readMessage
+repeated-keys = refl

@@ -12,7 +12,7 @@ use Rattle.grammar.specs.Tree.Fields.{no-fields, field}
 use Rattle.grammar.specs.Serving.Machine.{Dialect}
 use Rattle.rules.specs.Values.{valueAt}
 use Rattle.text.specs.Nodes.{next, Holds, HoldsFields}
-use Rattle.text.specs.Keys.{KeyAt}
+use Rattle.text.specs.Fields.{KeyAt}
 use Rattle.text.proofs.KeyLaws.{goes-on, no-keys}
 use Rattle.lookups.specs.Lookups.{NodeMeans, ValueFound, FindsValue}
 

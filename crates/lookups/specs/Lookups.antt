@@ -19,7 +19,7 @@ use Rattle.strings.specs.Strings.{grammarOf}
 use Rattle.strings.specs.Decoding.{DecodedAs, decodedSize}
 use Rattle.rules.specs.Values.{valueAt, anyOf}
 use Rattle.text.specs.Nodes.{next, nodeKind, Holds, HoldsFields}
-use Rattle.text.specs.Keys.{KeyAt}
+use Rattle.text.specs.Fields.{KeyAt}
 use Rattle.tokens.specs.NodeKinds.{plain-string-node, other-string-node, plain-key-node}
 
 -- a node's kind is that of a string; that of a string or a key whose bytes are its code points

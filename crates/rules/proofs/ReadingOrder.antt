@@ -11,7 +11,7 @@ use borrow.Author.Tests.{ltb-true, ltb-false, le-ltb, lt-leb}
 use Rattle.grammar.specs.Limits.{message-levels}
 use Rattle.grammar.specs.Tree.Scalar.{str}
 use Rattle.grammar.specs.Tree.{Json, Json.leaf, Json.arr, Json.obj, Items, Fields, startOf, endOf}
-use Rattle.grammar.proofs.Order.{Inside, InsideItems, InsideFields, message-inside}
+use Rattle.grammar.proofs.Order.{Inside, InsideItems, InsideFields, inside-bounds, message-inside}
 use Rattle.rules.specs.Envelope.{Asked}
 use Rattle.rules.specs.Readings.{Typed, typed, Reads}
 use Rattle.rules.specs.Readings.Reads.{built-in, enum, struct, no-type, union, alternate, array as array-of}
@@ -110,11 +110,6 @@ joined d p o q h k {ts} {us} a b e = subst (Ordered d p q) (sym e) (record {
   shallow = λ place. in-one place d p o q ts us (a .between) (b .between) (a .shallow place) (b .shallow place);
 })
 
-start-in : (n p q : ℕ) (j : Json) → Inside n p q j → (p ≤ startOf j) × (startOf j ≤ endOf j) × (endOf j ≤ q)
-start-in n p q (leaf a e v) i = i
-start-in n p q (arr a e js) i = (i .0, i .1, i .2)
-start-in n p q (obj a e fs) i = (i .0, i .1, i .2)
-
 -- a value is inside any span that holds its start and its end
 narrower : (n p q p′ q′ : ℕ) (j : Json) → p′ ≤ startOf j → endOf j ≤ q′ → Inside n p q j → Inside n p′ q′ j
 narrower n p q p′ q′ (leaf a e v) h k i = (h, i .1, k)
@@ -133,11 +128,11 @@ module _ (S T : List ℕ) where
   OfFields fs ts = (n p q : ℕ) → p ≤ q → InsideFields n p q fs → Ordered (2 * n + 2) p q ts
 
   alone : (j : Json) (t f : ℕ) → OfValue j t (typed j t f ∷ [])
-  alone j t f n p q i = let s = start-in n p q j i in up-to 1 (2 * n + 1 + extraRecord S T t) (omega arith) (one j (s .0) (s .1) (s .2) (empty 0 (startOf j) (endOf j)))
+  alone j t f n p q i = let s = inside-bounds n p q j i in up-to 1 (2 * n + 1 + extraRecord S T t) (omega arith) (one j (s .0) (s .1) (s .2) (empty 0 (startOf j) (endOf j)))
 
   by-alternative : (j : Json) (t u : ℕ) {ts : List Typed} → extraRecord S T t ≡ 1 → extraRecord S T u ≡ 0 → OfValue j u ts → OfValue j t (typed j t 0 ∷ ts)
   by-alternative j t u x y g n p q i =
-      let s = start-in n p q j i in
+      let s = inside-bounds n p q j i in
       up-to (suc (2 * n + 1 + extraRecord S T u)) (2 * n + 1 + extraRecord S T t) (omega arith)
       (one j (s .0) (s .1) (s .2) (g n (startOf j) (endOf j) (narrower n p q (startOf j) (endOf j) j (omega arith) (omega arith) i)))
 
@@ -153,7 +148,7 @@ module _ (S T : List ℕ) where
   one-more : (j : Json) (t n p q : ℕ) {ts us vs : List Typed} → Inside n p q j → OfValue j t ts → (endOf j ≤ q → Ordered (2 * n + 2) (endOf j) q us) → vs ≡ ts ++ us
       → Ordered (2 * n + 2) p q vs
   one-more j t n p q i g k e =
-      let s = start-in n p q j i in
+      let s = inside-bounds n p q j i in
       let o = g n p (endOf j) (narrower n p q p (endOf j) j (s .0) (omega arith) i) in
       joined (2 * n + 2) p (endOf j) q (omega (arith, s .0, s .1)) (s .2) (up-to (2 * n + 1 + extraRecord S T t) (2 * n + 2) (omega (arith, extra-few S T t)) o) (k (s .2)) e
 

@@ -6,6 +6,7 @@ pub mod Pairs
 pub mod Values
 pub mod Wholes
 pub mod KeyLaws
-pub mod KeyLoops
-pub mod KeyChains
-pub mod KeyIndex
+pub mod FieldKeys
+pub mod PairLaws
+pub mod IndexLaws
+pub mod SearchLaws

@@ -1,220 +1,215 @@
-// Repeated keys, over the nodes: one loop over all of them, and no value is read again.
-// The keys of a small object are compared pairwise, those of a larger one looked up in an index by the hashes of what they mean.
-use crate::nodes::NODE_END;
+// Repeated keys, over the nodes: one loop over all objects, and no value is read again. Nodes stand in the order of the text, so the earliest key that repeats one before it
+// has the least node, and an object that opens after the least one found needs no search.
+use crate::comparisons::first_pair;
+use crate::fields::has_few;
+use crate::index::first_indexed;
 use crate::nodes::NODE_KIND;
 use crate::nodes::NODE_NEXT;
 use crate::nodes::NODE_START;
 use crate::nodes::node_number;
 use crate::nodes::node_word;
 use buckets::BUCKETS;
-use buckets::add;
-use buckets::first;
-use buckets::next;
 use grammar::MESSAGE_BYTES;
-use grammar::SCHEMA_BYTES;
+use sorted::repeats::Found;
 use strings::dialects::Dialect;
-use strings::hashes::hash_of;
-use strings::meanings::same_meaning;
 use tokens::node;
 ghost use mathlib.Core.Path.{_≡_};
 ghost use mathlib.Core.Bool.{true};
-ghost use Prim.Native.Nat.{_^_, _≤_, _<_};
-ghost use lib.ListN.{length, replicate};
-ghost use Rattle.buckets.specs.Buckets.{buckets};
+ghost use Prim.Native.Nat.{_+_, _^_, _≤_, _<_};
+ghost use lib.ListN.{length};
 ghost use Rattle.strings.specs.Strings.{grammarOf};
-ghost use Rattle.text.specs.Keys.{SameKeys, NewKey, KeyHash, Unlisted, KeysApart, KeysOnce};
+ghost use Rattle.text.specs.Fields.{FindsKey, isGivenUp};
+ghost use Rattle.text.specs.Keys.{FirstRepeat, KeysOnce};
+ghost use Rattle.text.specs.Search.{lesserOf, FindsAt, SearchesOn, StopsAt, EndsAt, LeastNode};
 
-// In an object of fewer nodes an index costs more than it saves, by measurement.
-const LARGE: usize = 24;
+// Keys that are compared pairwise, by measurement.
+const FEW_KEYS: usize = 8;
 
-// An index has a link for each node of a text, and a node takes at least two bytes. A schema may be the longest text.
-const LINKS: usize = SCHEMA_BYTES / 2;
+// An index has a word for each node of its object, and a node of a message takes at least two bytes. A larger object of a schema is searched as one whose search is given up.
+const LINKS: usize = MESSAGE_BYTES / 2;
 
-// Enough for a message of an eighth of what one may have, which most are shorter than.
-const FEW_LINKS: usize = MESSAGE_BYTES / 8 / 2;
+// Most messages have fewer nodes; the words are cleared with each.
+const FEW_LINKS: usize = LINKS / 8;
 
-// A text of fewer nodes than a large object has no index; an array has at least one word.
-const NO_LINKS: usize = 1;
+const FEWEST_LINKS: usize = LINKS / 64;
 
-// Whether the keys at nodes a and b mean the same.
-fn same_key(s: &[u8], dialect: Dialect, nodes: &[u32], a: usize, b: usize) -> bool
-    ensures { λ r. ⌜ SameKeys (grammarOf dialect) (now (s .entry)) (now (nodes .entry)) a b r ⌝ }
-{
-    let i = node_number(nodes, a, NODE_START);
-    let j = node_number(nodes, a, NODE_END);
-    let p = node_word(nodes, a, NODE_KIND) == node::PLAIN_KEY;
-    let x = node_number(nodes, b, NODE_START);
-    let y = node_number(nodes, b, NODE_END);
-    let q = node_word(nodes, b, NODE_KIND) == node::PLAIN_KEY;
-    same_meaning(s, dialect, i, j, p, x, y, q)
+// The place of the opening quote of the earliest key that repeats one before it in the same object.
+pub enum Repeated {
+    Never,
+    At(usize),
 }
 
-// Whether no key from node b up to node `end` means what the key at node a does.
-fn is_new_key(s: &[u8], dialect: Dialect, nodes: &[u32], a: usize, b: usize, end: usize) -> bool
-    ensures { λ r. ⌜ NewKey (grammarOf dialect) (now (s .entry)) (now (nodes .entry)) a b end r ⌝ }
-{
-    let mut i = b;
-    while i < end {
-        if same_key(s, dialect, nodes, a, i) {
-            return false;
-        }
-        let n = node_number(nodes, i, NODE_NEXT);
-        if n <= i {
-            return true;
-        }
-        i = n;
-    }
-    true
+// The objects before node `at` are searched; `best` is the least node found, or the number of nodes.
+pub struct Progress {
+    pub at: usize,
+    pub best: usize,
 }
 
-// Whether no two keys from node b up to node `end` mean the same: each is compared with those after it.
-fn are_pairs_apart(s: &[u8], dialect: Dialect, nodes: &[u32], b: usize, end: usize) -> bool
-    ensures { λ r. ⌜ KeysApart (grammarOf dialect) (now (s .entry)) (now (nodes .entry)) b end r ⌝ }
+// The least node found, with what one more object has.
+fn lesser_of(best: usize, found: Found) -> usize
+    ensures { λ r. ⌜ r ≡ lesserOf best found ⌝ }
 {
-    let mut i = b;
-    while i < end {
-        let n = node_number(nodes, i, NODE_NEXT);
-        if n <= i {
-            return true;
-        }
-        if !is_new_key(s, dialect, nodes, i, n, end) {
-            return false;
-        }
-        i = n;
-    }
-    true
-}
-
-// The hash of what the key at node a means.
-fn key_hash(s: &[u8], dialect: Dialect, nodes: &[u32], a: usize) -> u32
-    ensures { λ r. ⌜ KeyHash (grammarOf dialect) (now (s .entry)) (now (nodes .entry)) a r ⌝ }
-{
-    let start = node_number(nodes, a, NODE_START);
-    let end = node_number(nodes, a, NODE_END);
-    let plain = node_word(nodes, a, NODE_KIND) == node::PLAIN_KEY;
-    hash_of(s, dialect, start, end, plain)
-}
-
-// Whether no key of a chain, from the word `head` on, means what the key at node a does. The chain has at most `most` keys.
-fn is_unlisted(
-    s: &[u8],
-    dialect: Dialect,
-    nodes: &[u32],
-    a: usize,
-    links: &[u32],
-    head: usize,
-    most: usize,
-) -> bool
-    ensures { λ r. ⌜ Unlisted (grammarOf dialect) (now (s .entry)) (now (nodes .entry)) a (now (links .entry)) head most r ⌝ }
-{
-    let mut word = head;
-    let mut left = most;
-    while 0 < left {
-        if word == 0 {
-            return true;
-        }
-        let i = word - 1;
-        if same_key(s, dialect, nodes, i, a) {
-            return false;
-        }
-        word = next(links, i);
-        left -= 1;
-    }
-    true
-}
-
-// Whether no two keys from node b up to node `end` mean the same: each is looked up among those before it.
-fn are_listed_apart(
-    s: &[u8],
-    dialect: Dialect,
-    nodes: &[u32],
-    b: usize,
-    end: usize,
-    heads: &mut [u32; BUCKETS],
-    links: &mut [u32],
-) -> bool
-    requires { ⌜ (end ≤ length (now links)) × (length (now links) < 2 ^ 32) × (now heads ≡ replicate buckets 0) ⌝ }
-    ensures { λ r. ⌜ KeysApart (grammarOf dialect) (now (s .entry)) (now (nodes .entry)) b end r ⌝ }
-{
-    let mut i = b;
-    while i < end {
-        let n = node_number(nodes, i, NODE_NEXT);
-        if n <= i {
-            return true;
-        }
-        let hash = key_hash(s, dialect, nodes, i);
-        let head = first(heads, hash);
-        if !is_unlisted(s, dialect, nodes, i, links, head, i) {
-            return false;
-        }
-        add(heads, links, hash, i);
-        i = n;
-    }
-    true
-}
-
-// Whether an index pays for the keys from node b up to node `end`, and has the room.
-fn is_large(b: usize, end: usize, room: usize) -> bool
-    ensures { λ r. ⌜ (r ≡ true → end ≤ room) ⌝ }
-{
-    if end < LARGE {
-        return false;
-    }
-    if end - LARGE < b {
-        return false;
-    }
-    end <= room
-}
-
-// Whether no two keys from node b up to node `end` mean the same. The links are scratch.
-fn are_apart(
-    s: &[u8],
-    dialect: Dialect,
-    nodes: &[u32],
-    b: usize,
-    end: usize,
-    links: &mut [u32],
-) -> bool
-    requires { ⌜ length (now links) < 2 ^ 32 ⌝ }
-    ensures { λ r. ⌜ KeysApart (grammarOf dialect) (now (s .entry)) (now (nodes .entry)) b end r ⌝ }
-{
-    if is_large(b, end, links.len()) {
-        let mut heads = [0u32; BUCKETS];
-        return are_listed_apart(s, dialect, nodes, b, end, &mut heads, links);
-    }
-    are_pairs_apart(s, dialect, nodes, b, end)
-}
-
-// Whether no object of the first `count` nodes has a key twice. The links are scratch.
-fn objects_once(s: &[u8], dialect: Dialect, nodes: &[u32], count: usize, links: &mut [u32]) -> bool
-    requires { ⌜ length (now links) < 2 ^ 32 ⌝ }
-    ensures { λ r. ⌜ KeysOnce (grammarOf dialect) (now (s .entry)) (now (nodes .entry)) count r ⌝ }
-{
-    let mut k = 0;
-    while k < count {
-        if node_word(nodes, k, NODE_KIND) == node::OBJECT {
-            let end = node_number(nodes, k, NODE_NEXT);
-            if !are_apart(s, dialect, nodes, k + 1, end, links) {
-                return false;
+    match found {
+        Found::Never => best,
+        Found::At(i) => {
+            if i < best {
+                return i;
             }
+            best
         }
-        k += 1;
+        Found::GivenUp => best,
     }
-    true
 }
 
-// Whether no object of the first `count` nodes has a key twice. A short text pays for few links.
-pub fn keys_once(s: &[u8], dialect: Dialect, nodes: &[u32], count: usize) -> bool
-    ensures { λ r. ⌜ KeysOnce (grammarOf dialect) (now (s .entry)) (now (nodes .entry)) count r ⌝ }
+// Whether the nodes from b up to `end` have a link each.
+fn has_links(b: usize, end: usize, links: usize) -> bool
+    ensures { λ r. ⌜ (r ≡ true → end ≤ b + links) ⌝ }
 {
-    if count < LARGE {
-        let mut links = [0u32; NO_LINKS];
-        return objects_once(s, dialect, nodes, count, &mut links);
+    if end <= b {
+        return true;
+    }
+    end - b <= links
+}
+
+// The first key from node b up to node `end` that means what one before it does. The links are scratch.
+fn first_quick(
+    s: &[u8],
+    dialect: Dialect,
+    nodes: &[u32],
+    b: usize,
+    end: usize,
+    links: &mut [u32],
+) -> Found
+    requires { ⌜ length (now links) < 2 ^ 32 ⌝ }
+    ensures { λ r. ⌜ FindsKey (grammarOf dialect) (now (s .entry)) (now (nodes .entry)) b end r ⌝ }
+{
+    if has_few(nodes, b, end, FEW_KEYS) {
+        return first_pair(s, dialect, nodes, b, end);
+    }
+    if !has_links(b, end, links.len()) {
+        return Found::GivenUp;
+    }
+    let mut heads = [0u32; BUCKETS];
+    first_indexed(s, dialect, nodes, b, end, &mut heads, links)
+}
+
+fn is_given_up(found: Found) -> bool
+    ensures { λ r. ⌜ r ≡ isGivenUp found ⌝ }
+{
+    match found {
+        Found::Never => false,
+        Found::At(_i) => false,
+        Found::GivenUp => true,
+    }
+}
+
+// The first key of the object at node `at` that means what one before it does; none if the node is no object. The links are scratch.
+fn first_at(s: &[u8], dialect: Dialect, nodes: &[u32], at: usize, links: &mut [u32]) -> Found
+    requires { ⌜ (at + 1 < 2 ^ 64) × (length (now links) < 2 ^ 32) ⌝ }
+    ensures { λ r. ⌜ FindsAt (grammarOf dialect) (now (s .entry)) (now (nodes .entry)) at r ⌝ }
+{
+    if node_word(nodes, at, NODE_KIND) != node::OBJECT {
+        return Found::Never;
+    }
+    let end = node_number(nodes, at, NODE_NEXT);
+    first_quick(s, dialect, nodes, at + 1, end, links)
+}
+
+// Searches on, to the end or to an object whose search is given up.
+fn search(
+    s: &[u8],
+    dialect: Dialect,
+    nodes: &[u32],
+    from: usize,
+    least: usize,
+    links: &mut [u32],
+) -> Progress
+    requires { ⌜ length (now links) < 2 ^ 32 ⌝ }
+    ensures { λ r. ⌜ SearchesOn (grammarOf dialect) (now (s .entry)) (now (nodes .entry)) from least r ⌝ }
+{
+    let mut at = from;
+    let mut best = least;
+    while at < best {
+        let found = first_at(s, dialect, nodes, at, links);
+        if is_given_up(found) {
+            return Progress { at: at, best: best };
+        }
+        best = lesser_of(best, found);
+        at += 1;
+    }
+    Progress { at: at, best: best }
+}
+
+// Searches to the end, from an object whose search was given up: its keys are compared pairwise.
+fn search_all(
+    s: &[u8],
+    dialect: Dialect,
+    nodes: &[u32],
+    from: usize,
+    least: usize,
+    links: &mut [u32],
+) -> usize
+    requires { ⌜ (length (now links) < 2 ^ 32) × StopsAt (now nodes) from least ⌝ }
+    ensures { λ r. ⌜ EndsAt (grammarOf dialect) (now (s .entry)) (now (nodes .entry)) from least r ⌝ }
+{
+    let mut at = from;
+    let mut best = least;
+    while at < best {
+        let end = node_number(nodes, at, NODE_NEXT);
+        let found = first_pair(s, dialect, nodes, at + 1, end);
+        let next = lesser_of(best, found);
+        let here = search(s, dialect, nodes, at + 1, next, links);
+        at = here.at;
+        best = here.best;
+    }
+    best
+}
+
+// The least node of the first `count` whose key repeats one before it, or `count`.
+fn least_node(s: &[u8], dialect: Dialect, nodes: &[u32], count: usize, links: &mut [u32]) -> usize
+    requires { ⌜ length (now links) < 2 ^ 32 ⌝ }
+    ensures { λ r. ⌜ LeastNode (grammarOf dialect) (now (s .entry)) (now (nodes .entry)) count r ⌝ }
+{
+    let quick = search(s, dialect, nodes, 0, count, links);
+    if quick.at < quick.best {
+        return search_all(s, dialect, nodes, quick.at, quick.best, links);
+    }
+    quick.best
+}
+
+// A short text pays for few links.
+fn least_in(s: &[u8], dialect: Dialect, nodes: &[u32], count: usize) -> usize
+    ensures { λ r. ⌜ LeastNode (grammarOf dialect) (now (s .entry)) (now (nodes .entry)) count r ⌝ }
+{
+    if count <= FEWEST_LINKS {
+        let mut links = [0u32; FEWEST_LINKS];
+        return least_node(s, dialect, nodes, count, &mut links);
     }
     if count <= FEW_LINKS {
         let mut links = [0u32; FEW_LINKS];
-        return objects_once(s, dialect, nodes, count, &mut links);
+        return least_node(s, dialect, nodes, count, &mut links);
     }
     let mut links = [0u32; LINKS];
-    objects_once(s, dialect, nodes, count, &mut links)
+    least_node(s, dialect, nodes, count, &mut links)
+}
+
+// The earliest key in the objects of the first `count` nodes that repeats one before it.
+pub fn first_repeat(s: &[u8], dialect: Dialect, nodes: &[u32], count: usize) -> Repeated
+    ensures { λ r. ⌜ FirstRepeat (grammarOf dialect) (now (s .entry)) (now (nodes .entry)) count r ⌝ }
+{
+    let least = least_in(s, dialect, nodes, count);
+    if least < count {
+        return Repeated::At(node_number(nodes, least, NODE_START));
+    }
+    Repeated::Never
+}
+
+// Whether no object of the first `count` nodes has a key twice.
+pub fn keys_once(s: &[u8], dialect: Dialect, nodes: &[u32], count: usize) -> bool
+    ensures { λ r. ⌜ KeysOnce (grammarOf dialect) (now (s .entry)) (now (nodes .entry)) count r ⌝ }
+{
+    match first_repeat(s, dialect, nodes, count) {
+        Repeated::Never => true,
+        Repeated::At(_p) => false,
+    }
 }

@@ -1,6 +1,6 @@
 -- Items of a width within the words, and words copied and cleared one by one: what a store does to the list so far.
 use Prim.Native.Nat.{ℕ, zero, suc, _+_, _-_, _*_, _/_, _≤_, _<_}
-use native.Mathlib.Nat.{le-of-suc-le-suc, not-suc-le-zero, mul-comm, div-lt-iff-lt-mul, le-div-iff-mul-le}
+use native.Mathlib.Nat.{le-of-suc-le-suc, not-suc-le-zero, mul-comm, mul-suc, div-lt-iff-lt-mul, le-div-iff-mul-le}
 use native.Mathlib.Omega.{arith}
 use mathlib.Core.Path.{_≡_, refl, ap, _∙_}
 use mathlib.Core.List.{List, [], _∷_, _++_}
@@ -17,15 +17,15 @@ module _ (n : ℕ) {width k : ℕ} (h : 0 < width) where
   pub item-within : k ≤ n / width → width * k ≤ n
   item-within l = rw (mul-comm width k) (le-div-iff-mul-le h .0 l)
 
--- item k, of four words, written or not
-module _ (w : List ℕ) {k : ℕ} (xs : List ℕ) where
-  pub four-past : length w / 4 ≤ k → putItem 4 w k xs ≡ w
+-- item k, of so many words, written or not
+module _ (width : ℕ) (w : List ℕ) {k : ℕ} (xs : List ℕ) (h : 0 < width) where
+  pub item-unwritten : length w / width ≤ k → putItem width w k xs ≡ w
   unfolding putItem
-  four-past h = rw (lt-leb (4 * k + 4) (length w) (omega arith))
+  item-unwritten l = rw (lt-leb (width * k + width) (length w) (omega (arith, item-past (length w) {k = suc k} h (omega arith), mul-suc width k)))
 
-  pub four-fits : k < length w / 4 → putItem 4 w k xs ≡ sets w (4 * k) xs
+  pub item-written : k < length w / width → putItem width w k xs ≡ sets w (width * k) xs
   unfolding putItem
-  four-fits h = rw (le-leb (4 * k + 4) (length w) (omega arith))
+  item-written l = rw (le-leb (width * k + width) (length w) (omega (arith, item-within (length w) {k = suc k} h l, mul-suc width k)))
 
 pub copied : (src dst : List ℕ) (i : ℕ) → i < length src → i < length dst → set (take i src ++ drop i dst) i (getD src i 0) ≡ take (suc i) src ++ drop (suc i) dst
 copied [] dst i h k = absurd (not-suc-le-zero h)

@@ -5,12 +5,12 @@ use native.Mathlib.Omega.{arith}
 use native.Mathlib.Numerals.{towards-suc}
 use lib.ListN.{length-set}
 use borrow.Author.Needs.{needs}
-use Rattle.words.proofs.WordLaws.{four-past, four-fits}
+use Rattle.words.proofs.WordLaws.{item-unwritten, item-written}
 use Rattle.words.proofs.put_four.Statement.{statement}
 use Rattle.words.proofs.put_four.Tie as tie
 
 returns : tie.Need-returns
-returns c = sym (four-past _ _ (c .if1 .taken))
+returns c = sym (item-unwritten 4 _ _ (omega arith) (c .if1 .taken))
 
 mul-at : tie.Need-mul-at
 mul-at c = search needs
@@ -52,7 +52,7 @@ same-length : tie.Need-same-length
 same-length c = search needs
 
 returns-2 : tie.Need-returns-2
-returns-2 c = rw (four-fits _ _ (c .if1 .left)) (simp towards-suc)
+returns-2 c = rw (item-written 4 _ _ (omega arith) (c .if1 .left)) (simp towards-suc)
 
 pub put-four-spec : {M : Type 1} → statement M
 put-four-spec =
