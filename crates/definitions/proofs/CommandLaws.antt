@@ -24,10 +24,10 @@ use Rattle.definitions.specs.Places.{ReturnTold, TakesReturn, FlagTold, 
 use Rattle.definitions.specs.declared.writing.Put.{Put}
 use Rattle.definitions.specs.declared.writing.Put.the-variants.{Rows, Refused}
 use Rattle.definitions.specs.Written.{RowPut, NamedRowPut, RowsAre, PutsRows}
-use Rattle.definitions.specs.Parts.{InlineAt, FieldsAt, BodyAt, CommandAt, inlineWords, bodyRows}
+use Rattle.definitions.specs.Parts.{InlineAt, FieldsAt, CommandAt, inlineWords, bodyRows}
 use Rattle.definitions.proofs.Stores.{put-under}
 use Rattle.definitions.proofs.CountLaws.{inline-put, inline-none}
-use Rattle.definitions.proofs.BodyLaws.{found-at}
+use Rattle.definitions.proofs.BodyLaws.{found-at, BodyLeft}
 
 -- the rows of a command, given what it returns and its flag; none without these
 module _ (n : ℕ) (name : Name) where
@@ -61,21 +61,21 @@ same-command : {place list oob : ℕ} (n : ℕ) (name : Name) (t : Option TypeTe
 same-command n name t y a e f g = cc
 
 module _ {s w : List ℕ} {k v n r : ℕ} {x : TypeRead} (f : FindsValue schema s w k (text "returns") r) (h : TakesReturn w r x) where
-  pub command-bad-return : x ≡ Types.Refused → (o : Option (List ℕ)) → BodyAt s w commandBody k v n o → o ≡ none
+  pub command-bad-return : x ≡ Types.Refused → (o : Option (List ℕ)) → BodyLeft s w commandBody k v n o → o ≡ none
   command-bad-return e o u =
       let d = may asData (valueAt (text "data") (u .fs)) in
       let z = may asFlag (valueAt (text "allow-oob") (u .fs)) in
       u .are ∙ ap (λ (y : Option (Option TypeText)). commandSo n (u .name) d y z) (returned f h e (u .fields)) ∙ command-untyped n (u .name) d z
 
   module _ {b : ℕ} {p : FlagRead} (g : FindsValue schema s w k (text "allow-oob") b) (m : TakesFlag w b p) where
-    pub command-bad-flag : p ≡ Flags.Refused → (o : Option (List ℕ)) → BodyAt s w commandBody k v n o → o ≡ none
+    pub command-bad-flag : p ≡ Flags.Refused → (o : Option (List ℕ)) → BodyLeft s w commandBody k v n o → o ≡ none
     command-bad-flag e o u =
         let d = may asData (valueAt (text "data") (u .fs)) in
         let y = may asType (valueAt (text "returns") (u .fs)) in
         u .are ∙ ap (λ (z : Option (Option Bool)). commandSo n (u .name) d y z) (flagged g m e (u .fields)) ∙ command-unflagged n (u .name) d y
 
     pub command-handed : {d place list oob : ℕ} → x ≡ Types.Taken place list → p ≡ Flags.Flag oob → FindsValue schema s w k (text "data") d
-        → (o : Option (List ℕ)) → BodyAt s w commandBody k v n o → CommandAt s w v d n oob place list o
+        → (o : Option (List ℕ)) → BodyLeft s w commandBody k v n o → CommandAt s w v d n oob place list o
     command-handed {place = place} {list} {oob} e q l o u =
         let value = valueAt (text "data") (u .fs) in
         let t : ReturnTold (may asType (valueAt (text "returns") (u .fs))) (Types.Taken place list) = returned f h e (u .fields) in

@@ -2,7 +2,6 @@
 pub mod Stores
 pub mod NameLaws
 pub mod ShapeLaws
-pub mod KeyLaws
 pub mod ChildLaws
 pub mod ListLaws
 pub mod Options

@@ -23,13 +23,13 @@ use Rattle.definitions.specs.Places.{Found, Named, NameWord, Links}
 use Rattle.definitions.specs.declared.writing.Put.{Put}
 use Rattle.definitions.specs.declared.writing.Put.the-variants.{Rows, Refused}
 use Rattle.definitions.specs.Written.{RowPut, NamedRowPut, RowsAre, PutsRows}
-use Rattle.definitions.specs.Parts.{pairRow, ChildrenAt, InlineAt, inlineWords, BodyAt, UnionAt, bodyRows}
+use Rattle.definitions.specs.Parts.{pairRow, ChildrenAt, InlineAt, inlineWords, UnionAt, bodyRows}
 use Rattle.definitions.proofs.Options.{came-of, none-of, must-then, never, both-there}
 use Rattle.definitions.proofs.NameLaws.{is-name, no-name}
 use Rattle.definitions.proofs.ShapeLaws.{held-there}
 use Rattle.definitions.proofs.Stores.{put-after, put-under}
 use Rattle.definitions.proofs.CountLaws.{inline-put, inline-none, children-put, children-none}
-use Rattle.definitions.proofs.BodyLaws.{found-at, somewhere, nowhere}
+use Rattle.definitions.proofs.BodyLaws.{found-at, BodyLeft, somewhere, nowhere}
 
 -- the rows of a union, given its discriminator; none without one
 module _ (n : ℕ) (name : Name) where
@@ -51,28 +51,28 @@ module _ {s w : List ℕ} {k : ℕ} where
   discriminator-named z q e (some j) u = let x = is-name (held-there u) q e in (x .name, x .is, x .named)
 
 module _ {s w : List ℕ} {k v n b : ℕ} (f : FindsValue schema s w k (text "base") b) where
-  pub union-no-base : b ≡ 0 → (o : Option (List ℕ)) → BodyAt s w unionBody k v n o → o ≡ none
+  pub union-no-base : b ≡ 0 → (o : Option (List ℕ)) → BodyLeft s w unionBody k v n o → o ≡ none
   union-no-base e o h = h .are ∙ rw (nowhere (valueAt (text "base") (h .fs)) (found-at (h .fields) f) e)
 
   module _ {t : ℕ} (g : FindsValue schema s w k (text "discriminator") t) where
-    without-discriminator : (o : Option (List ℕ)) (h : BodyAt s w unionBody k v n o) → must asName (valueAt (text "discriminator") (h .fs)) ≡ none → o ≡ none
+    without-discriminator : (o : Option (List ℕ)) (h : BodyLeft s w unionBody k v n o) → must asName (valueAt (text "discriminator") (h .fs)) ≡ none → o ≡ none
     without-discriminator o h e =
         h .are
         ∙ ap (λ (y : Option Name). unionSo n (h .name) (must asData (valueAt (text "base") (h .fs))) y (must asPairs (valueAt (text "data") (h .fs)))) e
         ∙ union-without n (h .name) (must asData (valueAt (text "base") (h .fs))) (must asPairs (valueAt (text "data") (h .fs)))
 
-    pub union-no-discriminator : t ≡ 0 → (o : Option (List ℕ)) → BodyAt s w unionBody k v n o → o ≡ none
+    pub union-no-discriminator : t ≡ 0 → (o : Option (List ℕ)) → BodyLeft s w unionBody k v n o → o ≡ none
     union-no-discriminator e o h = without-discriminator o h (ap (must asName) (nowhere (valueAt (text "discriminator") (h .fs)) (found-at (h .fields) g) e))
 
     module _ {r : Bool} (z : t ≡ 0 → ⊥) (q : r ≡ stringKind (nodeKind w t)) where
-      pub union-bad-discriminator : r ≡ false → (o : Option (List ℕ)) → BodyAt s w unionBody k v n o → o ≡ none
+      pub union-bad-discriminator : r ≡ false → (o : Option (List ℕ)) → BodyLeft s w unionBody k v n o → o ≡ none
       union-bad-discriminator e o h = without-discriminator o h (go (valueAt (text "discriminator") (h .fs)) (found-at (h .fields) g))
         where
           go : (y : Option Json) → Found s w y t → must asName y ≡ none
           go none u = refl
           go (some j) u = no-name (held-there u) q e
 
-      pub union-handed : {d : ℕ} → r ≡ true → (b ≡ 0 → ⊥) → FindsValue schema s w k (text "data") d → (o : Option (List ℕ)) → BodyAt s w unionBody k v n o → UnionAt s w v b t d n o
+      pub union-handed : {d : ℕ} → r ≡ true → (b ≡ 0 → ⊥) → FindsValue schema s w k (text "data") d → (o : Option (List ℕ)) → BodyLeft s w unionBody k v n o → UnionAt s w v b t d n o
       union-handed e m l o h =
           let base = somewhere (valueAt (text "base") (h .fs)) (found-at (h .fields) f) m in
           let branches = valueAt (text "data") (h .fs) in

@@ -12,11 +12,12 @@ use Rattle.grammar.specs.Tree.{Json, Fields}
 use Rattle.grammar.specs.Keys.{keysOf, keysOnce}
 use Rattle.grammar.specs.Serving.Machine.Schema.{schema}
 use Rattle.text.specs.Nodes.{next, HoldsFields}
+use Rattle.lookups.specs.Lookups.{FindsValue}
 use Rattle.rules.specs.Kinds.{enum-kind, value-kind, struct-kind, member-kind, union-kind, alternate-kind, command-kind}
 use Rattle.rules.specs.Definitions.{Name, Member, Data, Pair, Body, Definition, asName, asMember, asPair, asNames, asMembers, asPairs, asData, must, may, only}
 use Rattle.rules.specs.Definitions.{enumBody, structBody, unionBody, alternateBody, commandBody, asDefinition}
 use Rattle.rules.specs.Definitions.Body.{union}
-use Rattle.rules.specs.Values.{_>>=_, ifAbsent, asFields, valueAt}
+use Rattle.rules.specs.Values.{_>>=_, ifAbsent, asFields}
 use Rattle.rules.specs.SchemaTable.{inlineMembers, row, concat, flag, listFlag, typeOf, dataLink, inlineStruct, rowsOf}
 use Rattle.rules.specs.Serving.RawTable.{packed}
 use Rattle.definitions.specs.declared.definitions.KindKey.{KindKey}
@@ -101,21 +102,13 @@ pub record FieldsAt (s w : List ℕ) (fs : Fields) (k : ℕ) : Type 0 where
   pub level : ℕ
   pub holds : HoldsFields schema s w fs level (suc k) (next w k)
 
--- a row of that kind with the name at node v and a link, and the children under the key `data` of the object at node k
-pub record ListAt (s w : List ℕ) (kind link k v : ℕ) (o : Option (List ℕ)) : Type 0 where
-  pub fs : Fields
-  pub fields : FieldsAt s w fs k
+-- a row of that kind with the name at node v and a link, and the children that the value at node d lists
+pub record ListAt (s w : List ℕ) (kind link v d : ℕ) (o : Option (List ℕ)) : Type 0 where
+  pub value : Option Json
+  pub found : Found s w value d
   pub name : Name
   pub named : Named w v 0 name
-  pub are : o ≡ (must (childRows (kind + 1)) (valueAt (text "data") fs) >>= λ rs. some (countedRows kind (name .start) (name .size) link rs))
-
--- the object at node k, whose name stands at node v, as a definition of one kind
-pub record BodyAt (s w : List ℕ) (body : Fields → Option Body) (k v n : ℕ) (o : Option (List ℕ)) : Type 0 where
-  pub fs : Fields
-  pub fields : FieldsAt s w fs k
-  pub name : Name
-  pub named : Named w v 0 name
-  pub are : o ≡ (body fs >>= λ b. some (bodyRows n name b))
+  pub are : o ≡ (must (childRows (kind + 1)) value >>= λ rs. some (countedRows kind (name .start) (name .size) link rs))
 
 -- the rows of a union and of a command, out of what their keys have
 pub record UnionAt (s w : List ℕ) (v b t d n : ℕ) (o : Option (List ℕ)) : Type 0 where
@@ -136,36 +129,58 @@ pub record CommandAt (s w : List ℕ) (v d n oob place list : ℕ) (o : Option (
   pub named : Named w v 0 name
   pub are : o ≡ (may asData value >>= λ x. some (row command-kind name (ifAbsent 0 (dataLink packed n) x) oob place list ++ inlineWords x))
 
--- a kind's keys, the kind key first, and what they say
-abbrev pub byKind : {A : Type 0} → ℕ → A → A → A → A → A → A
-byKind kind e t u a c = cond (eqb kind enum-kind) e (cond (eqb kind struct-kind) t (cond (eqb kind union-kind) u (cond (eqb kind alternate-kind) a c)))
+-- The table of keys: a kind's own key, those that it may have beside it, and what they say.
+pub record KindKeys : Type 0 where
+  pub own : List ℕ
+  pub others : List (List ℕ)
+  pub body : Fields → Option Body
 
-abbrev pub keysFor : ℕ → List (List ℕ)
-keysFor kind =
-    byKind kind (text "enum" ∷ text "data" ∷ []) (text "struct" ∷ text "data" ∷ text "base" ∷ []) (text "union" ∷ text "base" ∷ text "discriminator" ∷ text "data" ∷ [])
-    (text "alternate" ∷ text "data" ∷ []) (text "command" ∷ text "data" ∷ text "returns" ∷ text "allow-oob" ∷ [])
+abbrev pub keysOfKind : ℕ → KindKeys
+keysOfKind kind =
+    cond (eqb kind enum-kind) (record { own = text "enum"; others = text "data" ∷ []; body = enumBody })
+    (cond (eqb kind struct-kind) (record { own = text "struct"; others = text "data" ∷ text "base" ∷ []; body = structBody })
+    (cond (eqb kind union-kind) (record { own = text "union"; others = text "base" ∷ text "discriminator" ∷ text "data" ∷ []; body = unionBody })
+    (cond (eqb kind alternate-kind) (record { own = text "alternate"; others = text "data" ∷ []; body = alternateBody })
+    (record { own = text "command"; others = text "data" ∷ text "returns" ∷ text "allow-oob" ∷ []; body = commandBody }))))
 
-abbrev pub bodyFor : ℕ → Fields → Option Body
-bodyFor kind fs = byKind kind (enumBody fs) (structBody fs) (unionBody fs) (alternateBody fs) (commandBody fs)
+-- the definition by these keys, if there is no other
+abbrev pub defined : KindKeys → Fields → Name → Option Definition
+defined ks fs name = only (ks .own ∷ ks .others) fs name (ks .body fs)
+
+-- the object at node k, which repeats no key, as such a definition, whose name stands at node v
+pub record BodyAt (s w : List ℕ) (ks : KindKeys) (k v n : ℕ) (o : Option (List ℕ)) : Type 0 where
+  pub fs : Fields
+  pub fields : FieldsAt s w fs k
+  pub once : apart same (keysOf fs) ≡ true
+  pub own : FindsValue schema s w k (ks .own) v
+  pub name : Name
+  pub named : Named w v 0 name
+  pub are : o ≡ (defined ks fs name >>= rowsAt n)
 
 -- a definition whose kind key has the value at node v
 abbrev pub kindOnly : ℕ → Fields → Json → Option Definition
-kindOnly kind fs j = asName j >>= λ n. only (keysFor kind) fs n (bodyFor kind fs)
+kindOnly kind fs j = asName j >>= defined (keysOfKind kind) fs
 
 pub record KindAt (s w : List ℕ) (kind k v n : ℕ) (o : Option (List ℕ)) : Type 0 where
   pub fs : Fields
   pub fields : FieldsAt s w fs k
   pub once : apart same (keysOf fs) ≡ true
+  pub own : FindsValue schema s w k (keysOfKind kind .own) v
   pub value : Json
   pub held : Held s w value v
   pub are : o ≡ (kindOnly kind fs value >>= rowsAt n)
 
 -- the kind key of the object at node k: its kind and the node of its value
+abbrev pub KindFound : List ℕ → List ℕ → ℕ → KindKey → Type 0
+KindFound s w k (Key kind v) = FindsValue schema s w k (keysOfKind kind .own) v
+KindFound s w k NoKey = Unit {0}
+
 abbrev pub KindTold : List ℕ → List ℕ → Fields → KindKey → Type 0
 KindTold s w fs (Key kind v) = (j : Json) × Held s w j v × (asDefinition fs ≡ kindOnly kind fs j)
 KindTold s w fs NoKey = asDefinition fs ≡ none
 
 pub record FindsKind (s w : List ℕ) (k : ℕ) (r : KindKey) : Type 0 where
+  pub found : KindFound s w k r
   pub told : (fs : Fields) → FieldsAt s w fs k → KindTold s w fs r
 
 -- the value at node k, which repeats no key, as a definition at row n

@@ -1,4 +1,5 @@
 // A definition of each kind: its keys' values, its row and the rows after it. The object stands at node k, its name at node v.
+// A key that isn't the kind's is refused.
 use crate::lists::put_children;
 use crate::lists::put_counted;
 use crate::lists::put_inline;
@@ -14,31 +15,32 @@ use crate::values::name_word;
 use crate::writing::Put;
 use crate::writing::Row;
 use crate::writing::put_named_row;
+use lookups::counts::no_others;
 use lookups::values::is_string;
 use lookups::values::value_at;
 use rules::kind;
 use strings::dialects::Dialect;
 ghost use Prim.Native.Nat.{_<_};
-ghost use Rattle.rules.specs.Kinds.{alternative-kind};
-ghost use Rattle.rules.specs.Definitions.{structBody, unionBody, commandBody};
+ghost use mathlib.Core.Path.{_≡_};
+ghost use mathlib.Core.Logic.{_⊎_};
+ghost use Rattle.rules.specs.Kinds.{enum-kind, struct-kind, union-kind, alternate-kind, alternative-kind, command-kind};
 ghost use Rattle.definitions.specs.Written.{node-bound, definition-rows, PutsRows};
-ghost use Rattle.definitions.specs.Parts.{ListAt, BodyAt, UnionAt, CommandAt};
+ghost use Rattle.definitions.specs.Parts.{keysOfKind, ListAt, BodyAt, UnionAt, CommandAt};
 
-// A row of that kind with the name and a link, and the children under its key `data`.
-pub fn put_list(
+// The row of that kind with a link and the name at node v, and the children that the value at node d lists.
+fn put_list_rows(
     s: &[u8],
     nodes: &[u32],
-    k: usize,
     v: usize,
+    d: usize,
     rows: &mut [u32],
     n: usize,
     kind: u32,
     link: u32,
 ) -> Put
     requires { ⌜ (n < node-bound) × (kind < alternative-kind) ⌝ }
-    ensures { λ r. ⌜ PutsRows (ListAt (now (s .entry)) (now (nodes .entry)) kind link k v) (now (rows .entry)) (now (rows .exit)) n definition-rows r ⌝ }
+    ensures { λ r. ⌜ PutsRows (ListAt (now (s .entry)) (now (nodes .entry)) kind link v d) (now (rows .entry)) (now (rows .exit)) n definition-rows r ⌝ }
 {
-    let d = value_at(s, Dialect::Schema, nodes, k, b"data");
     let start = name_start(nodes, v, 0);
     let size = name_size(nodes, v, 0);
     let row = Row {
@@ -53,16 +55,40 @@ pub fn put_list(
     put_counted(s, nodes, d, rows, n, row)
 }
 
+// An enum or an alternate: a list and nothing else.
+pub fn put_list(
+    s: &[u8],
+    nodes: &[u32],
+    k: usize,
+    v: usize,
+    rows: &mut [u32],
+    n: usize,
+    kind: u32,
+) -> Put
+    requires { ⌜ (n < node-bound) × ((kind ≡ enum-kind) ⊎ (kind ≡ alternate-kind)) ⌝ }
+    ensures { λ r. ⌜ PutsRows (BodyAt (now (s .entry)) (now (nodes .entry)) (keysOfKind kind) k v n) (now (rows .entry)) (now (rows .exit)) n definition-rows r ⌝ }
+{
+    let d = value_at(s, Dialect::Schema, nodes, k, b"data");
+    if !no_others(nodes, k, &[v, d]) {
+        return Put::Refused;
+    }
+    put_list_rows(s, nodes, v, d, rows, n, kind, 0)
+}
+
 pub fn put_struct(s: &[u8], nodes: &[u32], k: usize, v: usize, rows: &mut [u32], n: usize) -> Put
     requires { ⌜ n < node-bound ⌝ }
-    ensures { λ r. ⌜ PutsRows (BodyAt (now (s .entry)) (now (nodes .entry)) structBody k v n) (now (rows .entry)) (now (rows .exit)) n definition-rows r ⌝ }
+    ensures { λ r. ⌜ PutsRows (BodyAt (now (s .entry)) (now (nodes .entry)) (keysOfKind struct-kind) k v n) (now (rows .entry)) (now (rows .exit)) n definition-rows r ⌝ }
 {
+    let d = value_at(s, Dialect::Schema, nodes, k, b"data");
     let b = value_at(s, Dialect::Schema, nodes, k, b"base");
+    if !no_others(nodes, k, &[v, d, b]) {
+        return Put::Refused;
+    }
     if !base_fits(nodes, b) {
         return Put::Refused;
     }
     let link = data_link(nodes, b, n);
-    put_list(s, nodes, k, v, rows, n, kind::STRUCT, link)
+    put_list_rows(s, nodes, v, d, rows, n, kind::STRUCT, link)
 }
 
 // The rows of a union whose base, discriminator and branches stand at nodes b, t and d.
@@ -105,20 +131,23 @@ fn put_union_rows(
 
 pub fn put_union(s: &[u8], nodes: &[u32], k: usize, v: usize, rows: &mut [u32], n: usize) -> Put
     requires { ⌜ n < node-bound ⌝ }
-    ensures { λ r. ⌜ PutsRows (BodyAt (now (s .entry)) (now (nodes .entry)) unionBody k v n) (now (rows .entry)) (now (rows .exit)) n definition-rows r ⌝ }
+    ensures { λ r. ⌜ PutsRows (BodyAt (now (s .entry)) (now (nodes .entry)) (keysOfKind union-kind) k v n) (now (rows .entry)) (now (rows .exit)) n definition-rows r ⌝ }
 {
     let b = value_at(s, Dialect::Schema, nodes, k, b"base");
+    let t = value_at(s, Dialect::Schema, nodes, k, b"discriminator");
+    let d = value_at(s, Dialect::Schema, nodes, k, b"data");
+    if !no_others(nodes, k, &[v, b, t, d]) {
+        return Put::Refused;
+    }
     if b == 0 {
         return Put::Refused;
     }
-    let t = value_at(s, Dialect::Schema, nodes, k, b"discriminator");
     if t == 0 {
         return Put::Refused;
     }
     if !is_string(nodes, t) {
         return Put::Refused;
     }
-    let d = value_at(s, Dialect::Schema, nodes, k, b"data");
     put_union_rows(s, nodes, v, b, t, d, rows, n)
 }
 
@@ -155,15 +184,18 @@ fn put_command_rows(
 
 pub fn put_command(s: &[u8], nodes: &[u32], k: usize, v: usize, rows: &mut [u32], n: usize) -> Put
     requires { ⌜ n < node-bound ⌝ }
-    ensures { λ r. ⌜ PutsRows (BodyAt (now (s .entry)) (now (nodes .entry)) commandBody k v n) (now (rows .entry)) (now (rows .exit)) n definition-rows r ⌝ }
+    ensures { λ r. ⌜ PutsRows (BodyAt (now (s .entry)) (now (nodes .entry)) (keysOfKind command-kind) k v n) (now (rows .entry)) (now (rows .exit)) n definition-rows r ⌝ }
 {
     let d = value_at(s, Dialect::Schema, nodes, k, b"data");
     let returns = value_at(s, Dialect::Schema, nodes, k, b"returns");
+    let flag = value_at(s, Dialect::Schema, nodes, k, b"allow-oob");
+    if !no_others(nodes, k, &[v, d, returns, flag]) {
+        return Put::Refused;
+    }
     let t = take_return(nodes, returns);
     let TypeRead::Taken(place, list) = t else {
         return Put::Refused;
     };
-    let flag = value_at(s, Dialect::Schema, nodes, k, b"allow-oob");
     let f = take_flag(nodes, flag);
     let FlagRead::Flag(oob) = f else {
         return Put::Refused;

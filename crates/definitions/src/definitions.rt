@@ -3,7 +3,6 @@ use crate::bodies::put_command;
 use crate::bodies::put_list;
 use crate::bodies::put_struct;
 use crate::bodies::put_union;
-use crate::keys::only_keys;
 use crate::writing::Put;
 use lookups::values::is_string;
 use lookups::values::value_at;
@@ -17,7 +16,7 @@ use tokens::node;
 ghost use Prim.Native.Nat.{_<_};
 ghost use Rattle.definitions.specs.Puts.{PutsDefinitions};
 ghost use Rattle.definitions.specs.Written.{node-bound, definition-rows, PutsRows};
-ghost use Rattle.definitions.specs.Parts.{BodyAt, FindsKind, KindAt, DefinitionAt, bodyFor};
+ghost use Rattle.definitions.specs.Parts.{FindsKind, KindAt, DefinitionAt};
 
 // The row kind that a kind key says, and the node of its value.
 pub enum KindKey {
@@ -52,29 +51,7 @@ fn kind_key(s: &[u8], nodes: &[u32], k: usize) -> KindKey
     KindKey::NoKey
 }
 
-// The object at node k, whose name stands at node v, as a definition of that row kind.
-fn put_body(
-    s: &[u8],
-    nodes: &[u32],
-    k: usize,
-    kind: u32,
-    v: usize,
-    rows: &mut [u32],
-    n: usize,
-) -> Put
-    requires { ⌜ n < node-bound ⌝ }
-    ensures { λ r. ⌜ PutsRows (BodyAt (now (s .entry)) (now (nodes .entry)) (bodyFor kind) k v n) (now (rows .entry)) (now (rows .exit)) n definition-rows r ⌝ }
-{
-    match kind {
-        kind::ENUM => put_list(s, nodes, k, v, rows, n, kind::ENUM, 0),
-        kind::STRUCT => put_struct(s, nodes, k, v, rows, n),
-        kind::UNION => put_union(s, nodes, k, v, rows, n),
-        kind::ALTERNATE => put_list(s, nodes, k, v, rows, n, kind::ALTERNATE, 0),
-        _ => put_command(s, nodes, k, v, rows, n),
-    }
-}
-
-// The definition of that row kind, refused unless the value at node v is a name and there is no key but those of the kind.
+// The definition of that row kind whose name is the value at node v.
 fn put_kind(
     s: &[u8],
     nodes: &[u32],
@@ -90,10 +67,13 @@ fn put_kind(
     if !is_string(nodes, v) {
         return Put::Refused;
     }
-    if !only_keys(s, nodes, k, kind) {
-        return Put::Refused;
+    match kind {
+        kind::ENUM => put_list(s, nodes, k, v, rows, n, kind::ENUM),
+        kind::STRUCT => put_struct(s, nodes, k, v, rows, n),
+        kind::UNION => put_union(s, nodes, k, v, rows, n),
+        kind::ALTERNATE => put_list(s, nodes, k, v, rows, n, kind::ALTERNATE),
+        _ => put_command(s, nodes, k, v, rows, n),
     }
-    put_body(s, nodes, k, kind, v, rows, n)
 }
 
 // The definition that is the value at node k, from row n on.

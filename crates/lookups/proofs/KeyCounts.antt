@@ -3,12 +3,13 @@
 use Prim.Native.Nat.{ℕ, suc, _+_, _≤_, _<_}
 use native.Mathlib.Numerals.{add-one}
 use native.Mathlib.Omega.{arith}
-use mathlib.Core.Path.{_≡_, refl, sym, ap, _∙_, subst}
+use mathlib.Core.Path.{_≡_, refl, sym, ap, ap₂, _∙_, subst}
 use mathlib.Core.Bool.{Bool, true, false, not, cond, _&&_, _||_}
-use mathlib.Core.List.{List, [], _∷_, _++_}
+use mathlib.Core.List.{List, [], _∷_}
 use mathlib.Core.Option.{Option, none, some}
 use lib.Dec.{eqb, eqb·suc-suc}
-use lib.ListN.{length, length-append}
+use lib.ListN.{length, getD, drop, drop-of-length-le}
+use lib.Seq.{drop-cons}
 use borrow.Author.Tests.{eq-eqb, ne-eqb}
 use Rattle.grammar.specs.Notation.{same, all, apart}
 use Rattle.grammar.specs.Tree.{Json, Fields}
@@ -23,7 +24,8 @@ use Rattle.rules.proofs.Lists.{same-true, same-refl, all-true, of-not, anyOf-tr
 use Rattle.rules.proofs.First.{decided}
 use Rattle.text.specs.Nodes.{next, HoldsFields}
 use Rattle.text.proofs.KeyLaws.{no-keys}
-use Rattle.lookups.specs.Lookups.{ValueFound, FindsValue, CountsFields, present, keysFound, FindsKeys, NoOtherKeys}
+use Rattle.lookups.specs.Lookups.{ValueFound, CountsFields, NoOtherKeys, FindsEach, foundCount, NoOthers}
+use Rattle.lookups.specs.Lookups.FindsEach.{nothing, _and_}
 use Rattle.lookups.proofs.FieldLaws.{first-field}
 
 -- of names apart the first differs from the rest, and the rest are apart
@@ -33,6 +35,15 @@ first-apart x l = both (all (λ y. not (same x y)) l) (apart same l)
 -- what differs from all of a list is none of it
 pub differs : (l : List (List ℕ)) (k : List ℕ) → all (λ y. not (same k y)) l ≡ true → anyOf l k ≡ false
 differs l k h = decided (anyOf l k) (λ t. of-not (same k k) (all-true (λ y. not (same k y)) l h k (anyOf-true l k t)) (same-refl k))
+
+-- how many of these names are keys
+abbrev present : Option Json → ℕ
+present none = 0
+present (some j) = 1
+
+unfoldable pub keysFound : List (List ℕ) → Fields → ℕ
+keysFound [] fs = 0
+keysFound (name ∷ names) fs = present (valueAt name fs) + keysFound names fs
 
 no-value : (fs : Fields) (key : List ℕ) → all (λ y. not (same key y)) (keysOf fs) ≡ true → valueAt key fs ≡ none
 no-value fs key h = go (valueAt key fs) refl
@@ -84,36 +95,48 @@ module _ (names : List (List ℕ)) (d : apart same names ≡ true) where
       go true {n} {k} l r = let z : 1 + n ≡ suc n = omega arith in ap (λ x. eqb x (suc k)) z ∙ eqb·suc-suc n k ∙ r
       go false {n} {k} l r = ne-eqb (0 + n) (suc k) (λ (z : 0 + n ≡ suc k). omega arith)
 
--- the law over nodes
-pub no-other : (d : Dialects.Dialect) {s w : List ℕ} {k : ℕ} {names : List (List ℕ)} {n c : ℕ} → apart same names ≡ true
-    → FindsKeys (grammarOf d) s w k names n → CountsFields w k c → NoOtherKeys (grammarOf d) s w k names (eqb n c)
-no-other d {s} {names = names} a f g = record { told = λ fs l h o. rw (f .told fs l h, g .told d s fs l h) (found-all names a fs o) }
-
-found-append : (names others : List (List ℕ)) (fs : Fields) → keysFound (names ++ others) fs ≡ keysFound names fs + keysFound others fs
-unfolding keysFound
-found-append [] others fs = omega arith
-found-append (name ∷ names) others fs = omega (arith, found-append names others fs)
-
-module _ {D : Dialect} {s w : List ℕ} {k : ℕ} where
-  -- one name, and the names of two lists
-  pub found-one : {name : List ℕ} {v n : ℕ} → FindsValue D s w k name v → n ≡ cond (eqb v 0) 0 1 → FindsKeys D s w k (name ∷ []) n
-  unfolding keysFound
-  found-one {name} {v} {n} f e = record { few = go (eqb v 0) e; told = λ fs l h. e ∙ at (valueAt name fs) l (f .told fs l h) }
+-- nodes found for names: as many as there are keys among these
+module _ {D : Dialect} {s w : List ℕ} {k : ℕ} (fs : Fields) (l : ℕ) (h : HoldsFields D s w fs l (suc k) (next w k)) where
+  found-each : {names : List (List ℕ)} {vs : List ℕ} → FindsEach D s w k names vs → foundCount vs ≡ keysFound names fs
+  unfolding foundCount keysFound
+  found-each nothing = refl
+  found-each (_and_ {name} {v} f rest) = ap₂ (λ (i j : ℕ). i + j) (at (valueAt name fs) (f .told fs l h)) (found-each rest)
     where
-      go : (b : Bool) → n ≡ cond b 0 1 → n ≤ 1
-      go true q = omega arith
-      go false q = omega arith
+      at : (o : Option Json) → ValueFound D s w l o v → cond (eqb v 0) 0 1 ≡ present o
+      at none e = rw (eq-eqb v 0 e)
+      at (some j) e = rw (ne-eqb v 0 (λ (z : v ≡ 0). omega (arith, e .0)))
 
-      at : (o : Option Json) (l : ℕ) → ValueFound D s w l o v → cond (eqb v 0) 0 1 ≡ present o + 0
-      at none l h = rw (eq-eqb v 0 h)
-      at (some j) l h = rw (ne-eqb v 0 (λ (z : v ≡ 0). omega (arith, h .0)))
+-- the law over nodes
+pub no-other : {w vs : List ℕ} {k n c : ℕ} → n ≡ foundCount vs → CountsFields w k c → NoOthers w k vs (eqb n c)
+no-other e g =
+    record { told = λ d s names a f. record { told = λ fs l h o. rw (e, found-each fs l h f, g .told d s fs l h) (found-all names a fs o) } }
 
-  pub found-both : {names others : List (List ℕ)} {m n : ℕ} → FindsKeys D s w k names m → FindsKeys D s w k others n → FindsKeys D s w k (names ++ others) (m + n)
-  found-both {names} {others} f g =
-      record {
-        few = omega (arith, f .few, g .few, length-append names others);
-        told = λ fs l h. omega (arith, f .told fs l h, g .told fs l h, found-append names others fs);
-      }
+pub only-these : (d : Dialects.Dialect) {s w vs : List ℕ} {k : ℕ} {names : List (List ℕ)} {r t : Bool} → apart same names ≡ true
+    → FindsEach (grammarOf d) s w k names vs → NoOthers w k vs r → r ≡ t → NoOtherKeys (grammarOf d) s w k names t
+only-these d {s} {w} {k = k} {names} a f g e = subst (NoOtherKeys (grammarOf d) s w k names) e (g .told d s names a f)
+
+-- found nodes counted one by one: c of those before the i-th
+pub record FoundLeft (vs : List ℕ) (i c : ℕ) : Type 0 where
+  pub few : c ≤ i
+  pub left : foundCount vs ≡ c + foundCount (drop i vs)
+
+pub found-begin : (vs : List ℕ) → FoundLeft vs 0 0
+found-begin vs = record { few = omega arith; left = omega arith }
+
+module _ {vs : List ℕ} {i c : ℕ} (v : FoundLeft vs i c) where
+  next-left : i < length vs → foundCount vs ≡ c + (cond (eqb (getD vs i 0) 0) 0 1 + foundCount (drop (i + 1) vs))
+  unfolding foundCount
+  next-left q = v .left ∙ rw (add-one i, drop-cons vs i 0)
+
+  pub found-one : {n : ℕ} → i < length vs → (getD vs i 0 ≡ 0 → ⊥) → n ≡ c + 1 → FoundLeft vs (i + 1) n
+  found-one q e p = record { few = omega (arith, v .few); left = next-left q ∙ rw (ne-eqb (getD vs i 0) 0 e) (omega arith) }
+
+  pub found-none : {n : ℕ} → i < length vs → getD vs i 0 ≡ 0 → n ≡ c → FoundLeft vs (i + 1) n
+  found-none q e p = record { few = omega (arith, v .few); left = next-left q ∙ rw (eq-eqb (getD vs i 0) 0 e) (omega arith) }
+
+  pub found-end : length vs ≤ i → c ≡ foundCount vs
+  unfolding foundCount
+  found-end q = sym (v .left ∙ rw (drop-of-length-le vs q) (omega arith))
 
 -- fields counted one by one: c of those from node b on are passed, the ones from node a on are left
 pub record CountLeft (w : List ℕ) (b a n c : ℕ) : Type 0 where

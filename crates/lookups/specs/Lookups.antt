@@ -1,7 +1,7 @@
 -- Serves contracts: what is found in nodes, for every tree that they hold.
 use Prim.Native.Nat.{ℕ, suc, _+_, _≤_, _<_}
 use mathlib.Core.Path.{_≡_}
-use mathlib.Core.Bool.{Bool, true, _||_}
+use mathlib.Core.Bool.{Bool, true, cond, _||_}
 use mathlib.Core.List.{List, [], _∷_}
 use mathlib.Core.Option.{Option, none, some}
 use lib.Dec.{eqb}
@@ -60,19 +60,21 @@ pub record FindsValue (D : Dialect) (s w : List ℕ) (k : ℕ) (name : List ℕ)
 pub record CountsFields (w : List ℕ) (k n : ℕ) : Type 0 where
   pub told : (d : Dialects.Dialect) (s : List ℕ) (fs : Fields) (l : ℕ) → HoldsFields (grammarOf d) s w fs l (suc k) (next w k) → n ≡ length (keysOf fs)
 
--- how many of these names are keys
-abbrev pub present : Option Json → ℕ
-present none = 0
-present (some j) = 1
-
-unfoldable pub keysFound : List (List ℕ) → Fields → ℕ
-keysFound [] fs = 0
-keysFound (name ∷ names) fs = present (valueAt name fs) + keysFound names fs
-
-pub record FindsKeys (D : Dialect) (s w : List ℕ) (k : ℕ) (names : List (List ℕ)) (n : ℕ) : Type 0 where
-  pub few : n ≤ length names
-  pub told : (fs : Fields) (l : ℕ) → HoldsFields D s w fs l (suc k) (next w k) → n ≡ keysFound names fs
-
 -- the object at node k, where it repeats no key, has no key but these
 pub record NoOtherKeys (D : Dialect) (s w : List ℕ) (k : ℕ) (names : List (List ℕ)) (r : Bool) : Type 0 where
   pub told : (fs : Fields) (l : ℕ) → HoldsFields D s w fs l (suc k) (next w k) → apart same (keysOf fs) ≡ true → r ≡ all (anyOf names) (keysOf fs)
+
+-- the values under these names stand at these nodes, or nowhere
+infixr 20 _and_
+pub data FindsEach (D : Dialect) (s w : List ℕ) (k : ℕ) : List (List ℕ) → List ℕ → Type 0 where
+  nothing : FindsEach D s w k [] []
+  _and_ : {name : List ℕ} {v : ℕ} {names : List (List ℕ)} {vs : List ℕ} → FindsValue D s w k name v → FindsEach D s w k names vs → FindsEach D s w k (name ∷ names) (v ∷ vs)
+
+-- how many of these nodes are somewhere
+unfoldable pub foundCount : List ℕ → ℕ
+foundCount [] = 0
+foundCount (v ∷ vs) = cond (eqb v 0) 0 1 + foundCount vs
+
+-- no other key, whatever names were looked for, no two of them the same
+pub record NoOthers (w : List ℕ) (k : ℕ) (vs : List ℕ) (r : Bool) : Type 0 where
+  pub told : (d : Dialects.Dialect) (s : List ℕ) (names : List (List ℕ)) → apart same names ≡ true → FindsEach (grammarOf d) s w k names vs → NoOtherKeys (grammarOf d) s w k names r

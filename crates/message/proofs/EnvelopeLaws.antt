@@ -4,7 +4,7 @@ use native.Mathlib.Omega.{arith}
 use mathlib.Core.Path.{_≡_, refl, sym, ap, _∙_, subst}
 use mathlib.Core.Logic.{_⊎_, inl, inr}
 use mathlib.Core.Bool.{Bool, true, false, cond}
-use mathlib.Core.List.{List}
+use mathlib.Core.List.{List, [], _∷_}
 use mathlib.Core.Option.{Option, none, some}
 use lib.Dec.{eqb}
 use borrow.Author.Tests.{eqb-true, ne-eqb, eq-eqb}
@@ -15,16 +15,19 @@ use Rattle.grammar.specs.Tree.Json.{leaf, arr, obj}
 use Rattle.grammar.specs.Tree.Fields.{no-fields}
 use Rattle.grammar.specs.Keys.{keysOf, keysOnce, keysOnceF}
 use Rattle.grammar.specs.Serving.Machine.Message.{message}
+use Rattle.strings.specs.declared.dialects.Dialect.the-variants.{Message}
 use Rattle.rules.specs.Values.{_>>=_, asString, valueAt}
 use Rattle.rules.specs.Envelope.{Envelope, asArguments, asCall, envelope}
 use Rattle.rules.proofs.Lists.{clash, and-left}
 use Rattle.text.specs.Nodes.{node, Holds, nodeKind}
 use Rattle.text.proofs.KeyLaws.{scalar-no-object}
-use Rattle.lookups.specs.Lookups.{stringKind, ValueFound, FindsValue, NoOtherKeys}
+use Rattle.lookups.specs.Lookups.{stringKind, ValueFound, FindsValue, NoOtherKeys, NoOthers}
+use Rattle.lookups.specs.Lookups.FindsEach.{nothing, _and_}
+use Rattle.lookups.proofs.KeyCounts.{only-these}
 use Rattle.lookups.proofs.NodeLaws.{string-node}
 use Rattle.message.specs.declared.envelope.Envelope as E
 use Rattle.message.specs.declared.envelope.Envelope.the-variants.{Call, Improper}
-use Rattle.message.specs.Envelopes.{envelopeKeys, callOf, properArguments, SaidAt, EnvelopeTold, ReadsEnvelope}
+use Rattle.message.specs.Envelopes.{callOf, properArguments, calledBy, SaidAt, EnvelopeTold, ReadsEnvelope}
 use Rattle.tokens.specs.NodeKinds.{object-node}
 
 -- a call by the value at a node
@@ -49,9 +52,6 @@ pub present : (w : List ℕ) {k i : ℕ} → (k ≡ 0 → ⊥) → i ≡ nodeKin
 unfolding properArguments
 present w {k} h e = rw (ne-eqb k 0 h) (ap (λ (n : ℕ). eqb n object-node) e)
 
-pub keys-said : {m w : List ℕ} {b v : Bool} → NoOtherKeys message m w 0 envelopeKeys b → b ≡ v → NoOtherKeys message m w 0 envelopeKeys v
-keys-said {m} {w} h e = subst (NoOtherKeys message m w 0 envelopeKeys) e h
-
 module _ (m w : List ℕ) where
   -- refused for what is said of an object
   refused : ((a e : ℕ) (fs : Fields) (l : ℕ) → Holds message m w (obj a e fs) l 0 → apart same (keysOf fs) ≡ true → envelope (obj a e fs) ≡ none) → ReadsEnvelope m w Improper
@@ -65,10 +65,6 @@ module _ (m w : List ℕ) where
 
   pub not-object : (node w 0 0 ≡ object-node → ⊥) → ReadsEnvelope m w Improper
   not-object h = refused (λ a e fs l x k. absurd (h (x .0 .has-kind)))
-
-  pub other-key : NoOtherKeys message m w 0 envelopeKeys false → ReadsEnvelope m w Improper
-  unfolding envelope
-  other-key h = refused (λ a e fs l x k. rw (sym (h .told fs (l - 1) (x .3) k)) refl)
 
   module _ (l : ℕ) where
     -- the value at node k is an object exactly when its kind says so
@@ -143,35 +139,34 @@ module _ (m w : List ℕ) where
     no-arguments none (some j) v e = nothing-said v true (asString j) e
     no-arguments (some i) (some j) v e = refl
 
-  module _ {x y k : ℕ} (o : NoOtherKeys message m w 0 envelopeKeys true) (f : FindsValue message m w 0 (text "execute") x)
-      (g : FindsValue message m w 0 (text "exec-oob") y) (h : FindsValue message m w 0 (text "arguments") k) where
-    pub bad-arguments : properArguments w k ≡ false → ReadsEnvelope m w Improper
+    by-nodes : (ox oy v : Option Json) (x y k : ℕ) → ValueFound message m w l ox x → ValueFound message m w l oy y → ValueFound message m w l v k
+        → EnvelopeTold m w l (asCall ox oy v) (calledBy w x y k)
+    unfolding calledBy
+    by-nodes ox oy v x y k f g h = go (properArguments w k) refl
+      where
+        go : (b : Bool) → properArguments w k ≡ b
+            → EnvelopeTold m w l (asCall ox oy v) (cond b (cond (eqb y 0) (callOf w x false k) (cond (eqb x 0) (callOf w y true k) Improper)) Improper)
+        go true t = by-keys ox oy v x y k f g (arguments-at v k h t)
+        go false t = subst (λ (o : Option Envelope). EnvelopeTold m w l o Improper) (sym (no-arguments ox oy v (arguments-not v k h t))) refl
+
+  module _ {x y k id : ℕ} {b : Bool} (f : FindsValue message m w 0 (text "execute") x) (g : FindsValue message m w 0 (text "exec-oob") y)
+      (h : FindsValue message m w 0 (text "arguments") k) (i : FindsValue message m w 0 (text "id") id) (n : NoOthers w 0 (x ∷ y ∷ k ∷ id ∷ []) b) where
+    only-keys : {t : Bool} → b ≡ t → NoOtherKeys message m w 0 (text "execute" ∷ text "exec-oob" ∷ text "arguments" ∷ text "id" ∷ []) t
+    only-keys e = only-these Message refl (f and g and h and i and nothing) n e
+
+    pub other-key : b ≡ false → ReadsEnvelope m w Improper
     unfolding envelope
-    bad-arguments t =
-        refused (λ a e fs l z i.
-        rw (sym (o .told fs (l - 1) (z .3) i)) (no-arguments (l - 1) (valueAt (text "execute") fs) (valueAt (text "exec-oob") fs) (valueAt (text "arguments") fs)
-        (arguments-not (l - 1) (valueAt (text "arguments") fs) k (h .told fs (l - 1) (z .3)) t)))
+    other-key t = refused (λ a e fs l x k. rw (sym (only-keys t .told fs (l - 1) (x .3) k)) refl)
 
     -- the whole envelope
-    read-so : node w 0 0 ≡ object-node → properArguments w k ≡ true → ReadsEnvelope m w (cond (eqb y 0) (callOf w x false k) (cond (eqb x 0) (callOf w y true k) Improper))
+    pub envelope-read : {r : E.Envelope} → node w 0 0 ≡ object-node → b ≡ true → r ≡ calledBy w x y k → ReadsEnvelope m w r
     unfolding envelope
-    read-so q t = record { told = λ j l z i. go j l z i }
+    envelope-read q o p = rw p (record { told = λ j l z i. go j l z i })
       where
-        go : (j : Json) (l : ℕ) → Holds message m w j l 0 → keysOnce j ≡ true
-            → EnvelopeTold m w (l - 1) (envelope j) (cond (eqb y 0) (callOf w x false k) (cond (eqb x 0) (callOf w y true k) Improper))
+        go : (j : Json) (l : ℕ) → Holds message m w j l 0 → keysOnce j ≡ true → EnvelopeTold m w (l - 1) (envelope j) (calledBy w x y k)
         go (leaf a e v) l z i = absurd (scalar-no-object m a e v (sym (z .0 .has-kind) ∙ q))
         go (arr a e js) l z i = absurd (omega (arith, z .0 .has-kind, q))
         go (obj a e fs) l z i =
             let u = z .3 in
-            rw (sym (o .told fs (l - 1) u (and-left (apart same (keysOf fs)) (keysOnceF fs) i))) (by-keys (l - 1) (valueAt (text "execute") fs) (valueAt (text "exec-oob") fs) (valueAt (text "arguments") fs) x y k
-            (f .told fs (l - 1) u) (g .told fs (l - 1) u) (arguments-at (l - 1) (valueAt (text "arguments") fs) k (h .told fs (l - 1) u) t))
-
-    module _ (q : node w 0 0 ≡ object-node) (t : properArguments w k ≡ true) where
-      pub in-band : {r : E.Envelope} → y ≡ 0 → r ≡ callOf w x false k → ReadsEnvelope m w r
-      in-band e p = subst (λ (z : E.Envelope). ReadsEnvelope m w z) (rw (eq-eqb y 0 e) (sym p)) (read-so q t)
-
-      pub both : (y ≡ 0 → ⊥) → (x ≡ 0 → ⊥) → ReadsEnvelope m w Improper
-      both e i = subst (λ (z : E.Envelope). ReadsEnvelope m w z) (rw (ne-eqb y 0 e, ne-eqb x 0 i) refl) (read-so q t)
-
-      pub out-of-band : {r : E.Envelope} → (y ≡ 0 → ⊥) → x ≡ 0 → r ≡ callOf w y true k → ReadsEnvelope m w r
-      out-of-band e i p = subst (λ (z : E.Envelope). ReadsEnvelope m w z) (rw (ne-eqb y 0 e, eq-eqb x 0 i) (sym p)) (read-so q t)
+            rw (sym (only-keys o .told fs (l - 1) u (and-left (apart same (keysOf fs)) (keysOnceF fs) i))) (by-nodes (l - 1) (valueAt (text "execute") fs) (valueAt (text "exec-oob") fs) (valueAt (text "arguments") fs) x y k
+            (f .told fs (l - 1) u) (g .told fs (l - 1) u) (h .told fs (l - 1) u))

@@ -2,11 +2,10 @@
 use Prim.Native.Nat.{ℕ, _-_, _<_}
 use mathlib.Core.Path.{_≡_}
 use mathlib.Core.Logic.{_⊎_}
-use mathlib.Core.Bool.{Bool, true, cond}
-use mathlib.Core.List.{List, [], _∷_}
+use mathlib.Core.Bool.{Bool, true, false, cond}
+use mathlib.Core.List.{List}
 use mathlib.Core.Option.{Option, none, some}
 use lib.Dec.{eqb}
-use Rattle.grammar.specs.Notation.{text}
 use Rattle.grammar.specs.Tree.{Json}
 use Rattle.grammar.specs.Tree.Scalar.{str}
 use Rattle.grammar.specs.Tree.Json.{leaf, obj}
@@ -20,10 +19,6 @@ use Rattle.message.specs.declared.envelope.Envelope as E
 use Rattle.message.specs.declared.envelope.Envelope.the-variants.{Call, Improper}
 use Rattle.tokens.specs.NodeKinds.{object-node}
 
--- the keys that an envelope may have
-abbrev pub envelopeKeys : List (List ℕ)
-envelopeKeys = text "execute" ∷ text "exec-oob" ∷ text "arguments" ∷ text "id" ∷ []
-
 -- a call by the string at a node; 0 is no node
 unfoldable pub callOf : List ℕ → ℕ → Bool → ℕ → E.Envelope
 callOf w name oob arguments = cond (eqb name 0) Improper (cond (stringKind (nodeKind w name)) (Call name oob arguments) Improper)
@@ -31,6 +26,11 @@ callOf w name oob arguments = cond (eqb name 0) Improper (cond (stringKind (node
 -- the arguments at a node are an object; 0 is no node
 unfoldable pub properArguments : List ℕ → ℕ → Bool
 properArguments w arguments = cond (eqb arguments 0) true (eqb (nodeKind w arguments) object-node)
+
+-- a call by the values at the nodes of execute, exec-oob and the arguments; 0 is no node
+unfoldable pub calledBy : List ℕ → ℕ → ℕ → ℕ → E.Envelope
+calledBy w execute oob arguments =
+    cond (properArguments w arguments) (cond (eqb oob 0) (callOf w execute false arguments) (cond (eqb execute 0) (callOf w oob true arguments) Improper)) Improper
 
 -- the nodes of what an envelope says: the name's, and that of the arguments, 0 where they are absent
 pub record SaidAt (m w : List ℕ) (l : ℕ) (v : Envelope) (r : E.Envelope) : Type 0 where

@@ -1,6 +1,5 @@
 // The envelope: execute or exec-oob, arguments, id, and no other key.
-use lookups::counts::field_count;
-use lookups::counts::four_keys;
+use lookups::counts::no_others;
 use lookups::values::is_string;
 use lookups::values::value_at;
 use strings::dialects::Dialect;
@@ -8,22 +7,12 @@ use text::nodes::NODE_KIND;
 use text::nodes::node_word;
 use tokens::node;
 ghost use mathlib.Core.Path.{_≡_};
-ghost use Rattle.grammar.specs.Serving.Machine.Message.{message};
-ghost use Rattle.lookups.specs.Lookups.{NoOtherKeys};
-ghost use Rattle.message.specs.Envelopes.{envelopeKeys, callOf, properArguments, ReadsEnvelope};
+ghost use Rattle.message.specs.Envelopes.{callOf, properArguments, calledBy, ReadsEnvelope};
 
 // The node of the command's name, whether it is out of band, and the node of the arguments, 0 if they are absent.
 pub enum Envelope {
     Call(usize, bool, usize),
     Improper,
-}
-
-// Whether the message's object has no other key: as many fields as there are of these.
-fn only_keys(m: &[u8], nodes: &[u32]) -> bool
-    ensures { λ r. ⌜ NoOtherKeys message (now (m .entry)) (now (nodes .entry)) 0 envelopeKeys r ⌝ }
-{
-    let d = Dialect::Message;
-    four_keys(m, d, nodes, 0, b"execute", b"exec-oob", b"arguments", b"id") == field_count(nodes, 0)
 }
 
 // The call by the name at a node, 0 if there is none.
@@ -49,19 +38,10 @@ fn are_proper(nodes: &[u32], arguments: usize) -> bool
     node_word(nodes, arguments, NODE_KIND) == node::OBJECT
 }
 
-// What the message whose value stands at node 0 calls.
-pub fn read_envelope(m: &[u8], nodes: &[u32]) -> Envelope
-    ensures { λ r. ⌜ ReadsEnvelope (now (m .entry)) (now (nodes .entry)) r ⌝ }
+// What stands under the keys of an envelope, by their nodes, 0 for a key that is absent, as a call.
+fn called(nodes: &[u32], execute: usize, oob: usize, arguments: usize) -> Envelope
+    ensures { λ r. ⌜ r ≡ calledBy (now (nodes .entry)) execute oob arguments ⌝ }
 {
-    if node_word(nodes, 0, NODE_KIND) != node::OBJECT {
-        return Envelope::Improper;
-    }
-    if !only_keys(m, nodes) {
-        return Envelope::Improper;
-    }
-    let execute = value_at(m, Dialect::Message, nodes, 0, b"execute");
-    let oob = value_at(m, Dialect::Message, nodes, 0, b"exec-oob");
-    let arguments = value_at(m, Dialect::Message, nodes, 0, b"arguments");
     if !are_proper(nodes, arguments) {
         return Envelope::Improper;
     }
@@ -72,4 +52,21 @@ pub fn read_envelope(m: &[u8], nodes: &[u32]) -> Envelope
         return Envelope::Improper;
     }
     call(nodes, oob, true, arguments)
+}
+
+// What the message whose value stands at node 0 calls.
+pub fn read_envelope(m: &[u8], nodes: &[u32]) -> Envelope
+    ensures { λ r. ⌜ ReadsEnvelope (now (m .entry)) (now (nodes .entry)) r ⌝ }
+{
+    if node_word(nodes, 0, NODE_KIND) != node::OBJECT {
+        return Envelope::Improper;
+    }
+    let execute = value_at(m, Dialect::Message, nodes, 0, b"execute");
+    let oob = value_at(m, Dialect::Message, nodes, 0, b"exec-oob");
+    let arguments = value_at(m, Dialect::Message, nodes, 0, b"arguments");
+    let id = value_at(m, Dialect::Message, nodes, 0, b"id");
+    if !no_others(nodes, 0, &[execute, oob, arguments, id]) {
+        return Envelope::Improper;
+    }
+    called(nodes, execute, oob, arguments)
 }

@@ -1,8 +1,7 @@
--- `envelope::read_envelope` meets its contract: an object, no other key, arguments that are an object, and one name.
+-- `envelope::read_envelope` meets its contract: an object, no other key, and what its keys call.
 use mathlib.Core.Path.{_∙_, sym}
 use borrow.Author.Tests.{not-true, not-false}
-use Rattle.rows.proofs.Walks.{denied, granted}
-use Rattle.message.proofs.EnvelopeLaws.{keys-said, not-object, other-key, bad-arguments, in-band, both, out-of-band}
+use Rattle.message.proofs.EnvelopeLaws.{not-object, other-key, envelope-read}
 use borrow.Author.Needs.{needs}
 use Rattle.message.proofs.envelope.read_envelope.Statement.{statement}
 use Rattle.message.proofs.envelope.read_envelope.Tie as tie
@@ -11,13 +10,7 @@ node-word-requires : tie.Need-node-word-requires
 node-word-requires c κs = search needs
 
 returns : tie.Need-returns
-returns c = not-object (c .before .before .before .before .args .m .now) (c .before .before .before .before .args .nodes .now) (λ e. c .if1 .taken (c .before .node-word .ensures ∙ e))
-
-only-keys-requires : tie.Need-only-keys-requires
-only-keys-requires c κs = search needs
-
-returns-2 : tie.Need-returns-2
-returns-2 c = other-key (c .before .before .before .before .before .before .args .m .now) (c .before .before .before .before .before .before .args .nodes .now) (keys-said (c .before .only-keys .ensures) (not-true _ (c .if2 .taken)))
+returns c = not-object _ _ (λ e. c .if1 .taken (c .before .node-word .ensures ∙ e))
 
 slice-aggregate-value-at : tie.Need-slice-aggregate-value-at
 slice-aggregate-value-at c = search needs
@@ -37,26 +30,36 @@ slice-aggregate-value-at-3 c = search needs
 value-at-requires-3 : tie.Need-value-at-requires-3
 value-at-requires-3 c κs = search needs
 
-are-proper-requires : tie.Need-are-proper-requires
-are-proper-requires c κs = search needs
+slice-aggregate-value-at-4 : tie.Need-slice-aggregate-value-at-4
+slice-aggregate-value-at-4 c = search needs
+
+value-at-requires-4 : tie.Need-value-at-requires-4
+value-at-requires-4 c κs = search needs
+
+slice-aggregate-no-others : tie.Need-slice-aggregate-no-others
+slice-aggregate-no-others c = search needs
+
+no-others-requires : tie.Need-no-others-requires
+no-others-requires c κs = search needs
+
+returns-2 : tie.Need-returns-2
+returns-2 c =
+    let execute = c .before .before .before .before .before .before .before .before .before .value-at .ensures in
+    let oob = c .before .before .before .before .before .before .before .value-at2 .ensures in
+    let arguments = c .before .before .before .before .before .value-at3 .ensures in
+    let id = c .before .before .before .value-at4 .ensures in
+    other-key _ _ execute oob arguments id (c .before .no-others .ensures) (not-true _ (c .if2 .taken))
+
+called-requires : tie.Need-called-requires
+called-requires c κs = search needs
 
 returns-3 : tie.Need-returns-3
-returns-3 c = bad-arguments (c .before .before .before .before .before .before .before .before .before .before .before .before .before .before .args .m .now) (c .before .before .before .before .before .before .before .before .before .before .before .before .before .before .args .nodes .now) (keys-said (c .before .before .before .before .before .before .before .before .before .only-keys .ensures) (not-false _ (c .before .before .before .before .before .before .before .before .if2 .left))) (c .before .before .before .before .before .before .value-at .ensures) (c .before .before .before .before .value-at2 .ensures) (c .before .before .value-at3 .ensures) (denied (c .before .are-proper .ensures) (c .if3 .taken))
-
-call-requires : tie.Need-call-requires
-call-requires c κs = search needs
-
-returns-4 : tie.Need-returns-4
-returns-4 c = in-band (c .before .before .before .before .before .before .before .before .before .before .before .before .before .before .before .before .args .m .now) (c .before .before .before .before .before .before .before .before .before .before .before .before .before .before .before .before .args .nodes .now) (keys-said (c .before .before .before .before .before .before .before .before .before .before .before .only-keys .ensures) (not-false _ (c .before .before .before .before .before .before .before .before .before .before .if2 .left))) (c .before .before .before .before .before .before .before .before .value-at .ensures) (c .before .before .before .before .before .before .value-at2 .ensures) (c .before .before .before .before .value-at3 .ensures) (sym (c .before .before .before .before .before .before .before .before .before .before .before .before .before .node-word .ensures) ∙ c .before .before .before .before .before .before .before .before .before .before .before .before .if1 .left) (granted (c .before .before .before .are-proper .ensures) (c .before .before .if3 .left)) (c .before .if4 .taken) (c .call .ensures)
-
-returns-5 : tie.Need-returns-5
-returns-5 c = both (c .before .before .before .before .before .before .before .before .before .before .before .before .before .before .before .before .args .m .now) (c .before .before .before .before .before .before .before .before .before .before .before .before .before .before .before .before .args .nodes .now) (keys-said (c .before .before .before .before .before .before .before .before .before .before .before .only-keys .ensures) (not-false _ (c .before .before .before .before .before .before .before .before .before .before .if2 .left))) (c .before .before .before .before .before .before .before .before .value-at .ensures) (c .before .before .before .before .before .before .value-at2 .ensures) (c .before .before .before .before .value-at3 .ensures) (sym (c .before .before .before .before .before .before .before .before .before .before .before .before .before .node-word .ensures) ∙ c .before .before .before .before .before .before .before .before .before .before .before .before .if1 .left) (granted (c .before .before .before .are-proper .ensures) (c .before .before .if3 .left)) (c .before .if4 .left) (c .if5 .taken)
-
-call-requires-2 : tie.Need-call-requires-2
-call-requires-2 c κs = search needs
-
-returns-6 : tie.Need-returns-6
-returns-6 c = out-of-band (c .before .before .before .before .before .before .before .before .before .before .before .before .before .before .before .before .before .args .m .now) (c .before .before .before .before .before .before .before .before .before .before .before .before .before .before .before .before .before .args .nodes .now) (keys-said (c .before .before .before .before .before .before .before .before .before .before .before .before .only-keys .ensures) (not-false _ (c .before .before .before .before .before .before .before .before .before .before .before .if2 .left))) (c .before .before .before .before .before .before .before .before .before .value-at .ensures) (c .before .before .before .before .before .before .before .value-at2 .ensures) (c .before .before .before .before .before .value-at3 .ensures) (sym (c .before .before .before .before .before .before .before .before .before .before .before .before .before .before .node-word .ensures) ∙ c .before .before .before .before .before .before .before .before .before .before .before .before .before .if1 .left) (granted (c .before .before .before .before .are-proper .ensures) (c .before .before .before .if3 .left)) (c .before .before .if4 .left) (c .before .if5 .left) (c .call2 .ensures)
+returns-3 c =
+    let execute = c .before .before .before .before .before .before .before .before .before .before .value-at .ensures in
+    let oob = c .before .before .before .before .before .before .before .before .value-at2 .ensures in
+    let arguments = c .before .before .before .before .before .before .value-at3 .ensures in
+    let id = c .before .before .before .before .value-at4 .ensures in
+    envelope-read _ _ execute oob arguments id (c .before .before .no-others .ensures) (sym (c .before .before .before .before .before .before .before .before .before .before .before .before .before .node-word .ensures) ∙ c .before .before .before .before .before .before .before .before .before .before .before .before .if1 .left) (not-false _ (c .before .if2 .left)) (c .called .ensures)
 
 pub read-envelope-spec : {M : Type 1} → statement M
 read-envelope-spec =
@@ -64,18 +67,16 @@ read-envelope-spec =
     (tie.spec
     node-word-requires
     returns
-    only-keys-requires
-    returns-2
     slice-aggregate-value-at
     value-at-requires
     slice-aggregate-value-at-2
     value-at-requires-2
     slice-aggregate-value-at-3
     value-at-requires-3
-    are-proper-requires
-    returns-3
-    call-requires
-    returns-4
-    returns-5
-    call-requires-2
-    returns-6)
+    slice-aggregate-value-at-4
+    value-at-requires-4
+    slice-aggregate-no-others
+    no-others-requires
+    returns-2
+    called-requires
+    returns-3)
