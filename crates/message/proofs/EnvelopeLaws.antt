@@ -21,7 +21,7 @@ use Rattle.rules.specs.Envelope.{Envelope, asArguments, asCall, envelope}
 use Rattle.rules.proofs.Lists.{clash, and-left}
 use Rattle.text.specs.Nodes.{node, Holds, nodeKind}
 use Rattle.text.proofs.KeyLaws.{scalar-no-object}
-use Rattle.lookups.specs.Lookups.{stringKind, ValueFound, FindsValue, NoOtherKeys, NoOthers}
+use Rattle.lookups.specs.Lookups.{ValueFound, FindsValue, NoOtherKeys, NoOthers}
 use Rattle.lookups.specs.Lookups.FindsEach.{nothing, _and_}
 use Rattle.lookups.proofs.KeyCounts.{only-these}
 use Rattle.lookups.proofs.NodeLaws.{string-node}
@@ -30,20 +30,7 @@ use Rattle.message.specs.declared.envelope.Envelope.the-variants.{Call, 
 use Rattle.message.specs.Envelopes.{callOf, properArguments, calledBy, SaidAt, EnvelopeTold, ReadsEnvelope}
 use Rattle.tokens.specs.NodeKinds.{object-node}
 
--- a call by the value at a node
-module _ (w : List ℕ) {name : ℕ} (arguments : ℕ) (oob : Bool) where
-  pub no-name : name ≡ 0 → Improper ≡ callOf w name oob arguments
-  unfolding callOf
-  no-name e = rw (eq-eqb name 0 e) refl
-
-  pub not-string : (name ≡ 0 → ⊥) → stringKind (nodeKind w name) ≡ false → Improper ≡ callOf w name oob arguments
-  unfolding callOf
-  not-string h e = rw (ne-eqb name 0 h, e) refl
-
-  pub a-string : (name ≡ 0 → ⊥) → stringKind (nodeKind w name) ≡ true → Call name oob arguments ≡ callOf w name oob arguments
-  unfolding callOf
-  a-string h e = rw (ne-eqb name 0 h, e) refl
-
+-- the arguments at a node
 pub absent : (w : List ℕ) {k : ℕ} → k ≡ 0 → true ≡ properArguments w k
 unfolding properArguments
 absent w {k} e = rw (eq-eqb k 0 e) refl
@@ -94,6 +81,9 @@ module _ (m w : List ℕ) where
     arguments-not none k f t = absurd (clash (sym (absent w f)) t)
     arguments-not (some j) k f t = are-no-object j k (f .1) (rw (ne-eqb k 0 (λ e. omega (arith, f .0))) at t)
 
+    abbrev saying : Option Json → Bool → List ℕ → Option Envelope
+    saying v oob cs = asArguments v >>= λ a. some (record { name = cs; outOfBand = oob; arguments = a })
+
     -- the name: a string, or no envelope
     module _ (v : Option Json) (k : ℕ) (p : ArgumentsAt v k) where
       say : List ℕ → Bool → Envelope
@@ -104,11 +94,8 @@ module _ (m w : List ℕ) where
       said x oob a e cs h =
           record { name = x; arguments = k; is = refl; name-start = a; name-end = e; name-holds = h; arguments-hold = p .at }
 
-      abbrev named : Bool → List ℕ → Option Envelope
-      named oob cs = asArguments v >>= (λ a. some (record { name = cs; outOfBand = oob; arguments = a }))
-
       -- an envelope by the value j at node x
-      by-name : (j : Json) (x : ℕ) (oob : Bool) → 0 < x → Holds message m w j l x → EnvelopeTold m w l (asString j >>= named oob) (callOf w x oob k)
+      by-name : (j : Json) (x : ℕ) (oob : Bool) → 0 < x → Holds message m w j l x → EnvelopeTold m w l (asString j >>= saying v oob) (callOf w x oob k)
       unfolding callOf say
       by-name (leaf a e null) x oob q h = rw (ne-eqb x 0 (λ e. omega arith), string-node message m w (leaf a e null) l x h) refl
       by-name (leaf a e (bool b)) x oob q h = rw (ne-eqb x 0 (λ e. omega arith), string-node message m w (leaf a e (bool b)) l x h) refl
@@ -125,9 +112,6 @@ module _ (m w : List ℕ) where
     by-keys (some i) none v x y k f g p = rw (eq-eqb y 0 g) (by-name v k p i x false (f .0) (f .1))
     by-keys none (some j) v x y k f g p = rw (ne-eqb y 0 (λ e. omega (arith, g .0)), eq-eqb x 0 f) (rw (ne-eqb y 0 (λ e. omega (arith, g .0))) at (by-name v k p j y true (g .0) (g .1)))
     by-keys (some i) (some j) v x y k f g p = rw (ne-eqb y 0 (λ e. omega (arith, g .0)), ne-eqb x 0 (λ e. omega (arith, f .0))) refl
-
-    abbrev saying : Option Json → Bool → List ℕ → Option Envelope
-    saying v oob cs = asArguments v >>= λ a. some (record { name = cs; outOfBand = oob; arguments = a })
 
     nothing-said : (v : Option Json) (oob : Bool) (o : Option (List ℕ)) → asArguments v ≡ none → (o >>= saying v oob) ≡ none
     nothing-said v oob none e = refl
