@@ -8,6 +8,7 @@ use buckets::BUCKETS;
 use buckets::add;
 use buckets::first;
 use buckets::next;
+use grammar::MESSAGE_BYTES;
 use sorted::repeats::Found;
 use strings::dialects::Dialect;
 use words::number_at;
@@ -21,8 +22,8 @@ ghost use Rattle.strings.specs.Strings.{grammarOf};
 ghost use Rattle.text.specs.Fields.{FindsKey};
 ghost use Rattle.text.specs.Index.{SameAfter, LooksUp};
 
-// Keys of a bucket that are passed before it is given up: more than an object of ordinary keys has, by measurement.
-const LONG: usize = 16;
+// Keys of a bucket that are passed before it is given up. What is given up is compared pairwise, which is dearer than any bucket: no object of a message has more keys.
+const LONG: usize = MESSAGE_BYTES / 2;
 
 // A key is new, repeats one, or its bucket was given up.
 pub enum Lookup {
