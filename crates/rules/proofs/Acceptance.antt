@@ -56,7 +56,7 @@ module _ (S T m : List ℕ) where
             let y : n ≡ length ts = cc in
             let z = readable h g k in
             record { asked = a; reading = ts; readable-so = z .0; held = z .1; row = x; count = y; records = q }
-        go (refused h p q) = let z : _≡_ {A = ℕ} 0 1 = cc in absurd (omega arith)
+        go (refused h l p q) = let z : _≡_ {A = ℕ} 0 1 = cc in absurd (omega arith)
 
     pub gives-accepted : {a : Asked} {ts : List Typed} → Readable S T m a ts → Held room ts → messageResult S T m room .answer ≡ Accepted (a .second) (length ts)
     gives-accepted {a} {ts} r f =
@@ -64,12 +64,12 @@ module _ (S T m : List ℕ) where
         (accepted (record { value = r .value; is-text = r .is-text; asks = r .asks }) (r .reads) (unrefused S T m room r f) refl refl) .0)
 
     -- a refusal leaves every lent word 0
-    pub refused-zero : (x : MessageRefusal) → messageResult S T m room .answer ≡ Refused x → messageResult S T m room .words ≡ replicate room 0
-    refused-zero x e = go (message-outcome S T m room)
+    pub refused-zero : (x : MessageRefusal) (p : ℕ) → messageResult S T m room .answer ≡ Refused x p → messageResult S T m room .words ≡ replicate room 0
+    refused-zero x p e = go (message-outcome S T m room)
       where
         go : MessageOutcome S T m room (messageResult S T m room .answer) (messageResult S T m room .words) → messageResult S T m room .words ≡ replicate room 0
         go (accepted h g k p q) = let z : _≡_ {A = ℕ} 0 1 = cc in absurd (omega arith)
-        go (refused h p q) = q
+        go (refused h l p q) = q
 
   -- more room never changes an acceptance but for the zeros after it
   pub more-room : (room more c n : ℕ) → room ≤ more → messageResult S T m room .answer ≡ Accepted c n → messageResult S T m more .answer ≡ Accepted c n

@@ -211,13 +211,13 @@ accepted-rows S room n e =
     rw (z .written, take-at W (replicate (room - length W) 0) (row-words * n) k) (unrefused-sound S room (z .definitions) (z .said) (z .unrefused))
 
 -- Reference, Message answers 21: never over the rows of an accepted schema
-pub never-unsound : (S : List ℕ) (room n : ℕ) → schemaResult S room .answer ≡ SA.Accepted n → (m : List ℕ) (lent : ℕ)
-    → messageResult S (take (row-words * n) (schemaResult S room .words)) m lent .answer ≡ MA.Refused M.UnsoundTable → ⊥
-never-unsound S room n e m lent q = go (message-outcome S W m lent)
+pub never-unsound : (S : List ℕ) (room n : ℕ) → schemaResult S room .answer ≡ SA.Accepted n → (m : List ℕ) (lent p : ℕ)
+    → messageResult S (take (row-words * n) (schemaResult S room .words)) m lent .answer ≡ MA.Refused M.UnsoundTable p → ⊥
+never-unsound S room n e m lent p q = go (message-outcome S W m lent)
   where
     W : List ℕ
     W = take (row-words * n) (schemaResult S room .words)
 
     go : MessageOutcome S W m lent (messageResult S W m lent .answer) (messageResult S W m lent .words) → ⊥
     go (accepted h g k p w) = let z : _≡_ {A = ℕ} 0 1 = cc in omega arith
-    go (refused {x} h p w) = let z : x ≡ M.UnsoundTable = cc in clash (accepted-rows S room n e) (subst (λ (y : MessageRefusal). MessageApplies y S W m lent) z (first-has (λ y. MessageApplies y S W m lent) messageOrder h))
+    go (refused {x} h l p w) = let z : x ≡ M.UnsoundTable = cc in clash (accepted-rows S room n e) (subst (λ (y : MessageRefusal). MessageApplies y S W m lent) z (first-has (λ y. MessageApplies y S W m lent) messageOrder h))

@@ -14,10 +14,10 @@ use Rattle.rules.specs.Cases.{Answer, Call, Case, cases}
 
 -- the numbers of an answer and then every lent word
 abbrev ofSchema : SchemaResult → List ℕ
-ofSchema o = Schema.answerNumber (o .answer) ∷ Schema.answerRows (o .answer) ∷ o .words
+ofSchema o = Schema.answerNumber (o .answer) ∷ Schema.answerRows (o .answer) ∷ Schema.answerPlace (o .answer) ∷ o .words
 
 abbrev ofMessage : MessageResult → List ℕ
-ofMessage o = Message.answerNumber (o .answer) ∷ Message.answerRow (o .answer) ∷ Message.answerRecords (o .answer) ∷ o .words
+ofMessage o = Message.answerNumber (o .answer) ∷ Message.answerRow (o .answer) ∷ Message.answerRecords (o .answer) ∷ Message.answerPlace (o .answer) ∷ o .words
 
 abbrev written : Answer → List ℕ
 written a = a .numbers ++ concat (a .words) ++ replicate (a .zeros) 0

@@ -60,9 +60,9 @@ module _ (S T m : List ℕ) where
   few-records {a = a} s k h =
       omega (arith, value-records S T (sound-facts S T s) h, extra-few S T (a .ref), arguments-bytes (asked-arguments (k .asks)), message-fewest (k .is-text))
 
-  enough-records : {room : ℕ} {answer : MessageAnswer} {words : List ℕ} → record-words * length m ≤ room → MessageOutcome S T m room answer words → answer ≢ MA.Refused M.NoRoom
-  enough-records h (accepted k g n e f) i = let z : _≡_ {A = ℕ} 0 1 = cc in omega arith
-  enough-records {room} h (refused {x} o e f) i =
+  enough-records : {room : ℕ} {answer : MessageAnswer} {words : List ℕ} → record-words * length m ≤ room → MessageOutcome S T m room answer words → (p : ℕ) → answer ≢ MA.Refused M.NoRoom p
+  enough-records h (accepted k g n e f) p i = let z : _≡_ {A = ℕ} 0 1 = cc in omega arith
+  enough-records {room} h (refused {x} o l e f) p i =
       let applies : MessageRefusal → Type 0 = λ y. MessageApplies y S T m room in
       let z : x ≡ M.NoRoom = cc in
       let first = subst (FirstOf applies messageOrder) z o in
@@ -74,9 +74,9 @@ module _ (S T m : List ℕ) where
   records-suffice = record { few = few-records; enough = enough-records }
 
 module _ (S : List ℕ) where
-  enough-rows : {room : ℕ} {answer : SchemaAnswer} {words : List ℕ} → row-words * table-rows ≤ room → SchemaOutcome S room answer words → answer ≢ SA.Refused R.NoRoom
-  enough-rows h (SchemaOutcome.accepted s n e f) i = let z : _≡_ {A = ℕ} 0 1 = cc in omega arith
-  enough-rows {room} h (SchemaOutcome.refused {x} o e f) i =
+  enough-rows : {room : ℕ} {answer : SchemaAnswer} {words : List ℕ} → row-words * table-rows ≤ room → SchemaOutcome S room answer words → (p : ℕ) → answer ≢ SA.Refused R.NoRoom p
+  enough-rows h (SchemaOutcome.accepted s n e f) p i = let z : _≡_ {A = ℕ} 0 1 = cc in omega arith
+  enough-rows {room} h (SchemaOutcome.refused {x} o l e f) p i =
       let applies : SchemaRefusal → Type 0 = λ y. SchemaApplies y S room in
       let z : x ≡ R.NoRoom = cc in
       let first = subst (FirstOf applies schemaOrder) z o in
@@ -87,8 +87,8 @@ module _ (S : List ℕ) where
   rows-suffice = record { enough = enough-rows }
 
 -- of the answers as functions, which the calls' contracts cite
-pub rows-never-refused : (S : List ℕ) (room : ℕ) → row-words * table-rows ≤ room → schemaResult S room .answer ≢ SA.Refused R.NoRoom
+pub rows-never-refused : (S : List ℕ) (room : ℕ) → row-words * table-rows ≤ room → (p : ℕ) → schemaResult S room .answer ≢ SA.Refused R.NoRoom p
 rows-never-refused S room h = rows-suffice S .enough h (schema-outcome S room)
 
-pub records-never-refused : (S T m : List ℕ) (room : ℕ) → record-words * length m ≤ room → messageResult S T m room .answer ≢ MA.Refused M.NoRoom
+pub records-never-refused : (S T m : List ℕ) (room : ℕ) → record-words * length m ≤ room → (p : ℕ) → messageResult S T m room .answer ≢ MA.Refused M.NoRoom p
 records-never-refused S T m room h = records-suffice S T m .enough h (message-outcome S T m room)

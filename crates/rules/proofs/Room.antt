@@ -59,7 +59,7 @@ accepted-table S room n e = go (schema-outcome S room)
     go (accepted {ds} s f p q) =
         let z : n ≡ rowCount (table S ds) = cc in
         record { definitions = ds; said = s; unrefused = f; rows = z; held = fits ds s (f R.NoRoom); written = q }
-    go (refused h p q) = let z : _≡_ {A = ℕ} 0 1 = cc in absurd (omega arith)
+    go (refused h l p q) = let z : _≡_ {A = ℕ} 0 1 = cc in absurd (omega arith)
 
 -- a number that applies to more room applies to less
 less-room : (S : List ℕ) (room more : ℕ) → room ≤ more → (x : SchemaRefusal) → SchemaApplies x S more → SchemaApplies x S room

@@ -1,34 +1,42 @@
--- The schema answer as a function is the one outcome that the reference's table allows: each test says when its refusal applies, and the first that passes has the lowest rank.
+-- The schema answer as a function is the one outcome that the reference's table allows: each test says when its refusal applies, the first that passes has the lowest rank, and its
+-- place is the only one.
 -- The idea: the bytes decide the text, the text the objects, these the definitions; so a statement on "the definitions of S" is one on the definitions computed.
 use Prim.Native.Nat.{ℕ, suc, _/_, _<_}
 use native.Mathlib.Omega.{arith}
-use mathlib.Core.Path.{_≡_, refl, sym, ap, _∙_}
+use mathlib.Core.Path.{_≡_, refl, sym, ap, _∙_, subst}
 use mathlib.Core.Bool.{Bool, true, false, not}
 use mathlib.Core.List.{List, _∷_, List·Memᴰ}
 use mathlib.Core.Option.{Option, none, some}
 use lib.Dec.{ltb}
 use lib.ListN.{length, drop, getElem?}
 use borrow.Author.Tests.{ltb-true, lt-ltb, not-true}
-use Rattle.grammar.specs.Limits.{schema-bytes, table-rows, row-words}
+use Rattle.grammar.specs.Limits.{schema-bytes, schema-levels, table-rows, row-words}
 use Rattle.grammar.specs.Tree.{Items}
-use Rattle.grammar.specs.Keys.{keysOnceI}
-use Rattle.grammar.specs.SchemaText.{SchemaText}
+use Rattle.grammar.specs.Keys.{keysOnceI, RepeatsI, Earliest}
+use Rattle.grammar.specs.Starts.{Longest}
+use Rattle.grammar.specs.SchemaText.{SchemaText, schema-lexis}
+use Rattle.grammar.specs.Serving.Repeats.{firstRepeatI}
 use Rattle.grammar.specs.Serving.Machine.{Out}
 use Rattle.grammar.specs.Serving.Machine.Out.{whole, fault, deep}
 use Rattle.grammar.specs.Serving.Machine.Schema.{readSchema}
-use Rattle.grammar.proofs.Texts.{schema-text}
+use Rattle.grammar.proofs.Starts.{longest-unique}
+use Rattle.grammar.proofs.Texts.{schema-text, schema-unique, schema-fault, schema-deep}
+use Rattle.grammar.proofs.Repeats.{first-once-items, schema-earliest, earliest-only}
 use Rattle.rules.specs.declared.SchemaRefusal.{SchemaRefusal}
 use Rattle.rules.specs.declared.SchemaRefusal.the-variants.{TooLong, NotText, RepeatedKey, NotDefinitions, BadName, RepeatedName, UnknownName, BadChain, BadUnion, BadAlternate, BadReturn, TooManyRows, NoRoom}
 use Rattle.rules.specs.declared.SchemaAnswer.{SchemaAnswer}
+use Rattle.rules.specs.declared.SchemaAnswer.the-variants.{Refused}
 use Rattle.rules.specs.Values.{_>>=_}
 use Rattle.rules.specs.Definitions.{Definition, definitions}
 use Rattle.rules.specs.Rows.{rowCount}
 use Rattle.rules.specs.Rules.{is, goodNames, distinctNames, goodChains, goodUnions, goodAlternates, goodReturns}
 use Rattle.rules.specs.SchemaTable.{table, allRefer}
-use Rattle.rules.specs.SchemaAnswers.{schemaOrder, Says, SchemaApplies, SchemaOutcome}
+use Rattle.rules.specs.Refusals.{FirstOf}
+use Rattle.rules.specs.SchemaAnswers.{schemaOrder, Says, SchemaApplies, SchemaPlace, SchemaOutcome}
 use Rattle.rules.specs.SchemaAnswers.SchemaOutcome.{accepted, refused}
-use Rattle.rules.specs.Serving.Answers.{SchemaResult, isNone, first, rank, objectsIn, schemaTest, tableIn, schemaAnswered, schemaResult}
+use Rattle.rules.specs.Serving.Answers.{SchemaResult, isNone, first, rank, objectsIn, faultIn, placeOr0, repeatIn, schemaPlace, schemaTest, tableIn, schemaAnswered, schemaResult}
 use Rattle.rules.proofs.Lists.{clash, is-true}
+use Rattle.rules.proofs.Refusals.{first-has}
 pub use Rattle.rules.proofs.First.{nth}
 use Rattle.rules.proofs.First.{decided, drop-nth, first-none, none-first, first-of, of-first}
 
@@ -70,6 +78,32 @@ listed x = nth schemaOrder (rank x) x (ranked x)
 -- the refusals from one on begin with it
 pub from-rank : (x : SchemaRefusal) → drop (rank x) schemaOrder ≡ x ∷ drop (suc (rank x)) schemaOrder
 from-rank x = drop-nth schemaOrder (rank x) x (ranked x)
+
+-- a refusal has one place
+pub schema-place-only : (S : List ℕ) {p q : ℕ} (x : SchemaRefusal) → SchemaPlace x S p → SchemaPlace x S q → p ≡ q
+schema-place-only S TooLong a b = a ∙ sym b
+schema-place-only S NotText a b = longest-unique schema-lexis a b
+schema-place-only S {p} RepeatedKey (js, t, a) (ks, u, b) = earliest-only (subst (λ (i : Items). Earliest (RepeatsI i) p) (schema-unique t u) a) b
+schema-place-only S NotDefinitions a b = a ∙ sym b
+schema-place-only S BadName a b = a ∙ sym b
+schema-place-only S RepeatedName a b = a ∙ sym b
+schema-place-only S UnknownName a b = a ∙ sym b
+schema-place-only S BadChain a b = a ∙ sym b
+schema-place-only S BadUnion a b = a ∙ sym b
+schema-place-only S BadAlternate a b = a ∙ sym b
+schema-place-only S BadReturn a b = a ∙ sym b
+schema-place-only S TooManyRows a b = a ∙ sym b
+schema-place-only S NoRoom a b = a ∙ sym b
+
+-- where the text goes wrong, and where a key is repeated
+fault-placed : (S : List ℕ) (o : Out) → readSchema S ≡ o → ((js : Items) → SchemaText S js → ⊥) → Longest schema-lexis schema-levels S (faultIn o)
+fault-placed S (whole js) e n = absurd (n js (schema-text S js .0 e))
+fault-placed S (fault p) e n = schema-fault e .longest
+fault-placed S (deep p) e n = schema-deep e .longest
+
+repeat-placed : {S : List ℕ} (js : Items) (o : Option ℕ) → firstRepeatI js ≡ o → SchemaText S js → keysOnceI js ≡ false → Earliest (RepeatsI js) (placeOr0 o)
+repeat-placed js none e t k = clash (first-once-items js .0 e) k
+repeat-placed js (some p) e t k = schema-earliest t p .0 e
 
 module _ (S : List ℕ) (room : ℕ) where
   objects : Option Items
@@ -165,6 +199,25 @@ module _ (S : List ℕ) (room : ℕ) where
   test-applies TooManyRows e = test-passes (λ ds. rowCount (table S ds)) table-rows e
   test-applies NoRoom e = test-passes (λ ds. rowCount (table S ds)) (room / row-words) e
 
+  -- and where it applies, the place of its refusal is the one computed
+  repeated-at : (js : Items) → SchemaText S js → keysOnceI js ≡ false → Earliest (RepeatsI js) (repeatIn (readSchema S))
+  repeated-at js t k = rw (schema-text S js .1 t) (repeat-placed js (firstRepeatI js) refl t k)
+
+  placed : (x : SchemaRefusal) → SchemaApplies x S room → SchemaPlace x S (schemaPlace (readSchema S) x)
+  placed TooLong a = refl
+  placed NotText a = fault-placed S (readSchema S) refl a
+  placed RepeatedKey (js, t, k) = (js, t, repeated-at js t k)
+  placed NotDefinitions a = refl
+  placed BadName a = refl
+  placed RepeatedName a = refl
+  placed UnknownName a = refl
+  placed BadChain a = refl
+  placed BadUnion a = refl
+  placed BadAlternate a = refl
+  placed BadReturn a = refl
+  placed TooManyRows a = refl
+  placed NoRoom a = refl
+
   -- where no number applies there are definitions
   there : ((x : SchemaRefusal) → test x ≡ false) → (ds : List Definition) × (written ≡ some ds)
   unfolding test
@@ -176,7 +229,7 @@ module _ (S : List ℕ) (room : ℕ) where
   decided-by = first test schemaOrder
 
   outcome : SchemaResult
-  outcome = schemaAnswered S room (tableIn S room written) decided-by
+  outcome = schemaAnswered S room (readSchema S) (tableIn S room written) decided-by
 
   result-is : schemaResult S room ≡ outcome
   unfolding outcome decided-by test written objects schemaResult
@@ -187,13 +240,15 @@ module _ (S : List ℕ) (room : ℕ) where
   unfolding outcome decided-by
   allowed = go decided-by refl
     where
-      go : (o : Option SchemaRefusal) → first test schemaOrder ≡ o → SchemaOutcome S room (schemaAnswered S room (tableIn S room written) o .answer) (schemaAnswered S room (tableIn S room written) o .words)
+      go : (o : Option SchemaRefusal) → first test schemaOrder ≡ o
+          → SchemaOutcome S room (schemaAnswered S room (readSchema S) (tableIn S room written) o .answer) (schemaAnswered S room (readSchema S) (tableIn S room written) o .words)
       go none e =
           let no-test : (x : SchemaRefusal) → test x ≡ false = λ x. first-none test schemaOrder e x (listed x) in
           let ds = there no-test in
           rw (ds .1) (accepted (said (ds .0) (ds .1)) (λ x a. clash (applies-test x a) (no-test x)) refl refl)
       go (some x) e =
-          refused (first-of test (λ y. SchemaApplies y S room) test-applies applies-test schemaOrder e) refl refl
+          let f : FirstOf (λ y. SchemaApplies y S room) schemaOrder x = first-of test (λ y. SchemaApplies y S room) test-applies applies-test schemaOrder e in
+          refused f (placed x (first-has (λ y. SchemaApplies y S room) schemaOrder f)) refl refl
 
   -- and the only one
   only : (a : SchemaAnswer) (w : List ℕ) → SchemaOutcome S room a w → (a ≡ outcome .answer) × (w ≡ outcome .words)
@@ -202,7 +257,10 @@ module _ (S : List ℕ) (room : ℕ) where
       let d = says ds s in
       let e : first test schemaOrder ≡ none = none-first test schemaOrder (λ x m. decided (test x) (λ t. h x (test-applies x t))) in
       rw (e, d) (p, q)
-  only a w (refused {x} h p q) = let e : first test schemaOrder ≡ some x = of-first test (λ y. SchemaApplies y S room) test-applies applies-test schemaOrder h in rw e (p, q)
+  only a w (refused {x} h l p q) =
+      let e : first test schemaOrder ≡ some x = of-first test (λ y. SchemaApplies y S room) test-applies applies-test schemaOrder h in
+      let i = schema-place-only S x l (placed x (first-has (λ y. SchemaApplies y S room) schemaOrder h)) in
+      rw e (p ∙ ap (Refused x) i, q)
 
   -- The reference's table of schema answers: for every schema and room there is one outcome, the one that schemaResult gives.
   pub schema-outcome : SchemaOutcome S room (schemaResult S room .answer) (schemaResult S room .words)
@@ -210,3 +268,18 @@ module _ (S : List ℕ) (room : ℕ) where
 
   pub schema-outcome-only : (a : SchemaAnswer) (w : List ℕ) → SchemaOutcome S room a w → (a ≡ schemaResult S room .answer) × (w ≡ schemaResult S room .words)
   schema-outcome-only a w h = rw result-is (only a w h)
+
+  -- every refusal has a place
+  pub schema-placed : (x : SchemaRefusal) → SchemaApplies x S room → (p : ℕ) × SchemaPlace x S p
+  schema-placed x a = (schemaPlace (readSchema S) x, placed x a)
+
+  -- the one that is given is its own
+  pub schema-refused-at : {x : SchemaRefusal} {p : ℕ} → schemaResult S room .answer ≡ Refused x p → SchemaPlace x S p
+  schema-refused-at {x} {p} r = go schema-outcome
+    where
+      go : SchemaOutcome S room (schemaResult S room .answer) (schemaResult S room .words) → SchemaPlace x S p
+      go (accepted s h e w) = let z : _≡_ {A = ℕ} 0 1 = cc in absurd (omega arith)
+      go (refused {x = y} {p = q} h l e w) =
+          let u : y ≡ x = cc in
+          let v : q ≡ p = cc in
+          subst (λ (i : ℕ). SchemaPlace x S i) v (subst (λ (z : SchemaRefusal). SchemaPlace z S q) u l)

@@ -58,4 +58,4 @@ pub record Demand3 (S T m : List ℕ) (room : ℕ) (answer : MessageAnswer) (wor
   -- no quoted digits are taken for a number, nor a number for quoted digits
   pub digits-apart : (c n : ℕ) (e : answer ≡ Accepted c n) (x : Typed) → List·Memᴰ x (gives c n e .reading) → DigitsApart T x
   -- a refusal leaves every lent word zero
-  pub zero : (x : MessageRefusal) → answer ≡ Refused x → words ≡ replicate room 0
+  pub zero : (x : MessageRefusal) (p : ℕ) → answer ≡ Refused x p → words ≡ replicate room 0

@@ -20,11 +20,11 @@ use Rattle.rules.specs.MessageAnswers.{AsksIn, MessageOutcome}
 
 -- As many rows as a table may have are never too few.
 pub record RowsSuffice (S : List ℕ) : Type 0 where
-  pub enough : {room : ℕ} {answer : SchemaAnswer} {words : List ℕ} → row-words * table-rows ≤ room → SchemaOutcome S room answer words → answer ≢ SA.Refused R.NoRoom
+  pub enough : {room : ℕ} {answer : SchemaAnswer} {words : List ℕ} → row-words * table-rows ≤ room → SchemaOutcome S room answer words → (p : ℕ) → answer ≢ SA.Refused R.NoRoom p
 
 -- As many records as the message has bytes are never too few.
 pub record RecordsSuffice (S T m : List ℕ) : Type 0 where
   -- in a sound table a reading of what the message asks for has at most as many, whether or not unknown keys are passed over
   pub few : {passes : Bool} {a : Asked} {ts : List Typed} → sound S T ≡ true → AsksIn S T m a → Reads passes S T (a .value) (a .ref) (a .array) ts → length ts ≤ length m
   -- so where they are lent, the outcome is never that there is too little room
-  pub enough : {room : ℕ} {answer : MessageAnswer} {words : List ℕ} → record-words * length m ≤ room → MessageOutcome S T m room answer words → answer ≢ MA.Refused M.NoRoom
+  pub enough : {room : ℕ} {answer : MessageAnswer} {words : List ℕ} → record-words * length m ≤ room → MessageOutcome S T m room answer words → (p : ℕ) → answer ≢ MA.Refused M.NoRoom p

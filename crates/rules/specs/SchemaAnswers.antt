@@ -1,14 +1,15 @@
--- Reference, Schema answers: when each refusal applies, in which order they are judged, and the whole outcome: the first that applies, the count, and every lent word.
+-- Reference, Schema answers and Places: when each refusal applies, in which order they are judged, its place, and the whole outcome: the first that applies, the count, and every lent word.
 use Prim.Native.Nat.{ℕ, _-_, _/_, _<_}
 use mathlib.Core.Path.{_≡_}
 use mathlib.Core.Bool.{Bool, false}
 use mathlib.Core.List.{List, [], _∷_, _++_}
 use mathlib.Core.Option.{none, some}
 use lib.ListN.{length, replicate}
-use Rattle.grammar.specs.Limits.{schema-bytes, table-rows, row-words}
+use Rattle.grammar.specs.Limits.{schema-bytes, schema-levels, table-rows, row-words}
 use Rattle.grammar.specs.Tree.{Items}
-use Rattle.grammar.specs.SchemaText.{SchemaText}
-use Rattle.grammar.specs.Keys.{keysOnceI}
+use Rattle.grammar.specs.SchemaText.{SchemaText, schema-lexis}
+use Rattle.grammar.specs.Starts.{Longest}
+use Rattle.grammar.specs.Keys.{keysOnceI, RepeatsI, Earliest}
 use Rattle.rules.specs.declared.SchemaRefusal.{SchemaRefusal}
 use Rattle.rules.specs.declared.SchemaRefusal.the-variants.{TooLong, NotText, RepeatedKey, NotDefinitions, BadName, RepeatedName, UnknownName, BadChain, BadUnion, BadAlternate, BadReturn, TooManyRows, NoRoom}
 use Rattle.rules.specs.declared.SchemaAnswer.{SchemaAnswer}
@@ -40,14 +41,18 @@ abbrev pub schemaOrder : List SchemaRefusal
 schemaOrder =
     TooLong ∷ NotText ∷ RepeatedKey ∷ NotDefinitions ∷ BadName ∷ RepeatedName ∷ UnknownName ∷ BadChain ∷ BadUnion ∷ BadAlternate ∷ BadReturn ∷ TooManyRows ∷ NoRoom ∷ []
 
--- the two numbers of an answer: accepted 0 and the row count, refused the number and 0
+-- the three numbers of an answer: accepted 0, the row count and 0; refused the number, 0 and the place
 abbrev pub answerNumber : SchemaAnswer → ℕ
 answerNumber (Accepted n) = 0
-answerNumber (Refused x) = refusalNumber x
+answerNumber (Refused x p) = refusalNumber x
 
 abbrev pub answerRows : SchemaAnswer → ℕ
 answerRows (Accepted n) = n
-answerRows (Refused x) = 0
+answerRows (Refused x p) = 0
+
+abbrev pub answerPlace : SchemaAnswer → ℕ
+answerPlace (Accepted n) = 0
+answerPlace (Refused x p) = p
 
 -- the bytes are schema text, and the definitions in it are these
 pub record Says (S : List ℕ) (ds : List Definition) : Type 0 where
@@ -75,9 +80,26 @@ SchemaApplies BadReturn S room = Breaks goodReturns S
 SchemaApplies TooManyRows S room = (ds : List Definition) × Says S ds × (table-rows < rowCount (table S ds))
 SchemaApplies NoRoom S room = (ds : List Definition) × Says S ds × (room / row-words < rowCount (table S ds))
 
--- The outcome: the answer, and the lent words after the call. The first refusal that applies, and all words 0; or none, the table, and 0 after it.
+-- Reference, Places: the length of the longest start that some schema text within the levels has; the opening quote of the earliest key that repeats one before it in its object; any
+-- other refusal points nowhere.
+abbrev pub SchemaPlace : SchemaRefusal → List ℕ → ℕ → Type 0
+SchemaPlace TooLong S p = p ≡ 0
+SchemaPlace NotText S p = Longest schema-lexis schema-levels S p
+SchemaPlace RepeatedKey S p = (objects : Items) × SchemaText S objects × Earliest (RepeatsI objects) p
+SchemaPlace NotDefinitions S p = p ≡ 0
+SchemaPlace BadName S p = p ≡ 0
+SchemaPlace RepeatedName S p = p ≡ 0
+SchemaPlace UnknownName S p = p ≡ 0
+SchemaPlace BadChain S p = p ≡ 0
+SchemaPlace BadUnion S p = p ≡ 0
+SchemaPlace BadAlternate S p = p ≡ 0
+SchemaPlace BadReturn S p = p ≡ 0
+SchemaPlace TooManyRows S p = p ≡ 0
+SchemaPlace NoRoom S p = p ≡ 0
+
+-- The outcome: the answer, and the lent words after the call. The first refusal that applies, with its place, and all words 0; or none, the table, and 0 after it.
 pub data SchemaOutcome (S : List ℕ) (room : ℕ) (answer : SchemaAnswer) (words : List ℕ) : Type 0 where
   accepted : {ds : List Definition} → Says S ds → ((x : SchemaRefusal) → SchemaApplies x S room → ⊥) → answer ≡ Accepted (rowCount (table S ds))
       → words ≡ table S ds ++ replicate (room - length (table S ds)) 0 → SchemaOutcome S room answer words
-  refused : {x : SchemaRefusal} → FirstOf (λ y. SchemaApplies y S room) schemaOrder x → answer ≡ Refused x
+  refused : {x : SchemaRefusal} {p : ℕ} → FirstOf (λ y. SchemaApplies y S room) schemaOrder x → SchemaPlace x S p → answer ≡ Refused x p
       → words ≡ replicate room 0 → SchemaOutcome S room answer words

@@ -19,10 +19,10 @@ pub enum SchemaRefusal {
     NoRoom,
 }
 
-// Accepted with a count of rows, or refused.
+// Accepted with a count of rows, or refused at a place.
 pub enum SchemaAnswer {
     Accepted(usize),
-    Refused(SchemaRefusal),
+    Refused(SchemaRefusal, usize),
 }
 
 // Why a message is refused, in the order of the reference's table (Message answers, 21 to 30).
@@ -39,11 +39,14 @@ pub enum MessageRefusal {
     NoRoom,
 }
 
-// Accepted with the command's row and a count of records, or refused.
+// Accepted with the command's row and a count of records, or refused at a place.
 pub enum MessageAnswer {
     Accepted(usize, usize),
-    Refused(MessageRefusal),
+    Refused(MessageRefusal, usize),
 }
+
+// The place of a refusal that points at no byte (Reference, Places).
+pub const NOWHERE: usize = 0;
 
 // The limits and widths, as grammar's specs/Limits has them.
 pub const SCHEMA_BYTES: usize = grammar::SCHEMA_BYTES;

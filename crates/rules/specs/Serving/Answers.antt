@@ -6,9 +6,10 @@ use mathlib.Core.Option.{Option, none, some}
 use lib.Dec.{eqb, ltb}
 use lib.ListN.{length, replicate}
 use Rattle.grammar.specs.Limits.{schema-bytes, message-bytes, table-rows, row-words, record-words}
-use Rattle.grammar.specs.Tree.{Json, Items}
+use Rattle.grammar.specs.Tree.{Json, Items, startOf}
 use Rattle.grammar.specs.Tree.Items.{no-items, item}
-use Rattle.grammar.specs.Keys.{keysOnce, keysOnceI}
+use Rattle.grammar.specs.Keys.{keysOnceI}
+use Rattle.grammar.specs.Serving.Repeats.{firstRepeat, firstRepeatI}
 use Rattle.grammar.specs.Serving.Machine.{Out}
 use Rattle.grammar.specs.Serving.Machine.Out.{whole, fault, deep}
 use Rattle.grammar.specs.Serving.Machine.Schema.{readSchema}
@@ -69,6 +70,35 @@ objectsIn (whole js) = some js
 objectsIn (fault e) = none
 objectsIn (deep e) = none
 
+-- where a text goes wrong, and where a key is repeated; 0 where neither is so
+abbrev pub faultIn : Out → ℕ
+faultIn (whole js) = 0
+faultIn (fault e) = e
+faultIn (deep e) = e
+
+abbrev pub placeOr0 : Option ℕ → ℕ
+placeOr0 none = 0
+placeOr0 (some p) = p
+
+abbrev pub repeatIn : Out → ℕ
+repeatIn o = placeOr0 (objectsIn o >>= firstRepeatI)
+
+-- the place of a schema's refusal, given what was read of its text
+abbrev pub schemaPlace : Out → SchemaRefusal → ℕ
+schemaPlace o R.TooLong = 0
+schemaPlace o R.NotText = faultIn o
+schemaPlace o R.RepeatedKey = repeatIn o
+schemaPlace o R.NotDefinitions = 0
+schemaPlace o R.BadName = 0
+schemaPlace o R.RepeatedName = 0
+schemaPlace o R.UnknownName = 0
+schemaPlace o R.BadChain = 0
+schemaPlace o R.BadUnion = 0
+schemaPlace o R.BadAlternate = 0
+schemaPlace o R.BadReturn = 0
+schemaPlace o R.TooManyRows = 0
+schemaPlace o R.NoRoom = 0
+
 module _ (S : List ℕ) (room : ℕ) where
   -- whether a number applies, given the text's objects, their definitions, and the table of those
   abbrev pub schemaTest : Option Items → Option (List Definition) → SchemaRefusal → Bool
@@ -90,17 +120,17 @@ module _ (S : List ℕ) (room : ℕ) where
   tableIn none = []
   tableIn (some ds) = table S ds
 
-  -- refused by the first number that applies, or accepted with the table
-  abbrev pub schemaAnswered : List ℕ → Option SchemaRefusal → SchemaResult
-  schemaAnswered T none = record { answer = SA.Accepted (rowCount T); words = T ++ replicate (room - length T) 0 }
-  schemaAnswered T (some x) = record { answer = SA.Refused x; words = replicate room 0 }
+  -- refused by the first number that applies, with its place, or accepted with the table
+  abbrev pub schemaAnswered : Out → List ℕ → Option SchemaRefusal → SchemaResult
+  schemaAnswered o T none = record { answer = SA.Accepted (rowCount T); words = T ++ replicate (room - length T) 0 }
+  schemaAnswered o T (some x) = record { answer = SA.Refused x (schemaPlace o x); words = replicate room 0 }
 
-  abbrev pub ofDefinitions : Option Items → Option (List Definition) → SchemaResult
-  ofDefinitions js ds = schemaAnswered (tableIn ds) (first (schemaTest js ds) schemaOrder)
+  abbrev pub ofDefinitions : Out → Option Items → Option (List Definition) → SchemaResult
+  ofDefinitions o js ds = schemaAnswered o (tableIn ds) (first (schemaTest js ds) schemaOrder)
 
   unfoldable pub schemaResult : SchemaResult
   unfolding readSchema definitions table allRefer clash goodNames distinctNames goodChains goodUnions kindsFit unmixed goodAlternates goodReturns next walk past unnamed owns firstChild childCount children pastChildren members typeKind nameOf
-  schemaResult = let js = objectsIn (readSchema S) in ofDefinitions js (js >>= definitions)
+  schemaResult = let o = readSchema S in let js = objectsIn o in ofDefinitions o js (js >>= definitions)
 
 module _ (S T : List ℕ) where
   -- the first command of that name among n rows from r on
@@ -132,31 +162,39 @@ module _ (S T : List ℕ) where
   askedReading a = readingOf strict S T (a .value) (a .ref) (a .array)
 
 module _ (room : ℕ) where
+  abbrev pub refusedAt : MessageRefusal → ℕ → MessageResult
+  refusedAt x p = record { answer = MA.Refused x p; words = replicate room 0 }
+
+  -- by a refusal that points nowhere
   abbrev pub refusedBy : MessageRefusal → MessageResult
-  refusedBy x = record { answer = MA.Refused x; words = replicate room 0 }
+  refusedBy x = refusedAt x 0
 
   abbrev pub acceptedWith : ℕ → List Typed → MessageResult
   acceptedWith c ts = record { answer = MA.Accepted c (length ts); words = recordsOf ts ++ replicate (room - length (recordsOf ts)) 0 }
 
-  -- 29 and 30, by the reading
-  abbrev pub readingResult : ℕ → Option (List Typed) → MessageResult
-  readingResult c none = refusedBy M.NoReading
-  readingResult c (some ts) = cond (ltb (room / record-words) (length ts)) (refusedBy M.NoRoom) (acceptedWith c ts)
+  -- 29 and 30, by the reading; the value asked for starts at p
+  abbrev pub readingResult : ℕ → ℕ → Option (List Typed) → MessageResult
+  readingResult c p none = refusedAt M.NoReading p
+  readingResult c p (some ts) = cond (ltb (room / record-words) (length ts)) (refusedAt M.NoRoom p) (acceptedWith c ts)
 
 module _ (S T : List ℕ) (room : ℕ) where
   -- from 26 on, by what is asked; from 25 on, by the value; from 23 on, by the text
   abbrev pub askedResult : Asking → MessageResult
-  askedResult (asks a) = readingResult room (a .second) (askedReading S T a)
+  askedResult (asks a) = readingResult room (a .second) (startOf (a .value)) (askedReading S T a)
   askedResult (refuses x) = refusedBy room x
 
+  abbrev pub keysResult : Json → Option ℕ → MessageResult
+  keysResult j none = askedResult (asking S T j)
+  keysResult j (some p) = refusedAt room M.RepeatedKey p
+
   abbrev pub valueResult : Json → MessageResult
-  valueResult j = cond (keysOnce j) (askedResult (asking S T j)) (refusedBy room M.RepeatedKey)
+  valueResult j = keysResult j (firstRepeat j)
 
   abbrev pub textResult : Out → MessageResult
   textResult (whole no-items) = refusedBy room M.NotText
   textResult (whole (item j js)) = valueResult j
-  textResult (fault e) = refusedBy room M.NotText
-  textResult (deep e) = refusedBy room M.TooDeep
+  textResult (fault e) = refusedAt room M.NotText e
+  textResult (deep e) = refusedAt room M.TooDeep e
 
 -- from 22 on, of a sound table
 unfoldable pub soundResult : (S T m : List ℕ) → ℕ → MessageResult
