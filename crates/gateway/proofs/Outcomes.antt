@@ -22,19 +22,26 @@ schema-answer x = x .answer
 abbrev message-answer : MessageResult → MessageAnswer
 message-answer x = x .answer
 
-pub compiled : {S old new : List ℕ} {a : SchemaAnswer} {n k : ℕ} → Compiles S old new a → n ≡ Schemas.answerNumber a → k ≡ Schemas.answerRows a → Compiled S old new n k
-compiled h p q =
+pub compiled : {S old new : List ℕ} {a : SchemaAnswer} {n k i : ℕ} → Compiles S old new a → n ≡ Schemas.answerNumber a → k ≡ Schemas.answerRows a → i ≡ Schemas.answerPlace a
+    → Compiled S old new n k i
+compiled h p q o =
     let e = sym (ap schema-answer (h .told)) in
-    record { number-is = p ∙ ap Schemas.answerNumber e; rows-are = q ∙ ap Schemas.answerRows e; words-are = sym (ap (λ (x : SchemaResult). x .words) (h .told)) }
+    record {
+      number-is = p ∙ ap Schemas.answerNumber e;
+      rows-are = q ∙ ap Schemas.answerRows e;
+      place-is = o ∙ ap Schemas.answerPlace e;
+      words-are = sym (ap (λ (x : SchemaResult). x .words) (h .told));
+    }
 
-pub checked : {S T m old new : List ℕ} {a : MessageAnswer} {n r k : ℕ} → Answered S T m old new a → n ≡ Messages.answerNumber a → r ≡ Messages.answerRow a
-    → k ≡ Messages.answerRecords a → Checked S T m old new n r k
-checked h p q o =
+pub checked : {S T m old new : List ℕ} {a : MessageAnswer} {n r k i : ℕ} → Answered S T m old new a → n ≡ Messages.answerNumber a → r ≡ Messages.answerRow a
+    → k ≡ Messages.answerRecords a → i ≡ Messages.answerPlace a → Checked S T m old new n r k i
+checked h p q o g =
     let e = sym (ap message-answer (h .told)) in
     record {
       number-is = p ∙ ap Messages.answerNumber e;
       row-is = q ∙ ap Messages.answerRow e;
       records-are = o ∙ ap Messages.answerRecords e;
+      place-is = g ∙ ap Messages.answerPlace e;
       words-are = sym (ap (λ (x : MessageResult). x .words) (h .told));
     }
 

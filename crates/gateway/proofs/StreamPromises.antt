@@ -106,8 +106,8 @@ ended {v = v} {buf = buf} h n e (at-message {m = m} z t k i) =
     (Ended.at-message (subst (λ (c : ℕ). take c buf ≡ m) (sym k) t))
 
 -- a message that is handed out is never refused for its text
-no-text : (old : List ℕ) {l : List ℕ} {os : List Output} {e : End} {m S T before after : List ℕ} {number row records : ℕ} {x : MessageRefusal}
-    → Stream (limitOf (length old)) l os e → List·Memᴰ (message m) os → CheckCall S T m before after number row records → OfText x → number ≡ Messages.refusalNumber x → ⊥
+no-text : (old : List ℕ) {l : List ℕ} {os : List Output} {e : End} {m S T before after : List ℕ} {number row records place : ℕ} {x : MessageRefusal}
+    → Stream (limitOf (length old)) l os e → List·Memᴰ (message m) os → CheckCall S T m before after number row records place → OfText x → number ≡ Messages.refusalNumber x → ⊥
 no-text old {S = S} {T = T} {before = before} {x = x} g h c o k =
     never-refused (stream-hands g h) (min-le-left message-bytes (length old)) S T (length before) o (c .outcome) (message-refused (c .answer) x (sym (c .number-is) ∙ k))
 

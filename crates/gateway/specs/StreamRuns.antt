@@ -38,5 +38,5 @@ pub record StreamRun (old l : List ℕ) (os : List Output) (newState new : List 
   pub only : {ps : List Output} {e : End} → Stream (limitOf (length old)) l ps e → (ps ≡ os) × (e ≡ end)
   pub ended : Ended newState new end
   -- no message that is handed out is refused with 22, 23 or 24
-  pub text : {m S T before after : List ℕ} {number row records : ℕ} {x : MessageRefusal} → List·Memᴰ (message m) os → CheckCall S T m before after number row records → OfText x
+  pub text : {m S T before after : List ℕ} {number row records place : ℕ} {x : MessageRefusal} → List·Memᴰ (message m) os → CheckCall S T m before after number row records place → OfText x
       → number ≢ Messages.refusalNumber x

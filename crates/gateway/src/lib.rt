@@ -1,11 +1,14 @@
-// The calls for programs in C and Rust, with the numbers of the reference (Schema answers, Message answers).
+// The calls for programs in C and Rust, with the numbers of the reference (Schema answers, Message answers, Places).
 use message::check::check_message;
 use numbers::message_number;
+use numbers::message_place;
 use numbers::message_records;
 use numbers::message_row;
 use numbers::schema_number;
+use numbers::schema_place;
 use numbers::schema_rows;
 use rules::MessageAnswer;
+use rules::NOWHERE;
 use schema::compile::compile_schema;
 use stream::pieces::Said;
 use stream::reader::read_piece;
@@ -20,21 +23,23 @@ ghost use Rattle.gateway.specs.Serving.Outcomes.{Compiled, Checked, Stre
 // The words of a stream's state: the mode, the open brackets, the bytes of a message in the buffer.
 const STREAM_WORDS: usize = 3;
 
-// Compiles a schema: the number, the count of rows, and the lent rows.
+// Compiles a schema: the number, the count of rows, the place of a refusal, and the lent rows.
 #[no_mangle]
 pub extern "C" fn windosprio_compile_schema(
     schema: &[u8],
     rows: &mut [u32],
     count: &mut usize,
+    place: &mut usize,
 ) -> u32
-    ensures { λ r. ⌜ Compiled (now (schema .entry)) (now (rows .entry)) (now (rows .exit)) r (now (count .exit)) ⌝ }
+    ensures { λ r. ⌜ Compiled (now (schema .entry)) (now (rows .entry)) (now (rows .exit)) r (now (count .exit)) (now (place .exit)) ⌝ }
 {
     let a = compile_schema(schema, rows);
     *count = schema_rows(a);
+    *place = schema_place(a);
     schema_number(a)
 }
 
-// Reads a message against a table and its schema: the number, the command's row, the count of records, and the lent records.
+// Reads a message against a table and its schema: the number, the command's row, the count of records, the place of a refusal, and the lent records.
 #[no_mangle]
 pub extern "C" fn windosprio_check_message(
     table: &[u32],
@@ -43,12 +48,14 @@ pub extern "C" fn windosprio_check_message(
     records: &mut [u32],
     row: &mut usize,
     count: &mut usize,
+    place: &mut usize,
 ) -> u32
-    ensures { λ r. ⌜ Checked (now (schema .entry)) (now (table .entry)) (now (message .entry)) (now (records .entry)) (now (records .exit)) r (now (row .exit)) (now (count .exit)) ⌝ }
+    ensures { λ r. ⌜ Checked (now (schema .entry)) (now (table .entry)) (now (message .entry)) (now (records .entry)) (now (records .exit)) r (now (row .exit)) (now (count .exit)) (now (place .exit)) ⌝ }
 {
     let a = check_message(table, schema, message, records);
     *row = message_row(a);
     *count = message_records(a);
+    *place = message_place(a);
     message_number(a)
 }
 
@@ -67,7 +74,7 @@ fn said_number(said: Said) -> u32
     match said {
         Said::Nothing => 0,
         Said::Message(_n) => 0,
-        Said::Refused(x) => message_number(MessageAnswer::Refused(x)),
+        Said::Refused(x) => message_number(MessageAnswer::Refused(x, NOWHERE)),
     }
 }
 
@@ -114,6 +121,6 @@ pub extern "C" fn windosprio_stream_feed(
     *state = [w.mode, w.nest, w.len as u64];
     *taken = r.taken;
     *message_bytes = said_bytes(said);
-    *place = 0;
+    *place = NOWHERE;
     said_number(said)
 }

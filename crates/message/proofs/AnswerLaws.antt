@@ -15,7 +15,7 @@ use Rattle.rules.specs.declared.MessageAnswer.{MessageAnswer}
 use Rattle.rules.specs.declared.MessageAnswer.the-variants.{Accepted, Refused}
 use Rattle.rules.specs.MessageAnswers.{answerRecords}
 use Rattle.rules.specs.Readings.{Typed, recordOf, recordsOf}
-use Rattle.rules.specs.Serving.Answers.{MessageResult, refusedBy, acceptedWith, readingResult}
+use Rattle.rules.specs.Serving.Answers.{MessageResult, refusedAt, acceptedWith, readingResult}
 use Rattle.rules.proofs.Room.{records-length}
 use Rattle.readings.specs.Records.{putRecord, putAll}
 use Rattle.readings.proofs.RecordLaws.{put-length, all-length}
@@ -43,8 +43,8 @@ all-front w n k (t ∷ ts) p h =
     ∙ ap (λ (l : List ℕ). l ++ recordsOf ts) (put-front w n t f) ∙ append-assoc (take (record-words * n) w) (recordOf t) (recordsOf ts)
 
 -- refused
-pub refused : {result : MessageResult} {old new : List ℕ} {x : MessageRefusal} → result ≡ refusedBy (length old) x → length new ≡ length old → Uncleared result old new (Refused x)
-refused {result} {old} {new} {x} e l = record {
+pub refused : {result : MessageResult} {old new : List ℕ} {x : MessageRefusal} {p : ℕ} → result ≡ refusedAt (length old) x p → length new ≡ length old → Uncleared result old new (Refused x p)
+refused {result} {old} {new} e l = record {
   answer = ap (λ (r : MessageResult). r .answer) e;
   same-length = l;
   counted = omega arith;
@@ -68,11 +68,11 @@ accepted {result} {old} {new} {c} {n} ts e w k h =
     }
 
 -- 29 and 30, by a reading
-module _ {result : MessageResult} (old : List ℕ) {new : List ℕ} (c : ℕ) {n : ℕ} (ts : List Typed) (e : result ≡ readingResult (length old) c (some ts)) (w : new ≡ putAll old 0 ts) (k : n ≡ length ts) where
+module _ {result : MessageResult} (old : List ℕ) {new : List ℕ} (c p : ℕ) {n : ℕ} (ts : List Typed) (e : result ≡ readingResult (length old) c p (some ts)) (w : new ≡ putAll old 0 ts) (k : n ≡ length ts) where
   same-length : length new ≡ length old
   same-length = ap length w ∙ all-length old 0 ts
 
-  pub no-room : length new / record-words < n → Uncleared result old new (Refused M.NoRoom)
+  pub no-room : length new / record-words < n → Uncleared result old new (Refused M.NoRoom p)
   no-room h = refused (e ∙ rw (lt-ltb (length old / record-words) (length ts) (omega (arith, same-length)))) same-length
 
   pub held : n ≤ length new / record-words → Uncleared result old new (Accepted c n)

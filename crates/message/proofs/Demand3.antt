@@ -32,5 +32,5 @@ module _ {S T m old new : List ℕ} {r : MessageAnswer} (a : Answered S T m old 
         gives = given;
         only-one = λ a b ts us h k. one-reading S T m h k;
         digits-apart = λ c n e x i. digits-apart S T (given c n e .readable-so .reads) x i;
-        zero = λ x e. sym words-are ∙ refused-zero S T m (length old) x (answer-is ∙ e);
+        zero = λ x p e. sym words-are ∙ refused-zero S T m (length old) x p (answer-is ∙ e);
       }

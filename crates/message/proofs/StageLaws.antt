@@ -3,7 +3,7 @@ use Prim.Native.Nat.{ℕ, zero, suc, _+_, _-_, _*_, _^_, _/_, _≤_, _<_}
 use native.Mathlib.Omega.{arith}
 use mathlib.Core.Path.{_≡_, refl, sym, ap, _∙_, subst}
 use mathlib.Core.Logic.{⊎-elim}
-use mathlib.Core.Bool.{Bool, true, false, _&&_}
+use mathlib.Core.Bool.{Bool, true, false}
 use mathlib.Core.List.{List, [], _∷_}
 use mathlib.Core.Option.{Option, none, some}
 use lib.ListN.{length, getD}
@@ -13,9 +13,10 @@ use Rattle.grammar.specs.Tree.{Json}
 use Rattle.grammar.specs.Tree.Json.{leaf, arr, obj}
 use Rattle.grammar.specs.Tree.Items.{no-items, item}
 use Rattle.grammar.specs.Tree.Fields.{no-fields}
-use Rattle.grammar.specs.Keys.{keysOnce}
 use Rattle.grammar.specs.Serving.Machine.Message.{message, readMessage}
+use Rattle.grammar.specs.Serving.Repeats.{firstOf, firstRepeat}
 use Rattle.grammar.proofs.Texts.{message-complete, message-broken, message-too-deep}
+use Rattle.grammar.proofs.Repeats.{first-once}
 use Rattle.rules.specs.declared.MessageRefusal.{MessageRefusal}
 use Rattle.rules.specs.declared.MessageRefusal.the-variants as M
 use Rattle.rules.specs.declared.MessageAnswer.{MessageAnswer}
@@ -23,18 +24,21 @@ use Rattle.rules.specs.declared.MessageAnswer.the-variants.{Accepted, Refused}
 use Rattle.rules.specs.Sound.{sound}
 use Rattle.rules.specs.Readings.{Typed, strict}
 use Rattle.rules.specs.Serving.Answers as Answers
-use Rattle.rules.specs.Serving.Answers.{MessageResult, asking, askedReading, refusedBy, readingResult, askedResult, textResult, soundResult, messageResult}
+use Rattle.rules.specs.Serving.Answers.{MessageResult, asking, askedReading, refusedAt, refusedBy, readingResult, askedResult, textResult, soundResult, messageResult}
 use Rattle.rules.specs.Serving.ReadingOf.{readingOf}
 use Rattle.tokens.specs.NodeKinds.{object-node}
 use Rattle.tokens.proofs.ScalarNodes.{scalar-kind}
-use Rattle.text.specs.Nodes.{node-words, text-bound, Holds, nodeKind}
-use Rattle.text.specs.Keys.{KeysOnce}
+use Rattle.text.specs.Nodes.{node-words, text-bound, Holds, nodeKind, nodeStart}
+use Rattle.text.specs.Keys.{placeOf, FirstRepeat}
+use Rattle.text.specs.declared.keys.Repeated.{Repeated}
+use Rattle.text.specs.declared.keys.Repeated.the-variants.{Never, At}
 use Rattle.text.specs.Texts.{MessageTold, ReadsMessage}
 use Rattle.text.proofs.KeyLaws.{goes-on}
 use Rattle.text.specs.declared.texts.Text.{Text}
 use Rattle.text.specs.declared.texts.Text.the-variants as Texts
 use Rattle.children.specs.Index.{IndexedTable}
 use Rattle.readings.specs.Records.{putAll, ReadTold, ReadsWhole}
+use Rattle.readings.proofs.RecordLaws.{node-start}
 use Rattle.readings.specs.declared.readings.Count.{Count}
 use Rattle.readings.specs.declared.readings.Count.the-variants.{Records, Nothing}
 use Rattle.message.specs.declared.asked.Asked.{Asked}
@@ -52,28 +56,29 @@ pub nodes-fit : (n : ℕ) {m w : List ℕ} → length w ≡ node-words * n → l
 nodes-fit n e h k = record { enough = omega arith; whole-nodes = omega arith; small = omega arith }
 
 -- 25
-module _ {m w : List ℕ} {count : ℕ} (t : WholeText m w count) {b : Bool} (k : KeysOnce message m w count b) where
-  and-true : (b : Bool) → (b && true) ≡ b
-  and-true true = refl
-  and-true false = refl
+module _ {m w : List ℕ} {count : ℕ} (t : WholeText m w count) {x : Repeated} (k : FirstRepeat message m w count x) where
+  first-alone : (o : Option ℕ) → firstOf o none ≡ o
+  first-alone none = refl
+  first-alone (some p) = refl
 
-  keys-are : b ≡ keysOnce (t .value)
-  keys-are =
-      k .told (item (t .value) no-items) message-levels (omega (arith, t .ends, goes-on message m w (t .value) message-levels 0 (t .holds)), t .holds, t .ends)
-      ∙ and-true (keysOnce (t .value))
+  first-is : firstRepeat (t .value) ≡ placeOf x
+  first-is =
+      sym
+      (k .told (item (t .value) no-items) message-levels (omega (arith, t .ends, goes-on message m w (t .value) message-levels 0 (t .holds)), t .holds, t .ends)
+      ∙ first-alone (firstRepeat (t .value)))
 
-  pub repeated : b ≡ false → KeysRead m w (Found.Refused M.RepeatedKey)
-  repeated e = record { told = λ S T room. rw (t .text, sym keys-are ∙ e) }
+  pub repeated : {p : ℕ} → x ≡ At p → KeysRead m w (Found.Refused M.RepeatedKey p)
+  repeated e = record { told = λ S T room. rw (t .text, first-is ∙ ap placeOf e) }
 
-  pub unrepeated : b ≡ true → KeysRead m w Found.Value
-  unrepeated e = record { told = record { value = t .value; text = t .text; holds = t .holds; once = sym keys-are ∙ e; small = t .small } }
+  pub unrepeated : x ≡ Never → KeysRead m w Found.Value
+  unrepeated e = record { told = record { value = t .value; text = t .text; holds = t .holds; once = first-once (t .value) .0 (first-is ∙ ap placeOf e); small = t .small } }
 
 -- 23 and 24
 module _ {m v w : List ℕ} {x : Text} (r : ReadsMessage m v w x) where
-  pub faulty : {e : ℕ} → x ≡ Texts.Fault e → ReadsText m v w (Found.Refused M.NotText)
+  pub faulty : {e : ℕ} → x ≡ Texts.Fault e → ReadsText m v w (Found.Refused M.NotText e)
   faulty p = let z = message-broken (subst (λ (y : Text). MessageTold m w y) p (r .told)) in record { told = λ S T room. rw z }
 
-  pub deeper : {e : ℕ} → x ≡ Texts.Deep e → ReadsText m v w (Found.Refused M.TooDeep)
+  pub deeper : {e : ℕ} → x ≡ Texts.Deep e → ReadsText m v w (Found.Refused M.TooDeep e)
   deeper p = let z = message-too-deep (subst (λ (y : Text). MessageTold m w y) p (r .told)) in record { told = λ S T room. rw z }
 
   pub never : x ≡ Texts.TooLong → NodesFit m v → ⊥
@@ -86,7 +91,7 @@ module _ {m v w : List ℕ} {x : Text} (r : ReadsMessage m v w x) where
       record { value = t .tree; text = message-complete (t .text); holds = t .holds f; ends = t .ends f; small = omega (arith, r .same-length, h .small) }
 
 module _ {m v w : List ℕ} {r : TextFound} (t : ReadsText m v w r) where
-  pub text-refused : {x : MessageRefusal} → r ≡ Found.Refused x → (S T : List ℕ) (room : ℕ) → textResult S T room (readMessage m) ≡ refusedBy room x
+  pub text-refused : {x : MessageRefusal} {p : ℕ} → r ≡ Found.Refused x p → (S T : List ℕ) (room : ℕ) → textResult S T room (readMessage m) ≡ refusedAt room x p
   text-refused e = subst (λ (y : TextFound). TextTold m w y) e (t .told)
 
   pub value-read : r ≡ Found.Value → ValueRead m w
@@ -98,7 +103,7 @@ module _ {S T m w ix : List ℕ} (g : IndexedTable S T ix) (v : ValueRead m w) {
   told = q .told (g .sound-table) (v .value) message-levels (v .holds) (v .once)
 
   pub refuses : {x : MessageRefusal} → r ≡ Refuses x → (room : ℕ) → textResult S T room (readMessage m) ≡ refusedBy room x
-  refuses {x} e room = rw (v .text, v .once) (go (asking S T (v .value)) (subst (λ (y : Asking). AskingTold m w (message-levels - 1) (asking S T (v .value)) y) e told))
+  refuses {x} e room = rw (v .text, first-once (v .value) .1 (v .once)) (go (asking S T (v .value)) (subst (λ (y : Asking). AskingTold m w (message-levels - 1) (asking S T (v .value)) y) e told))
     where
       go : (a : Answers.Asking) → AskingTold m w (message-levels - 1) a (Refuses x) → askedResult S T room a ≡ refusedBy room x
       go (Answers.Asking.asks a) t = absurd t
@@ -174,20 +179,25 @@ module _ {S T m w ix : List ℕ} {x : Asked} (p : PresentIn S T m w ix x) (old :
       (g .told (p .here .asked .value) (p .levels) (p .here .given) (subst (λ (i : ℕ). Holds message m w (p .here .asked .value) (p .levels) i) (sym ek) (p .holds))
       (asked-once S T (p .here .value) (p .here .asked) (p .here .once) (p .here .is)) (p .few))
 
-  result-is : textResult S T (length old) (readMessage m) ≡ readingResult (length old) (p .here .asked .second) (askedReading S T (p .here .asked))
-  result-is = rw (p .here .text, p .here .once, p .here .is)
+  -- with the start that the node has
+  result-is : {i : ℕ} → i ≡ nodeStart w (x .node)
+      → textResult S T (length old) (readMessage m) ≡ readingResult (length old) (p .here .asked .second) i (askedReading S T (p .here .asked))
+  result-is {i} es =
+      rw (p .here .text, first-once (p .here .value) .1 (p .here .once), p .here .is)
+      (ap (λ (n : ℕ). readingResult (length old) (p .here .asked .second) n (askedReading S T (p .here .asked)))
+      (sym (es ∙ node-start m w (p .here .asked .value) (p .levels) (x .node) (p .holds))))
 
-  pub unread : r ≡ Nothing → Uncleared (textResult S T (length old) (readMessage m)) old new (Refused M.NoReading)
-  unread e = go (askedReading S T (p .here .asked)) refl reads
+  pub unread : {i : ℕ} → i ≡ nodeStart w (x .node) → r ≡ Nothing → Uncleared (textResult S T (length old) (readMessage m)) old new (Refused M.NoReading i)
+  unread {i} es e = go (askedReading S T (p .here .asked)) refl reads
     where
-      go : (o : Option (List Typed)) → askedReading S T (p .here .asked) ≡ o → ReadTold old new 0 o r → Uncleared (textResult S T (length old) (readMessage m)) old new (Refused M.NoReading)
-      go none q h = refused (result-is ∙ ap (readingResult (length old) (p .here .asked .second)) q) (h .0)
+      go : (o : Option (List Typed)) → askedReading S T (p .here .asked) ≡ o → ReadTold old new 0 o r → Uncleared (textResult S T (length old) (readMessage m)) old new (Refused M.NoReading i)
+      go none q h = refused (result-is es ∙ ap (readingResult (length old) (p .here .asked .second) i) q) (h .0)
       go (some ts) q h = absurd (let z : Nothing ≡ Records (0 + length ts) = sym e ∙ h .1 in let y : _≡_ {A = ℕ} 0 1 = cc in omega arith)
 
-  module _ {n : ℕ} (e : r ≡ Records n) where
+  module _ {i n : ℕ} (es : i ≡ nodeStart w (x .node)) (e : r ≡ Records n) where
     record Read : Type 0 where
       ts : List Typed
-      is : textResult S T (length old) (readMessage m) ≡ readingResult (length old) (p .here .asked .second) (some ts)
+      is : textResult S T (length old) (readMessage m) ≡ readingResult (length old) (p .here .asked .second) i (some ts)
       words : new ≡ putAll old 0 ts
       count : n ≡ length ts
 
@@ -199,23 +209,23 @@ module _ {S T m w ix : List ℕ} {x : Asked} (p : PresentIn S T m w ix x) (old :
         go (some ts) q h =
             let z : Records n ≡ Records (0 + length ts) = sym e ∙ h .1 in
             let y : n ≡ 0 + length ts = cc in
-            record { ts = ts; is = result-is ∙ ap (readingResult (length old) (p .here .asked .second)) q; words = h .0; count = omega arith }
+            record { ts = ts; is = result-is es ∙ ap (readingResult (length old) (p .here .asked .second) i) q; words = h .0; count = omega arith }
 
-    pub unheld : length new / record-words < n → Uncleared (textResult S T (length old) (readMessage m)) old new (Refused M.NoRoom)
-    unheld h = no-room old (p .here .asked .second) (read .ts) (read .is) (read .words) (read .count) h
+    pub unheld : length new / record-words < n → Uncleared (textResult S T (length old) (readMessage m)) old new (Refused M.NoRoom i)
+    unheld h = no-room old (p .here .asked .second) i (read .ts) (read .is) (read .words) (read .count) h
 
     pub answered : {c : ℕ} → c ≡ x .second → n ≤ length new / record-words → Uncleared (textResult S T (length old) (readMessage m)) old new (Accepted c n)
     answered ec h =
         let z : p .here .asked .second ≡ _ = sym (ec ∙ p .here .like .second) in
-        subst (λ (i : ℕ). Uncleared (textResult S T (length old) (readMessage m)) old new (Accepted i n)) z (held old (p .here .asked .second) (read .ts) (read .is) (read .words) (read .count) h)
+        subst (λ (i : ℕ). Uncleared (textResult S T (length old) (readMessage m)) old new (Accepted i n)) z (held old (p .here .asked .second) i (read .ts) (read .is) (read .words) (read .count) h)
 
 -- 22 and 21
 module _ (S T m : List ℕ) {old new : List ℕ} where
-  pub too-long : message-bytes < length m → length new ≡ length old → Uncleared (soundResult S T m (length old)) old new (Refused M.TooLong)
+  pub too-long : message-bytes < length m → length new ≡ length old → Uncleared (soundResult S T m (length old)) old new (Refused M.TooLong 0)
   unfolding soundResult
   too-long h l = refused (rw (lt-ltb message-bytes (length m) h)) l
 
-  pub unsound : sound S T ≡ false → length new ≡ length old → Uncleared (messageResult S T m (length old)) old new (Refused M.UnsoundTable)
+  pub unsound : sound S T ≡ false → length new ≡ length old → Uncleared (messageResult S T m (length old)) old new (Refused M.UnsoundTable 0)
   unfolding messageResult
   unsound e l = refused (rw e) l
 

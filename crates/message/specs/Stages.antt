@@ -13,7 +13,7 @@ use Rattle.grammar.specs.Serving.Machine.Message.{message, readMessage}
 use Rattle.rules.specs.declared.MessageAnswer.{MessageAnswer}
 use Rattle.rules.specs.MessageAnswers.{answerRecords}
 use Rattle.rules.specs.Envelope as Envelope
-use Rattle.rules.specs.Serving.Answers.{MessageResult, Asking.asks, asking, refusedBy, textResult, messageResult}
+use Rattle.rules.specs.Serving.Answers.{MessageResult, Asking.asks, asking, refusedAt, textResult, messageResult}
 use Rattle.text.specs.Nodes.{node-words, next, Holds}
 use Rattle.children.specs.Index.{IndexedTable}
 use Rattle.message.specs.declared.asked.Asked.{Asked}
@@ -47,10 +47,10 @@ pub record ValueRead (m w : List ℕ) : Type 0 where
   pub once : keysOnce value ≡ true
   pub small : length w < 2 ^ 32
 
--- or is refused for its text, whatever the table and the room
+-- or is refused for its text at a place, whatever the table and the room
 abbrev pub TextTold : List ℕ → List ℕ → TextFound → Type 0
 TextTold m w Value = ValueRead m w
-TextTold m w (Refused x) = (S T : List ℕ) (room : ℕ) → textResult S T room (readMessage m) ≡ refusedBy room x
+TextTold m w (Refused x p) = (S T : List ℕ) (room : ℕ) → textResult S T room (readMessage m) ≡ refusedAt room x p
 
 pub record KeysRead (m w : List ℕ) (r : TextFound) : Type 0 where
   pub told : TextTold m w r

@@ -9,11 +9,15 @@ use readings::readings::read_whole;
 use rules::MESSAGE_BYTES;
 use rules::MessageAnswer;
 use rules::MessageRefusal;
+use rules::NOWHERE;
 use rules::RECORD_WORDS;
 use strings::dialects::Dialect;
 use table::sound::is_sound;
-use text::keys::keys_once;
+use text::keys::Repeated;
+use text::keys::first_repeat;
+use text::nodes::NODE_START;
 use text::nodes::NODE_WORDS;
+use text::nodes::node_number;
 use text::texts::Text;
 use text::texts::read_message;
 use tokens::node;
@@ -34,21 +38,21 @@ const SHORT_MESSAGE: usize = MESSAGE_BYTES / 4;
 
 const SHORT_ROOM: usize = NODE_WORDS * (SHORT_MESSAGE / 2);
 
-// The message's value stands in the nodes from node 0 on; or why there is none.
+// The message's value stands in the nodes from node 0 on; or why there is none, and at which place.
 pub enum TextFound {
     Value,
-    Refused(MessageRefusal),
+    Refused(MessageRefusal, usize),
 }
 
-// 25: whether no key is repeated, over the nodes.
+// 25: the earliest key that is repeated, over the nodes.
 fn find_repeats(m: &[u8], nodes: &[u32], count: usize) -> TextFound
     requires { ⌜ WholeText (now m) (now nodes) count ⌝ }
     ensures { λ r. ⌜ KeysRead (now (m .entry)) (now (nodes .entry)) r ⌝ }
 {
-    if !keys_once(m, Dialect::Message, nodes, count) {
-        return TextFound::Refused(MessageRefusal::RepeatedKey);
+    match first_repeat(m, Dialect::Message, nodes, count) {
+        Repeated::At(place) => TextFound::Refused(MessageRefusal::RepeatedKey, place),
+        Repeated::Never => TextFound::Value,
     }
-    TextFound::Value
 }
 
 // 23 to 25: the message's text, into words that its nodes fit.
@@ -58,13 +62,13 @@ fn read_text(m: &[u8], nodes: &mut [u32]) -> TextFound
 {
     match read_message(m, nodes) {
         Text::Whole(count) => find_repeats(m, nodes, count),
-        Text::Fault(_e) => TextFound::Refused(MessageRefusal::NotText),
-        Text::Deep(_e) => TextFound::Refused(MessageRefusal::TooDeep),
-        Text::TooLong => TextFound::Refused(MessageRefusal::NotText),
+        Text::Fault(place) => TextFound::Refused(MessageRefusal::NotText, place),
+        Text::Deep(place) => TextFound::Refused(MessageRefusal::TooDeep, place),
+        Text::TooLong => TextFound::Refused(MessageRefusal::NotText, NOWHERE),
     }
 }
 
-// 29 and 30: the value at the node asked for.
+// 29 and 30: the value at the node asked for, whose start is the place of either.
 fn read_present(
     schema: &[u8],
     rows: &[u32],
@@ -78,11 +82,12 @@ fn read_present(
     ensures { λ r. ⌜ Uncleared (textResult (now (schema .entry)) (now (rows .entry)) (length (now (records .entry))) (readMessage (now (m .entry)))) (now (records .entry)) (now (records .exit)) r ⌝ }
 {
     let how = asked.how;
+    let place = node_number(nodes, asked.node, NODE_START);
     match read_whole(schema, rows, m, nodes, index, asked.node, how, records) {
-        Count::Nothing => MessageAnswer::Refused(MessageRefusal::NoReading),
+        Count::Nothing => MessageAnswer::Refused(MessageRefusal::NoReading, place),
         Count::Records(n) => {
             if records.len() / RECORD_WORDS < n {
-                return MessageAnswer::Refused(MessageRefusal::NoRoom);
+                return MessageAnswer::Refused(MessageRefusal::NoRoom, place);
             }
             MessageAnswer::Accepted(asked.second, n)
         }
@@ -122,11 +127,11 @@ fn answer_in(
     ensures { λ r. ⌜ Uncleared (textResult (now (schema .entry)) (now (rows .entry)) (length (now (records .entry))) (readMessage (now (m .entry)))) (now (records .entry)) (now (records .exit)) r ⌝ }
 {
     let found = read_text(m, nodes);
-    if let TextFound::Refused(x) = found {
-        return MessageAnswer::Refused(x);
+    if let TextFound::Refused(x, place) = found {
+        return MessageAnswer::Refused(x, place);
     }
     match ask_command(schema, rows, m, nodes) {
-        Asking::Refuses(x) => MessageAnswer::Refused(x),
+        Asking::Refuses(x) => MessageAnswer::Refused(x, NOWHERE),
         Asking::Asks(asked) => read_asked(schema, rows, m, nodes, index, asked, records),
     }
 }
@@ -172,7 +177,7 @@ fn answer_given(
     ensures { λ r. ⌜ Uncleared (soundResult (now (schema .entry)) (now (rows .entry)) (now (m .entry)) (length (now (records .entry)))) (now (records .entry)) (now (records .exit)) r ⌝ }
 {
     if MESSAGE_BYTES < m.len() {
-        return MessageAnswer::Refused(MessageRefusal::TooLong);
+        return MessageAnswer::Refused(MessageRefusal::TooLong, NOWHERE);
     }
     if m.len() <= SHORT_MESSAGE {
         return answer_short(schema, rows, index, m, records);
@@ -185,7 +190,7 @@ fn answer(schema: &[u8], rows: &[u32], m: &[u8], records: &mut [u32]) -> Message
     ensures { λ r. ⌜ Uncleared (messageResult (now (schema .entry)) (now (rows .entry)) (now (m .entry)) (length (now (records .entry)))) (now (records .entry)) (now (records .exit)) r ⌝ }
 {
     if !is_sound(schema, rows) {
-        return MessageAnswer::Refused(MessageRefusal::UnsoundTable);
+        return MessageAnswer::Refused(MessageRefusal::UnsoundTable, NOWHERE);
     }
     let mut index = [0u32; INDEX_WORDS];
     fill_index(schema, rows, &mut index);
@@ -203,9 +208,9 @@ pub fn check_message(
 {
     let a = answer(schema, table, message, records);
     match a {
-        MessageAnswer::Refused(x) => {
+        MessageAnswer::Refused(x, place) => {
             clear(records, 0);
-            MessageAnswer::Refused(x)
+            MessageAnswer::Refused(x, place)
         }
         MessageAnswer::Accepted(c, n) => {
             clear(records, RECORD_WORDS * n);

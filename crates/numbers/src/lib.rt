@@ -1,6 +1,7 @@
-// The numbers of the answers (Reference, Schema answers and Message answers).
+// The numbers of the answers (Reference, Schema answers, Message answers and Places).
 use rules::MessageAnswer;
 use rules::MessageRefusal;
+use rules::NOWHERE;
 use rules::SchemaAnswer;
 use rules::SchemaRefusal;
 ghost use mathlib.Core.Path.{_≡_};
@@ -32,7 +33,7 @@ pub fn schema_number(a: SchemaAnswer) -> u32
 {
     match a {
         SchemaAnswer::Accepted(_n) => 0,
-        SchemaAnswer::Refused(x) => schema_refusal(x),
+        SchemaAnswer::Refused(x, _p) => schema_refusal(x),
     }
 }
 
@@ -41,7 +42,16 @@ pub fn schema_rows(a: SchemaAnswer) -> usize
 {
     match a {
         SchemaAnswer::Accepted(n) => n,
-        SchemaAnswer::Refused(_x) => 0,
+        SchemaAnswer::Refused(_x, _p) => 0,
+    }
+}
+
+pub fn schema_place(a: SchemaAnswer) -> usize
+    ensures { λ n. ⌜ n ≡ Schemas.answerPlace a ⌝ }
+{
+    match a {
+        SchemaAnswer::Accepted(_n) => NOWHERE,
+        SchemaAnswer::Refused(_x, p) => p,
     }
 }
 
@@ -67,7 +77,7 @@ pub fn message_number(a: MessageAnswer) -> u32
 {
     match a {
         MessageAnswer::Accepted(_c, _n) => 0,
-        MessageAnswer::Refused(x) => message_refusal(x),
+        MessageAnswer::Refused(x, _p) => message_refusal(x),
     }
 }
 
@@ -76,7 +86,7 @@ pub fn message_row(a: MessageAnswer) -> usize
 {
     match a {
         MessageAnswer::Accepted(c, _n) => c,
-        MessageAnswer::Refused(_x) => 0,
+        MessageAnswer::Refused(_x, _p) => 0,
     }
 }
 
@@ -85,6 +95,15 @@ pub fn message_records(a: MessageAnswer) -> usize
 {
     match a {
         MessageAnswer::Accepted(_c, n) => n,
-        MessageAnswer::Refused(_x) => 0,
+        MessageAnswer::Refused(_x, _p) => 0,
+    }
+}
+
+pub fn message_place(a: MessageAnswer) -> usize
+    ensures { λ n. ⌜ n ≡ Messages.answerPlace a ⌝ }
+{
+    match a {
+        MessageAnswer::Accepted(_c, _n) => NOWHERE,
+        MessageAnswer::Refused(_x, p) => p,
     }
 }

@@ -7,9 +7,9 @@ use Rattle.rules.specs.Rows.{rowCount}
 use Rattle.rules.specs.Serving.Answers.{commandFrom}
 use Rattle.message.specs.declared.commands.Command.{Command}
 use Rattle.message.specs.Commands.{asCommand, FindsCommand}
-use Rattle.probe.specs.Probe.{rowOf, rowOr, CommandProbed}
+use Rattle.probe.specs.Probe.{numberOr, rowOf, CommandProbed}
 
-row-or : (T : List ℕ) (o : Option ℕ) → rowOf T (asCommand o) ≡ rowOr (rowCount T) o
+row-or : (T : List ℕ) (o : Option ℕ) → rowOf T (asCommand o) ≡ numberOr (rowCount T) o
 row-or T none = refl
 row-or T (some r) = refl
 

@@ -1,17 +1,23 @@
--- The answers of the text reader, and of the search for a command, as plain numbers.
+-- The answers of the text reader, and of the searches for a repeated key and for a command, as plain numbers.
 use Prim.Native.Nat.{ℕ}
 use mathlib.Core.Path.{_≡_}
 use mathlib.Core.Bool.{Bool, true, false}
 use mathlib.Core.List.{List}
 use mathlib.Core.Option.{Option, none, some}
+use lib.ListN.{length}
+use Rattle.grammar.specs.Tree.{Items}
 use Rattle.grammar.specs.Tree.Scalar.{str}
 use Rattle.grammar.specs.Tree.Json.{leaf}
+use Rattle.grammar.specs.Serving.Machine as Machine
 use Rattle.grammar.specs.Serving.Machine.Message.{message}
+use Rattle.grammar.specs.Serving.Repeats.{firstRepeatI}
 use Rattle.rules.specs.Rows.{rowCount}
 use Rattle.rules.specs.Serving.Answers.{commandFrom}
 use Rattle.strings.specs.declared.dialects.Dialect.{Dialect}
 use Rattle.strings.specs.declared.dialects.Dialect.the-variants.{Schema, Message}
-use Rattle.text.specs.Nodes.{Holds}
+use Rattle.text.specs.Nodes.{Holds, HoldsItems}
+use Rattle.text.specs.declared.keys.Repeated.{Repeated}
+use Rattle.text.specs.declared.keys.Repeated.the-variants.{Never, At}
 use Rattle.text.specs.Texts.{ReadsMessage, ReadsSchema}
 use Rattle.text.specs.declared.texts.Text.{Text}
 use Rattle.text.specs.declared.texts.Text.the-variants.{Whole, Fault, Deep, TooLong}
@@ -46,15 +52,25 @@ pub record Probed (schema : Bool) (s old new : List ℕ) (v p : ℕ) : Type 0 wh
   pub verdict-is : v ≡ verdict text
   pub place-is : p ≡ place text
 
+-- what is found, or this number for nothing
+abbrev pub numberOr : ℕ → Option ℕ → ℕ
+numberOr n none = n
+numberOr n (some r) = r
+
+-- the place of a repeated key; the number of bytes for none
+abbrev pub repeatOf : List ℕ → Repeated → ℕ
+repeatOf s Never = length s
+repeatOf s (At p) = p
+
+-- the earliest key that repeats one before it, in what the nodes below n hold
+pub record KeysProbed (D : Machine.Dialect) (s w : List ℕ) (n r : ℕ) : Type 0 where
+  pub told : (js : Items) (l : ℕ) → HoldsItems D s w js l 0 n → r ≡ numberOr (length s) (firstRepeatI js)
+
 -- the row found; the number of rows for none
 abbrev pub rowOf : List ℕ → Command → ℕ
 rowOf T (Row r) = r
 rowOf T Unknown = rowCount T
 
-abbrev pub rowOr : ℕ → Option ℕ → ℕ
-rowOr n none = n
-rowOr n (some r) = r
-
 -- the string at node k of a message names the first command of that name, whatever the table
 pub record CommandProbed (S T m w : List ℕ) (k r : ℕ) : Type 0 where
-  pub told : (a e l : ℕ) (cs : List ℕ) → Holds message m w (leaf a e (str cs)) l k → r ≡ rowOr (rowCount T) (commandFrom S T cs 0 (rowCount T))
+  pub told : (a e l : ℕ) (cs : List ℕ) → Holds message m w (leaf a e (str cs)) l k → r ≡ numberOr (rowCount T) (commandFrom S T cs 0 (rowCount T))

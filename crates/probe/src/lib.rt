@@ -5,7 +5,8 @@ use rules::ROW_WORDS;
 use strings::dialects::Dialect;
 use strings::meanings::means;
 use strings::meanings::same_meaning;
-use text::keys::keys_once;
+use text::keys::Repeated;
+use text::keys::first_repeat;
 use text::texts::Text;
 use text::texts::read_message;
 use text::texts::read_schema;
@@ -18,8 +19,7 @@ ghost use lib.ListN.{take, drop};
 ghost use Rattle.grammar.specs.Integers.{negative, unsignedPart, decimal};
 ghost use Rattle.strings.specs.Strings.{grammarOf};
 ghost use Rattle.strings.specs.Meanings.{MeansName, MeansSame};
-ghost use Rattle.text.specs.Keys.{KeysOnce};
-ghost use Rattle.probe.specs.Probe.{dialectOf, verdict, place, ReadsText, Probed, rowOf, CommandProbed};
+ghost use Rattle.probe.specs.Probe.{dialectOf, verdict, place, ReadsText, Probed, repeatOf, KeysProbed, rowOf, CommandProbed};
 
 // The dialect that a caller in another language names.
 fn dialect_of(schema: bool) -> Dialect
@@ -79,12 +79,26 @@ pub extern "C" fn windosprio_probe_text(
     verdict_of(t)
 }
 
-// Whether no object of the first `count` nodes has a key twice.
-#[no_mangle]
-pub extern "C" fn windosprio_probe_keys(s: &[u8], schema: bool, nodes: &[u32], count: usize) -> bool
-    ensures { λ r. ⌜ KeysOnce (grammarOf (dialectOf schema)) (now (s .entry)) (now (nodes .entry)) count r ⌝ }
+fn repeat_of(found: Repeated, s: &[u8]) -> usize
+    ensures { λ r. ⌜ r ≡ repeatOf (now (s .entry)) found ⌝ }
 {
-    keys_once(s, dialect_of(schema), nodes, count)
+    match found {
+        Repeated::Never => s.len(),
+        Repeated::At(place) => place,
+    }
+}
+
+// The place of the earliest key, in the objects of the first `count` nodes, that repeats one before it; the number of bytes if there is none.
+#[no_mangle]
+pub extern "C" fn windosprio_probe_keys(
+    s: &[u8],
+    schema: bool,
+    nodes: &[u32],
+    count: usize,
+) -> usize
+    ensures { λ r. ⌜ KeysProbed (grammarOf (dialectOf schema)) (now (s .entry)) (now (nodes .entry)) count r ⌝ }
+{
+    repeat_of(first_repeat(s, dialect_of(schema), nodes, count), s)
 }
 
 // Whether the integer from a to e lies from -low to high.

@@ -12,8 +12,12 @@ use Rattle.grammar.specs.Limits.{schema-bytes, row-words}
 use Rattle.text.specs.Nodes.{node-words, text-bound}
 use Rattle.grammar.specs.Tree.{Items}
 use Rattle.grammar.specs.SchemaText.{SchemaText}
-use Rattle.grammar.specs.Serving.Machine.Out.{whole}
-use Rattle.grammar.specs.Serving.Machine.Schema.{schema}
+use Rattle.grammar.specs.Keys.{keysOnceI}
+use Rattle.grammar.specs.Serving.Machine.{Out}
+use Rattle.grammar.specs.Serving.Machine.Out.{fault, deep}
+use Rattle.grammar.specs.Serving.Machine.Schema.{schema, readSchema}
+use Rattle.grammar.specs.Serving.Repeats.{firstRepeatI}
+use Rattle.grammar.proofs.Repeats.{first-once-items}
 use Rattle.grammar.proofs.Texts.{schema-complete, schema-broken, schema-too-deep}
 use Rattle.rules.specs.declared.SchemaRefusal.the-variants.{TooLong, NotText, RepeatedKey, NotDefinitions, BadName}
 use Rattle.rules.specs.declared.SchemaAnswer.{SchemaAnswer}
@@ -21,8 +25,9 @@ use Rattle.rules.specs.declared.SchemaAnswer.the-variants.{Refused}
 use Rattle.rules.specs.Definitions.{Definition, definitions}
 use Rattle.rules.specs.SchemaTable.{table, allRefer}
 use Rattle.rules.specs.Serving.RawTable.{rawFrom}
-use Rattle.rules.specs.Serving.Answers.{rank}
-use Rattle.rules.specs.Serving.Answers.{schemaResult}
+use Rattle.rules.specs.Serving.Answers.{rank, objectsIn, faultIn, placeOr0, schemaPlace, schemaResult}
+use Rattle.rules.proofs.Lists.{none-not-some}
+use Rattle.rules.proofs.First.{decided}
 use Rattle.rules.proofs.NameSpans.{names-within}
 use Rattle.definitions.specs.declared.writing.Put.{Put}
 use Rattle.definitions.specs.declared.writing.Put.the-variants.{Rows, Refused as NoRows}
@@ -32,7 +37,9 @@ use Rattle.table.proofs.DistinctLaws.{index-links}
 use Rattle.references.specs.Resolves.{Resolves}
 use Rattle.references.proofs.RawWords.{all-behind}
 use Rattle.references.proofs.SameDefinitions.{table-links}
-use Rattle.text.specs.Keys.{KeysOnce}
+use Rattle.text.specs.Keys.{placeOf, FirstRepeat}
+use Rattle.text.specs.declared.keys.Repeated.{Repeated}
+use Rattle.text.specs.declared.keys.Repeated.the-variants.{Never, At}
 use Rattle.text.specs.Texts.{SchemaTold, ReadsSchema}
 use Rattle.text.specs.declared.texts.Text.{Text}
 use Rattle.text.specs.declared.texts.Text.the-variants as Texts
@@ -54,8 +61,22 @@ module _ {S : List ℕ} where
   unfolding written objects
   text-written t = rw (schema-complete t) refl
 
-  keys-test : {w : List ℕ} {count : ℕ} (room : ℕ) (t : TextRead S w count) {b : Bool} → KeysOnce schema S w count b → test S room RepeatedKey ≡ not b
-  keys-test room t k = rw (text-objects (t .text)) (ap not (sym (k .told (t .js) _ (t .holds))))
+  -- the first key that is repeated, if one is
+  module _ {w : List ℕ} {count : ℕ} (t : TextRead S w count) {x : Repeated} (k : FirstRepeat schema S w count x) where
+    pub once : x ≡ Never → keysOnceI (t .js) ≡ true
+    once e = first-once-items (t .js) .0 (sym (k .told (t .js) _ (t .holds)) ∙ ap placeOf e)
+
+    found : {p : ℕ} → x ≡ At p → firstRepeatI (t .js) ≡ some p
+    found e = sym (k .told (t .js) _ (t .holds)) ∙ ap placeOf e
+
+    none-test : (room : ℕ) → x ≡ Never → test S room RepeatedKey ≡ false
+    none-test room e = rw (text-objects (t .text)) (ap not (once e))
+
+    some-test : (room : ℕ) {p : ℕ} → x ≡ At p → test S room RepeatedKey ≡ true
+    some-test room e = rw (text-objects (t .text)) (ap not (decided (keysOnceI (t .js)) (λ o. none-not-some (sym (first-once-items (t .js) .1 o) ∙ found e))))
+
+    found-at : {p : ℕ} → x ≡ At p → schemaPlace (readSchema S) RepeatedKey ≡ p
+    found-at e = rw (schema-complete (t .text)) (ap placeOr0 (found e))
 
   -- the lent words are cleared first
   pub compiled : {old mid new : List ℕ} {r : SchemaAnswer} → length mid ≡ length old → Answered S TooLong mid new r → Compiles S old new r
@@ -64,24 +85,23 @@ module _ {S : List ℕ} where
 
   module _ {old : List ℕ} where
     -- the length
-    pub too-long : Zero old → schema-bytes < length S → Answered S TooLong old old (Refused TooLong)
-    too-long z h = stop TooLong (lt-ltb schema-bytes (length S) h) z
+    pub too-long : Zero old → schema-bytes < length S → Answered S TooLong old old (Refused TooLong 0)
+    too-long z h = stop TooLong refl (lt-ltb schema-bytes (length S) h) z
 
     pub length-on : {new : List ℕ} {r : SchemaAnswer} → length S ≤ schema-bytes → Answered S NotText old new r → Answered S TooLong old new r
     unfolding rank
     length-on h a = on TooLong refl (le-ltb schema-bytes (length S) h) a
 
     -- the text
-    no-objects : Zero old → objects S ≡ none → Answered S NotText old old (Refused NotText)
-    no-objects z e = stop NotText (rw e) z
-
-    pub faulty : {v w : List ℕ} {x : Text} {e : ℕ} → Zero old → ReadsSchema S v w x → x ≡ Texts.Fault e → Answered S NotText old old (Refused NotText)
+    no-objects : (o : Out) {e : ℕ} → readSchema S ≡ o → objectsIn o ≡ none → faultIn o ≡ e → Zero old → Answered S NotText old old (Refused NotText e)
     unfolding objects
-    faulty {w = w} z h p = no-objects z (rw (schema-broken (subst (λ (y : Text). SchemaTold S w y) p (h .told))) refl)
+    no-objects o p q f z = stop NotText (ap faultIn p ∙ f) (rw (ap objectsIn p ∙ q)) z
 
-    pub deeper : {v w : List ℕ} {x : Text} {e : ℕ} → Zero old → ReadsSchema S v w x → x ≡ Texts.Deep e → Answered S NotText old old (Refused NotText)
-    unfolding objects
-    deeper {w = w} z h p = no-objects z (rw (schema-too-deep (subst (λ (y : Text). SchemaTold S w y) p (h .told))) refl)
+    pub faulty : {v w : List ℕ} {x : Text} {e : ℕ} → Zero old → ReadsSchema S v w x → x ≡ Texts.Fault e → Answered S NotText old old (Refused NotText e)
+    faulty {w = w} {e = e} z h p = no-objects (fault e) (schema-broken (subst (λ (y : Text). SchemaTold S w y) p (h .told))) refl refl z
+
+    pub deeper : {v w : List ℕ} {x : Text} {e : ℕ} → Zero old → ReadsSchema S v w x → x ≡ Texts.Deep e → Answered S NotText old old (Refused NotText e)
+    deeper {w = w} {e = e} z h p = no-objects (deep e) (schema-too-deep (subst (λ (y : Text). SchemaTold S w y) p (h .told))) refl refl z
 
     pub never : {v w : List ℕ} {x : Text} {r : SchemaAnswer} → length S ≤ schema-bytes → ReadsSchema S v w x → x ≡ Texts.TooLong → Answered S NotText old old r
     never {w = w} h t p = let z : text-bound ≤ length S = subst (λ (y : Text). SchemaTold S w y) p (t .told) in absurd (omega arith)
@@ -92,16 +112,16 @@ module _ {S : List ℕ} where
       text-on a = on NotText refl (rw (text-objects (t .text))) a
 
       -- its keys
-      pub repeated : {b : Bool} → Zero old → KeysOnce schema S w count b → b ≡ false → Answered S RepeatedKey old old (Refused RepeatedKey)
-      repeated z k e = stop RepeatedKey (keys-test (length old) t k ∙ ap not e) z
+      pub repeated : {x : Repeated} {p : ℕ} → Zero old → FirstRepeat schema S w count x → x ≡ At p → Answered S RepeatedKey old old (Refused RepeatedKey p)
+      repeated z k e = stop RepeatedKey (found-at t k e) (some-test t k (length old) e) z
 
-      pub keys-on : {b : Bool} {new : List ℕ} {r : SchemaAnswer} → KeysOnce schema S w count b → b ≡ true → Answered S NotDefinitions old new r → Answered S RepeatedKey old new r
+      pub keys-on : {x : Repeated} {new : List ℕ} {r : SchemaAnswer} → FirstRepeat schema S w count x → x ≡ Never → Answered S NotDefinitions old new r → Answered S RepeatedKey old new r
       unfolding rank
-      keys-on k e a = on RepeatedKey refl (keys-test (length old) t k ∙ ap not e) a
+      keys-on k e a = on RepeatedKey refl (none-test t k (length old) e) a
 
       -- its definitions
-      pub no-definitions : Zero old → definitions (t .js) ≡ none → Answered S NotDefinitions old old (Refused NotDefinitions)
-      no-definitions z e = stop NotDefinitions (rw (text-objects (t .text), text-written (t .text) ∙ e)) z
+      pub no-definitions : Zero old → definitions (t .js) ≡ none → Answered S NotDefinitions old old (Refused NotDefinitions 0)
+      no-definitions z e = stop NotDefinitions refl (rw (text-objects (t .text), text-written (t .text) ∙ e)) z
 
       pub definitions-on : {ds : List Definition} {new : List ℕ} {r : SchemaAnswer} → definitions (t .js) ≡ some ds → Answered S BadName old new r → Answered S NotDefinitions old new r
       unfolding rank
@@ -132,10 +152,10 @@ text-read {S} {w = w} {n = n} r e h k =
     record { js = t .items; text = t .text; holds = t .holds (omega (arith, t .few)); few = t .few; short = h }
 
 -- raw rows put at the front of words that hold them
-module _ {S w old new : List ℕ} {count : ℕ} {x : Put} {b : Bool} (t : TextRead S w count) (k : KeysOnce schema S w count b) (o : b ≡ true)
+module _ {S w old new : List ℕ} {count : ℕ} {x : Put} {y : Repeated} (t : TextRead S w count) (k : FirstRepeat schema S w count y) (o : y ≡ Never)
     (p : PutsDefinitions S w old new count x) where
   put : PutTold old new (t .js) count x
-  put = p .told (t .js) _ (record { small = t .short; once = sym (k .told (t .js) _ (t .holds)) ∙ o }) (t .holds)
+  put = p .told (t .js) _ (record { small = t .short; once = once t k o }) (t .holds)
 
   pub put-refused : x ≡ NoRows → definitions (t .js) ≡ none
   put-refused e = subst (λ (y : Put). PutTold old new (t .js) count y) e put

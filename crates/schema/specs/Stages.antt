@@ -36,7 +36,7 @@ written S = objects S >>= definitions
 
 -- the outcome by the refusals xs alone
 unfoldable pub resultBy : List ℕ → ℕ → List SchemaRefusal → SchemaResult
-resultBy S room xs = schemaAnswered S room (tableIn S room (written S)) (first (schemaTest S room (objects S) (written S)) xs)
+resultBy S room xs = schemaAnswered S room (readSchema S) (tableIn S room (written S)) (first (schemaTest S room (objects S) (written S)) xs)
 
 -- the answer and the lent words are the outcome by the refusals from x on
 pub record Answered (S : List ℕ) (x : SchemaRefusal) (old new : List ℕ) (r : SchemaAnswer) : Type 0 where

@@ -4,13 +4,15 @@ use buckets::BUCKETS;
 use definitions::definitions::put_definitions;
 use definitions::writing::Put;
 use references::resolve;
+use rules::NOWHERE;
 use rules::ROW_WORDS;
 use rules::SCHEMA_BYTES;
 use rules::SchemaAnswer;
 use rules::SchemaRefusal;
 use strings::dialects::Dialect;
 use table::names::index_definitions;
-use text::keys::keys_once;
+use text::keys::Repeated;
+use text::keys::first_repeat;
 use text::nodes::NODE_WORDS;
 use text::texts::Text;
 use text::texts::read_schema;
@@ -44,17 +46,18 @@ fn judge_table(schema: &[u8], table: &mut [u32], rows: &mut [u32]) -> SchemaAnsw
     judge_names(schema, table, &mut hashes[..n], &mut links, found, rows)
 }
 
-// The objects of the text, by its nodes: no key repeated, and definitions all of them.
+// The objects of the text, by its nodes: the earliest key that is repeated, and definitions all of them.
 fn judge_objects(schema: &[u8], nodes: &[u32], count: usize, rows: &mut [u32]) -> SchemaAnswer
     requires { ⌜ TextRead (now schema) (now nodes) count × Zero (now rows) ⌝ }
     ensures { λ r. ⌜ Answered (now (schema .entry)) RepeatedKey (now (rows .entry)) (now (rows .exit)) r ⌝ }
 {
-    if !keys_once(schema, Dialect::Schema, nodes, count) {
-        return SchemaAnswer::Refused(SchemaRefusal::RepeatedKey);
+    let repeated = first_repeat(schema, Dialect::Schema, nodes, count);
+    if let Repeated::At(place) = repeated {
+        return SchemaAnswer::Refused(SchemaRefusal::RepeatedKey, place);
     }
     let mut table = [0u32; ROW_ROOM];
     match put_definitions(schema, nodes, count, &mut table) {
-        Put::Refused => SchemaAnswer::Refused(SchemaRefusal::NotDefinitions),
+        Put::Refused => SchemaAnswer::Refused(SchemaRefusal::NotDefinitions, NOWHERE),
         Put::Rows(n) => {
             let end = ROW_WORDS * n;
             judge_table(schema, &mut table[..end], rows)
@@ -70,9 +73,9 @@ fn judge_text(schema: &[u8], rows: &mut [u32]) -> SchemaAnswer
     let mut nodes = [0u32; NODE_ROOM];
     match read_schema(schema, &mut nodes) {
         Text::Whole(count) => judge_objects(schema, &nodes, count, rows),
-        Text::Fault(_e) => SchemaAnswer::Refused(SchemaRefusal::NotText),
-        Text::Deep(_e) => SchemaAnswer::Refused(SchemaRefusal::NotText),
-        Text::TooLong => SchemaAnswer::Refused(SchemaRefusal::NotText),
+        Text::Fault(place) => SchemaAnswer::Refused(SchemaRefusal::NotText, place),
+        Text::Deep(place) => SchemaAnswer::Refused(SchemaRefusal::NotText, place),
+        Text::TooLong => SchemaAnswer::Refused(SchemaRefusal::NotText, NOWHERE),
     }
 }
 
@@ -82,7 +85,7 @@ pub fn compile_schema(schema: &[u8], rows: &mut [u32]) -> SchemaAnswer
 {
     clear(rows, 0);
     if SCHEMA_BYTES < schema.len() {
-        return SchemaAnswer::Refused(SchemaRefusal::TooLong);
+        return SchemaAnswer::Refused(SchemaRefusal::TooLong, NOWHERE);
     }
     judge_text(schema, rows)
 }

@@ -1,5 +1,6 @@
 // The stages of the compile call, from the table on: each rule is judged over the whole schema before the next.
 use rows::hashes::put_hashes;
+use rules::NOWHERE;
 use rules::ROW_WORDS;
 use rules::SchemaAnswer;
 use rules::SchemaRefusal;
@@ -23,10 +24,10 @@ fn judge_room(table: &[u32], rows: &mut [u32], schema: &[u8]) -> SchemaAnswer
 {
     let n = table.len() / ROW_WORDS;
     if TABLE_ROWS < n {
-        return SchemaAnswer::Refused(SchemaRefusal::TooManyRows);
+        return SchemaAnswer::Refused(SchemaRefusal::TooManyRows, NOWHERE);
     }
     if rows.len() / ROW_WORDS < n {
-        return SchemaAnswer::Refused(SchemaRefusal::NoRoom);
+        return SchemaAnswer::Refused(SchemaRefusal::NoRoom, NOWHERE);
     }
     copy(table, rows);
     SchemaAnswer::Accepted(n)
@@ -43,16 +44,16 @@ fn judge_definitions(
     ensures { λ r. ⌜ Answered (now (schema .entry)) BadChain (now (rows .entry)) (now (rows .exit)) r ⌝ }
 {
     if !every_row_fits(Rule::Chains, schema, table, words) {
-        return SchemaAnswer::Refused(SchemaRefusal::BadChain);
+        return SchemaAnswer::Refused(SchemaRefusal::BadChain, NOWHERE);
     }
     if !every_row_fits(Rule::Unions, schema, table, words) {
-        return SchemaAnswer::Refused(SchemaRefusal::BadUnion);
+        return SchemaAnswer::Refused(SchemaRefusal::BadUnion, NOWHERE);
     }
     if !every_row_fits(Rule::Alternates, schema, table, words) {
-        return SchemaAnswer::Refused(SchemaRefusal::BadAlternate);
+        return SchemaAnswer::Refused(SchemaRefusal::BadAlternate, NOWHERE);
     }
     if !every_row_fits(Rule::Returns, schema, table, words) {
-        return SchemaAnswer::Refused(SchemaRefusal::BadReturn);
+        return SchemaAnswer::Refused(SchemaRefusal::BadReturn, NOWHERE);
     }
     judge_room(table, rows, schema)
 }
@@ -70,14 +71,14 @@ pub fn judge_names(
     ensures { λ r. ⌜ Answered (now (schema .entry)) BadName (now (rows .entry)) (now (rows .exit)) r ⌝ }
 {
     if !good_names(schema, table) {
-        return SchemaAnswer::Refused(SchemaRefusal::BadName);
+        return SchemaAnswer::Refused(SchemaRefusal::BadName, NOWHERE);
     }
     put_hashes(schema, table, hashes);
     if !distinct_names(schema, table, hashes, links) {
-        return SchemaAnswer::Refused(SchemaRefusal::RepeatedName);
+        return SchemaAnswer::Refused(SchemaRefusal::RepeatedName, NOWHERE);
     }
     if !found {
-        return SchemaAnswer::Refused(SchemaRefusal::UnknownName);
+        return SchemaAnswer::Refused(SchemaRefusal::UnknownName, NOWHERE);
     }
     judge_definitions(schema, table, hashes, rows)
 }

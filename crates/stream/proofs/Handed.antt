@@ -21,9 +21,9 @@ module _ {limit : ℕ} {m : List ℕ} (h : Handed limit m) (g : limit ≤ messag
   never-applies not-text a = let z = message-value (h .whole) in a .0 (z .0) (z .1)
   never-applies too-deep a = message-valid-or-deep (message-value (h .whole) .1) (a .1)
 
-  pub never-refused : {x : MessageRefusal} {a : MessageAnswer} {w : List ℕ} → OfText x → MessageOutcome S T m room a w → a ≡ Refused x → ⊥
+  pub never-refused : {x : MessageRefusal} {p : ℕ} {a : MessageAnswer} {w : List ℕ} → OfText x → MessageOutcome S T m room a w → a ≡ Refused x p → ⊥
   never-refused o (accepted p q r s t) k = let z : _≡_ {A = ℕ} 0 1 = cc in omega arith
-  never-refused o (refused f s t) k = never-applies o (subst (λ (y : MessageRefusal). MessageApplies y S T m room) (same (sym s ∙ k)) (first-has (λ y. MessageApplies y S T m room) messageOrder f))
+  never-refused o (refused f l s t) k = never-applies o (subst (λ (y : MessageRefusal). MessageApplies y S T m room) (same (sym s ∙ k)) (first-has (λ y. MessageApplies y S T m room) messageOrder f))
     where
-      same : {x y : MessageRefusal} → Refused x ≡ Refused y → x ≡ y
+      same : {x y : MessageRefusal} {p q : ℕ} → Refused x p ≡ Refused y q → x ≡ y
       same k = cc

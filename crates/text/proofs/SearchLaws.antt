@@ -18,12 +18,11 @@ use Rattle.grammar.specs.Tree.{Scalar, Json, Items, Fields}
 use Rattle.grammar.specs.Tree.Json.{leaf, arr, obj}
 use Rattle.grammar.specs.Tree.Items.{no-items, item}
 use Rattle.grammar.specs.Tree.Fields.{no-fields, field}
-use Rattle.grammar.specs.Keys.{keysOf, keysOnceI}
+use Rattle.grammar.specs.Keys.{keysOf}
 use Rattle.grammar.specs.Serving.Machine.{Dialect}
 use Rattle.grammar.specs.Serving.Repeats.{firstOf, repeatAt, firstRepeat, firstRepeatI, firstRepeatF}
-use Rattle.grammar.proofs.Booleans.{clash, by, none-not-some}
+use Rattle.grammar.proofs.Booleans.{clash, by}
 use Rattle.grammar.proofs.Lists.{same-is, different, all-true, all-of}
-use Rattle.grammar.proofs.Repeats.{first-once-items}
 use Rattle.sorted.specs.declared.repeats.Found.{Found}
 use Rattle.sorted.specs.declared.repeats.Found.the-variants.{Never, At, GivenUp}
 use Rattle.sorted.specs.Repeats.{Repeat, NoneTo}
@@ -34,7 +33,7 @@ use Rattle.text.specs.declared.keys.Progress.{Progress}
 use Rattle.text.specs.Nodes.{next, Holds, HoldsItems, HoldsFields, nodeKind, nodeStart}
 use Rattle.text.specs.Fields.{nodeOf, Keys, RepeatAt, TellsKey, FindsKey, isGivenUp}
 use Rattle.text.specs.Search.{lesserOf, FindsAt, NoneBefore, Searched, LeastNode, SearchesOn, EndsAt}
-use Rattle.text.specs.Keys.{placeOf, FirstRepeat, KeysOnce}
+use Rattle.text.specs.Keys.{FirstRepeat}
 use Rattle.text.proofs.Frames.{goes-on, items-rise, fields-rise}
 use Rattle.text.proofs.KeyLaws.{lt-or-ge, scalar-no-object, key-no-object}
 use Rattle.text.proofs.FieldKeys.{node-first, node-next, nodes-rise, nodes-rise-to, node-above, keyIn, keys-of}
@@ -367,15 +366,3 @@ module _ {D : Dialect} {s w : List ℕ} {n best : ℕ} (y : LeastNode D s w n be
 
   pub search-none : n ≤ best → FirstRepeat D s w n Repeated.Never
   search-none l = record { told = λ js levels t. sym (items-none D s w best js levels 0 n t none-at-all l) }
-
--- whether any key is repeated
-module _ {D : Dialect} {s w : List ℕ} {n : ℕ} {r : Repeated} (v : FirstRepeat D s w n r) where
-  pub never-repeated : r ≡ Repeated.Never → KeysOnce D s w n true
-  never-repeated e = record { told = λ js l h. sym (first-once-items js .0 (sym (v .told js l h) ∙ ap placeOf e)) }
-
-  pub once-repeated : {p : ℕ} → r ≡ Repeated.At p → KeysOnce D s w n false
-  once-repeated {p} e = record { told = λ js l h. go js (sym (v .told js l h) ∙ ap placeOf e) (keysOnceI js) refl }
-    where
-      go : (js : Items) → firstRepeatI js ≡ some p → (b : Bool) → keysOnceI js ≡ b → false ≡ b
-      go js q true t = none-not-some (sym (first-once-items js .1 t) ∙ q)
-      go js q false t = refl

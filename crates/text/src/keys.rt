@@ -19,7 +19,7 @@ ghost use Prim.Native.Nat.{_+_, _^_, _≤_, _<_};
 ghost use lib.ListN.{length};
 ghost use Rattle.strings.specs.Strings.{grammarOf};
 ghost use Rattle.text.specs.Fields.{FindsKey, isGivenUp};
-ghost use Rattle.text.specs.Keys.{FirstRepeat, KeysOnce};
+ghost use Rattle.text.specs.Keys.{FirstRepeat};
 ghost use Rattle.text.specs.Search.{lesserOf, FindsAt, SearchesOn, StopsAt, EndsAt, LeastNode};
 
 // Keys that are compared pairwise, by measurement.
@@ -202,14 +202,4 @@ pub fn first_repeat(s: &[u8], dialect: Dialect, nodes: &[u32], count: usize) -> 
         return Repeated::At(node_number(nodes, least, NODE_START));
     }
     Repeated::Never
-}
-
-// Whether no object of the first `count` nodes has a key twice.
-pub fn keys_once(s: &[u8], dialect: Dialect, nodes: &[u32], count: usize) -> bool
-    ensures { λ r. ⌜ KeysOnce (grammarOf dialect) (now (s .entry)) (now (nodes .entry)) count r ⌝ }
-{
-    match first_repeat(s, dialect, nodes, count) {
-        Repeated::Never => true,
-        Repeated::At(_p) => false,
-    }
 }

@@ -13,6 +13,9 @@ message-row-requires c κs = search needs
 message-records-requires : tie.Need-message-records-requires
 message-records-requires c κs = search needs
 
+message-place-requires : tie.Need-message-place-requires
+message-place-requires c κs = search needs
+
 message-number-requires : tie.Need-message-number-requires
 message-number-requires c κs = search needs
 
@@ -20,7 +23,7 @@ same-length : tie.Need-same-length
 same-length c = search needs
 
 returns : tie.Need-returns
-returns c = checked (c .before .before .before .before .before .check-message .ensures) (c .message-number .ensures) (c .before .before .message-row .ensures) (c .before .message-records .ensures)
+returns c = checked (c .before .before .before .before .before .before .check-message .ensures) (c .message-number .ensures) (c .before .before .before .message-row .ensures) (c .before .before .message-records .ensures) (c .before .message-place .ensures)
 
 pub windosprio-check-message-spec : {M : Type 1} → statement M
 windosprio-check-message-spec =
@@ -29,6 +32,7 @@ windosprio-check-message-spec =
     check-message-requires
     message-row-requires
     message-records-requires
+    message-place-requires
     message-number-requires
     same-length
     returns)

@@ -10,6 +10,9 @@ compile-schema-requires c κs = search needs
 schema-rows-requires : tie.Need-schema-rows-requires
 schema-rows-requires c κs = search needs
 
+schema-place-requires : tie.Need-schema-place-requires
+schema-place-requires c κs = search needs
+
 schema-number-requires : tie.Need-schema-number-requires
 schema-number-requires c κs = search needs
 
@@ -17,7 +20,7 @@ same-length : tie.Need-same-length
 same-length c = search needs
 
 returns : tie.Need-returns
-returns c = compiled (c .before .before .before .before .compile-schema .ensures) (c .schema-number .ensures) (c .before .schema-rows .ensures)
+returns c = compiled (c .before .before .before .before .before .compile-schema .ensures) (c .schema-number .ensures) (c .before .before .schema-rows .ensures) (c .before .schema-place .ensures)
 
 pub windosprio-compile-schema-spec : {M : Type 1} → statement M
 windosprio-compile-schema-spec =
@@ -25,6 +28,7 @@ windosprio-compile-schema-spec =
     (tie.spec
     compile-schema-requires
     schema-rows-requires
+    schema-place-requires
     schema-number-requires
     same-length
     returns)

@@ -12,17 +12,19 @@ use Rattle.stream.specs.Serving.Feeding.{Standing, call}
 use Rattle.stream.specs.Serving.States.{standsFor, Normal}
 use Rattle.gateway.specs.Calls.{fresh, saidNumber, saidBytes}
 
--- a schema, the lent words before and after, the number and the count of rows
-pub record Compiled (S old new : List ℕ) (number rows : ℕ) : Type 0 where
+-- a schema, the lent words before and after, the number, the count of rows and the place
+pub record Compiled (S old new : List ℕ) (number rows place : ℕ) : Type 0 where
   pub number-is : number ≡ Schemas.answerNumber (schemaResult S (length old) .answer)
   pub rows-are : rows ≡ Schemas.answerRows (schemaResult S (length old) .answer)
+  pub place-is : place ≡ Schemas.answerPlace (schemaResult S (length old) .answer)
   pub words-are : new ≡ schemaResult S (length old) .words
 
--- a schema, a table, a message, the lent words before and after, the number, the command's row and the count of records
-pub record Checked (S T m old new : List ℕ) (number row records : ℕ) : Type 0 where
+-- a schema, a table, a message, the lent words before and after, the number, the command's row, the count of records and the place
+pub record Checked (S T m old new : List ℕ) (number row records place : ℕ) : Type 0 where
   pub number-is : number ≡ Messages.answerNumber (messageResult S T m (length old) .answer)
   pub row-is : row ≡ Messages.answerRow (messageResult S T m (length old) .answer)
   pub records-are : records ≡ Messages.answerRecords (messageResult S T m (length old) .answer)
+  pub place-is : place ≡ Messages.answerPlace (messageResult S T m (length old) .answer)
   pub words-are : new ≡ messageResult S T m (length old) .words
 
 -- what the words of a state stand for

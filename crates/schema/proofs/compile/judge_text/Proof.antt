@@ -19,11 +19,11 @@ slice-aggregate-judge-objects c = search needs
 judge-objects-requires : tie.Need-judge-objects-requires
 judge-objects-requires c κs = (text-read (c .before .before .before .before .before .before .read-schema .ensures) (c .before .before .before .count .given .1) (c .before .before .before .before .before .before .before .before .before .before .pre .0) (search needs), c .before .before .before .before .before .before .before .before .before .before .pre .1)
 
-enum-known--e : tie.Need-enum-known--e
-enum-known--e c = search needs
+enum-known-place : tie.Need-enum-known-place
+enum-known-place c = search needs
 
-enum-known--e-2 : tie.Need-enum-known--e-2
-enum-known--e-2 c = search needs
+enum-known-place-2 : tie.Need-enum-known-place-2
+enum-known-place-2 c = search needs
 
 enum-told : tie.Need-enum-told
 enum-told c = search needs
@@ -35,10 +35,10 @@ returns : tie.Need-returns
 returns c = text-on (text-read (c .before .before .before .before .before .before .before .before .before .read-schema .ensures) (c .before .before .before .before .before .before .count .given .1) (c .before .before .before .before .before .before .before .before .before .before .before .before .before .pre .0) (search needs)) (c .before .before .judge-objects .ensures)
 
 returns-2 : tie.Need-returns-2
-returns-2 c = faulty (c .before .before .before .before .before .before .before .before .pre .1) (c .before .before .before .before .read-schema .ensures) (c .before .-e .given .1)
+returns-2 c = faulty (c .before .before .before .before .before .before .before .before .pre .1) (c .before .before .before .before .read-schema .ensures) (c .before .place .given .1)
 
 returns-3 : tie.Need-returns-3
-returns-3 c = deeper (c .before .before .before .before .before .before .before .before .pre .1) (c .before .before .before .before .read-schema .ensures) (c .before .-e2 .given .1)
+returns-3 c = deeper (c .before .before .before .before .before .before .before .before .pre .1) (c .before .before .before .before .read-schema .ensures) (c .before .place2 .given .1)
 
 returns-4 : tie.Need-returns-4
 returns-4 c = never (c .before .before .before .before .before .before .before .pre .0) (c .before .before .before .read-schema .ensures) (c .enum-told .given .1)
@@ -52,8 +52,8 @@ judge-text-spec =
     enum-known-count
     slice-aggregate-judge-objects
     judge-objects-requires
-    enum-known--e
-    enum-known--e-2
+    enum-known-place
+    enum-known-place-2
     enum-told
     same-length
     returns

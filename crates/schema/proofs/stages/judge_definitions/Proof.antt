@@ -20,7 +20,7 @@ returns : tie.Need-returns
 returns c =
     let S = c .before .before .before .before .before .before .before .before .before .args .schema .now in
     let t = c .before .before .before .before .before .before .before .before .before .pre .2 in
-    broken t BadChain (goodChains S) refl (c .before .before .before .before .before .before .before .before .before .pre .1) (denied (c .before .before .before .every-row-fits .ensures .is) (c .if1 .taken))
+    broken t BadChain (goodChains S) refl refl (c .before .before .before .before .before .before .before .before .before .pre .1) (denied (c .before .before .before .every-row-fits .ensures .is) (c .if1 .taken))
 
 every-row-fits-requires-2 : tie.Need-every-row-fits-requires-2
 every-row-fits-requires-2 c κs = search needs
@@ -33,7 +33,7 @@ unfolding rank
 returns-2 c =
     let S = c .before .before .before .before .before .before .before .before .before .before .before .before .before .before .args .schema .now in
     let t = c .before .before .before .before .before .before .before .before .before .before .before .before .before .before .pre .2 in
-    kept t BadChain (goodChains S) refl refl (granted (c .before .before .before .before .before .before .before .before .every-row-fits .ensures .is) (c .before .before .before .before .before .if1 .left)) (broken t BadUnion (goodUnions S) refl (c .before .before .before .before .before .before .before .before .before .before .before .before .before .before .pre .1) (denied (c .before .before .before .every-row-fits2 .ensures .is) (c .if2 .taken)))
+    kept t BadChain (goodChains S) refl refl (granted (c .before .before .before .before .before .before .before .before .every-row-fits .ensures .is) (c .before .before .before .before .before .if1 .left)) (broken t BadUnion (goodUnions S) refl refl (c .before .before .before .before .before .before .before .before .before .before .before .before .before .before .pre .1) (denied (c .before .before .before .every-row-fits2 .ensures .is) (c .if2 .taken)))
 
 every-row-fits-requires-3 : tie.Need-every-row-fits-requires-3
 every-row-fits-requires-3 c κs = (c .before .before .before .before .before .before .before .before .before .before .before .before .before .before .before .pre .0, hashes-looked (c .before .before .before .before .every-row-fits2 .ensures .lent) (c .before .before .before .before .before .before .before .before .before .before .before .before .before .before .shared-slice-known .given))
@@ -46,7 +46,7 @@ unfolding rank
 returns-3 c =
     let S = c .before .before .before .before .before .before .before .before .before .before .before .before .before .before .before .before .before .before .before .args .schema .now in
     let t = c .before .before .before .before .before .before .before .before .before .before .before .before .before .before .before .before .before .before .before .pre .2 in
-    kept t BadChain (goodChains S) refl refl (granted (c .before .before .before .before .before .before .before .before .before .before .before .before .before .every-row-fits .ensures .is) (c .before .before .before .before .before .before .before .before .before .before .if1 .left)) (kept t BadUnion (goodUnions S) refl refl (granted (c .before .before .before .before .before .before .before .before .every-row-fits2 .ensures .is) (c .before .before .before .before .before .if2 .left)) (broken t BadAlternate (goodAlternates S) refl (c .before .before .before .before .before .before .before .before .before .before .before .before .before .before .before .before .before .before .before .pre .1) (denied (c .before .before .before .every-row-fits3 .ensures .is) (c .if3 .taken))))
+    kept t BadChain (goodChains S) refl refl (granted (c .before .before .before .before .before .before .before .before .before .before .before .before .before .every-row-fits .ensures .is) (c .before .before .before .before .before .before .before .before .before .before .if1 .left)) (kept t BadUnion (goodUnions S) refl refl (granted (c .before .before .before .before .before .before .before .before .every-row-fits2 .ensures .is) (c .before .before .before .before .before .if2 .left)) (broken t BadAlternate (goodAlternates S) refl refl (c .before .before .before .before .before .before .before .before .before .before .before .before .before .before .before .before .before .before .before .pre .1) (denied (c .before .before .before .every-row-fits3 .ensures .is) (c .if3 .taken))))
 
 every-row-fits-requires-4 : tie.Need-every-row-fits-requires-4
 every-row-fits-requires-4 c κs = search needs
@@ -59,7 +59,7 @@ unfolding rank
 returns-4 c =
     let S = c .before .before .before .before .before .before .before .before .before .before .before .before .before .before .before .before .before .before .before .before .before .before .before .before .args .schema .now in
     let t = c .before .before .before .before .before .before .before .before .before .before .before .before .before .before .before .before .before .before .before .before .before .before .before .before .pre .2 in
-    kept t BadChain (goodChains S) refl refl (granted (c .before .before .before .before .before .before .before .before .before .before .before .before .before .before .before .before .before .before .every-row-fits .ensures .is) (c .before .before .before .before .before .before .before .before .before .before .before .before .before .before .before .if1 .left)) (kept t BadUnion (goodUnions S) refl refl (granted (c .before .before .before .before .before .before .before .before .before .before .before .before .before .every-row-fits2 .ensures .is) (c .before .before .before .before .before .before .before .before .before .before .if2 .left)) (kept t BadAlternate (goodAlternates S) refl refl (granted (c .before .before .before .before .before .before .before .before .every-row-fits3 .ensures .is) (c .before .before .before .before .before .if3 .left)) (broken t BadReturn (goodReturns S) refl (c .before .before .before .before .before .before .before .before .before .before .before .before .before .before .before .before .before .before .before .before .before .before .before .before .pre .1) (denied (c .before .before .before .every-row-fits4 .ensures .is) (c .if4 .taken)))))
+    kept t BadChain (goodChains S) refl refl (granted (c .before .before .before .before .before .before .before .before .before .before .before .before .before .before .before .before .before .before .every-row-fits .ensures .is) (c .before .before .before .before .before .before .before .before .before .before .before .before .before .before .before .if1 .left)) (kept t BadUnion (goodUnions S) refl refl (granted (c .before .before .before .before .before .before .before .before .before .before .before .before .before .every-row-fits2 .ensures .is) (c .before .before .before .before .before .before .before .before .before .before .if2 .left)) (kept t BadAlternate (goodAlternates S) refl refl (granted (c .before .before .before .before .before .before .before .before .every-row-fits3 .ensures .is) (c .before .before .before .before .before .if3 .left)) (broken t BadReturn (goodReturns S) refl refl (c .before .before .before .before .before .before .before .before .before .before .before .before .before .before .before .before .before .before .before .before .before .before .before .before .pre .1) (denied (c .before .before .before .every-row-fits4 .ensures .is) (c .if4 .taken)))))
 
 judge-room-requires : tie.Need-judge-room-requires
 judge-room-requires c κs = search needs

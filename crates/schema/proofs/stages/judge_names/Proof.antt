@@ -14,7 +14,7 @@ good-names-requires : tie.Need-good-names-requires
 good-names-requires c κs = search needs
 
 returns : tie.Need-returns
-returns c = let p = c .before .before .before .before .before .before .before .pre in let S = c .before .before .before .before .before .before .before .args .schema .now in broken (p .4) BadName (goodNames S) refl (p .3) (denied (c .before .good-names .ensures) (c .if1 .taken))
+returns c = let p = c .before .before .before .before .before .before .before .pre in let S = c .before .before .before .before .before .before .before .args .schema .now in broken (p .4) BadName (goodNames S) refl refl (p .3) (denied (c .before .good-names .ensures) (c .if1 .taken))
 
 put-hashes-requires : tie.Need-put-hashes-requires
 put-hashes-requires c κs = search needs
@@ -30,7 +30,7 @@ same-length-2 c = search needs
 
 returns-2 : tie.Need-returns-2
 unfolding rank
-returns-2 c = let p = c .before .before .before .before .before .before .before .before .before .before .before .before .before .before .before .before .before .pre in let S = c .before .before .before .before .before .before .before .before .before .before .before .before .before .before .before .before .before .args .schema .now in kept (p .4) BadName (goodNames S) refl refl (granted (c .before .before .before .before .before .before .before .before .before .before .before .good-names .ensures) (c .before .before .before .before .before .before .before .before .before .before .if1 .left)) (broken (p .4) RepeatedName (distinctNames S) refl (p .3) (denied (c .before .before .before .distinct-names .ensures) (c .if2 .taken)))
+returns-2 c = let p = c .before .before .before .before .before .before .before .before .before .before .before .before .before .before .before .before .before .pre in let S = c .before .before .before .before .before .before .before .before .before .before .before .before .before .before .before .before .before .args .schema .now in kept (p .4) BadName (goodNames S) refl refl (granted (c .before .before .before .before .before .before .before .before .before .before .before .good-names .ensures) (c .before .before .before .before .before .before .before .before .before .before .if1 .left)) (broken (p .4) RepeatedName (distinctNames S) refl refl (p .3) (denied (c .before .before .before .distinct-names .ensures) (c .if2 .taken)))
 
 same-length-3 : tie.Need-same-length-3
 same-length-3 c = search needs
