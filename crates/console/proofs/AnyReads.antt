@@ -8,7 +8,7 @@ use mathlib.Core.List.{List, [], _∷_, _++_, append-assoc, append-nil}
 use mathlib.Core.Option.{Option}
 use lib.ListN.{length, take, drop, drop-of-length-le}
 use Rattle.grammar.specs.Limits.{record-words}
-use Rattle.lines.specs.Serving.Lines.{beforeLF}
+use Rattle.lines.specs.Lines.{beforeLF}
 use Rattle.lines.specs.Serving.Puts.{Puts, put}
 use Rattle.lines.proofs.TextLaws.{put-length}
 use Rattle.walker.specs.Seeing.{placeAfter}

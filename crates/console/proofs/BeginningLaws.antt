@@ -21,6 +21,7 @@ use Rattle.schema.specs.Stages.{Compiles}
 use Rattle.lines.specs.Serving.Puts.{Puts}
 use Rattle.lines.proofs.TextLaws.{puts-as}
 use Rattle.console.specs.declared.answers.Style.{Style}
+use Rattle.console.specs.declared.answers.Style.the-variants.{Numbers, Tree}
 use Rattle.console.specs.declared.files.Read.{Read}
 use Rattle.console.specs.declared.files.Read.the-variants.{Bytes, Failed}
 use Rattle.console.specs.declared.opening.Next.{Next}
@@ -39,15 +40,15 @@ module _ (s : Style) {rows old new : List ℕ} {at : ℕ} where
   opens-none schema e p = subst (λ (t : Read). Opens s (fileIn schema t) schema rows old new (record { at = at; next = Stop })) (sym e) (record { puts = p; follows = λ input. refl })
 
   -- ---- the schema's answer
-  module _ {S before : List ℕ} {a : SchemaAnswer} (lent : length before ≡ table-room) (x : Compiles S before rows a) (p : Puts (schemaText s a) 0 old new at) where
+  module _ {S before : List ℕ} {a : SchemaAnswer} (lent : length before ≡ table-room) (x : Compiles S before rows a) (p : Puts (schemaText s S a) 0 old new at) where
     outcome : schemaResult S table-room ≡ record { answer = a; words = rows }
     outcome = ap (schemaResult S) (sym lent) ∙ x .told
 
     first : Puts (firstLine s (some S)) 0 old new at
-    first = puts-as (ap (λ (o : SchemaResult). schemaText s (o .answer)) (sym outcome)) p
+    first = puts-as (ap (λ (o : SchemaResult). schemaText s S (o .answer)) (sym outcome)) p
 
     follows : (b : SchemaAnswer) → a ≡ b → Follows s (some S) S rows (nextAfter b (length S) (length rows))
-    follows (Refused y) e = λ input. ap (λ (o : SchemaResult). messageLines s S (o .words) (o .answer) input) outcome ∙ ap (λ (b : SchemaAnswer). messageLines s S rows b input) e
+    follows (Refused y q) e = λ input. ap (λ (o : SchemaResult). messageLines s S (o .words) (o .answer) input) outcome ∙ ap (λ (b : SchemaAnswer). messageLines s S rows b input) e
     follows (Accepted count) e =
         let n : ℕ = row-words * count in (
           omega arith,
@@ -105,7 +106,7 @@ table-answers s {S} {T} t input =
 
 -- ---- a file longer than a schema
 longSchema : SchemaResult
-longSchema = record { answer = Refused TooLong; words = replicate table-room 0 }
+longSchema = record { answer = Refused TooLong 0; words = replicate table-room 0 }
 
 too-long : (S : List ℕ) → schema-bytes < length S → schemaResult S table-room ≡ longSchema
 unfolding schemaResult longSchema
@@ -124,9 +125,15 @@ module _ {A : Type 0} (f : List ℕ → SchemaResult → A) (g : (R S : List ℕ
   cut : (S : List ℕ) → f (take (schema-bytes + 1) S) (schemaResult (take (schema-bytes + 1) S) table-room) ≡ f S (schemaResult S table-room)
   cut S = cut-by S (leb (length S) (schema-bytes + 1)) refl
 
+-- such a file shows no bytes of its own
+long-text : (s : Style) (R S : List ℕ) → schemaText s R (longSchema .answer) ≡ schemaText s S (longSchema .answer)
+unfolding longSchema
+long-text Numbers R S = refl
+long-text Tree R S = refl
+
 pub first-cut : (s : Style) (file : Option (List ℕ)) → firstLine s (cutFile file) ≡ firstLine s file
 first-cut s none = refl
-first-cut s (some S) = cut (λ R o. schemaText s (o .answer)) (λ R S. refl) S
+first-cut s (some S) = cut (λ R o. schemaText s R (o .answer)) (long-text s) S
 
 pub later-cut : (s : Style) (file : Option (List ℕ)) (input : List ℕ) → laterLines s (cutFile file) input ≡ laterLines s file input
 unfolding longSchema

@@ -10,7 +10,8 @@ use lib.ListN.{length, take, drop}
 use borrow.Author.Tests.{leb-true, leb-false}
 use Rattle.grammar.proofs.Booleans.{min-right}
 use Rattle.lines.specs.Serving.Puts.{put}
-use Rattle.lines.specs.Serving.Lines.{beforeLF, LineEnd}
+use Rattle.lines.specs.Lines.{beforeLF}
+use Rattle.lines.specs.Serving.Lines.{LineEnd}
 use Rattle.lines.proofs.TextLaws.{put-length}
 use Rattle.console.specs.declared.joins.Joined.{Joined}
 use Rattle.console.specs.declared.joins.Joined.the-variants.{Line}

@@ -14,7 +14,7 @@ use Rattle.rules.specs.declared.MessageRefusal.the-variants as M
 use Rattle.rules.specs.declared.MessageAnswer.the-variants as MA
 use Rattle.rules.specs.Sound.{sound}
 use Rattle.rules.specs.Serving.Answers.{MessageResult, refusedBy, soundResult, messageResult}
-use Rattle.lines.specs.Serving.Lines.{beforeLF, orNext}
+use Rattle.lines.specs.Lines.{beforeLF, orNext}
 use Rattle.lines.proofs.TextLaws.{puts-none}
 use Rattle.trees.specs.TreeText.{linesFrom, linesOf}
 use Rattle.console.specs.declared.answers.Style.{Style}
@@ -44,7 +44,7 @@ module _ (s : Style) (S T : List ℕ) (room : ℕ) where
 
   -- ---- a line longer than a message: its first bytes are answered as the whole of it
   longResult : Bool → MessageResult
-  longResult good = record { answer = MA.Refused (cond good M.TooLong M.UnsoundTable); words = replicate room 0 }
+  longResult good = record { answer = MA.Refused (cond good M.TooLong M.UnsoundTable) 0; words = replicate room 0 }
 
   long-answer : (good : Bool) → cond good (refusedBy room M.TooLong) (refusedBy room M.UnsoundTable) ≡ longResult good
   unfolding longResult
@@ -55,11 +55,12 @@ module _ (s : Style) (S T : List ℕ) (room : ℕ) where
   unfolding messageResult soundResult
   too-long m h = rw (lt-ltb message-bytes (length m) h) (long-answer (sound S T))
 
-  -- a refused message shows no bytes of its own
+  -- neither of the two shows bytes of the message
   long-text : (x : Style) (l m : List ℕ) (good : Bool) → resultText S T room x l (longResult good) ≡ resultText S T room x m (longResult good)
   unfolding longResult treeLines linesFrom linesOf
   long-text Numbers l m good = refl
-  long-text Tree l m good = refl
+  long-text Tree l m true = refl
+  long-text Tree l m false = refl
 
   module _ (n : ℕ) (h : message-bytes < n) where
     cut-by : (m : List ℕ) (t : Bool) → leb (length m) n ≡ t → answered (take n m) ≡ answered m

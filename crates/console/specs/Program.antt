@@ -29,19 +29,19 @@ record-count = 4096
 abbrev pub record-room : ℕ
 record-room = record-count * record-words
 
--- the line of a schema: its number and the count of rows
+-- the line of a schema: its number, the count of rows and the place
 unfoldable pub schemaLine : SchemaAnswer → List ℕ
-schemaLine a = lineText (Schemas.answerNumber a) (Schemas.answerRows a ∷ [])
+schemaLine a = lineText (Schemas.answerNumber a) (Schemas.answerRows a ∷ Schemas.answerPlace a ∷ [])
 
-abbrev pub schemaText : Style → SchemaAnswer → List ℕ
-schemaText Numbers a = schemaLine a
-schemaText Tree a = schemaHead a
+abbrev pub schemaText : Style → List ℕ → SchemaAnswer → List ℕ
+schemaText Numbers S a = schemaLine a
+schemaText Tree S a = schemaHead S a
 
--- three numbers, and the words of the records counted
+-- four numbers, the place last, and the words of the records counted
 unfoldable pub resultLine : MessageResult → List ℕ
 resultLine r =
     lineText (Messages.answerNumber (r .answer))
-    (Messages.answerRow (r .answer) ∷ Messages.answerRecords (r .answer) ∷ take (record-words * Messages.answerRecords (r .answer)) (r .words))
+    (Messages.answerRow (r .answer) ∷ Messages.answerRecords (r .answer) ∷ Messages.answerPlace (r .answer) ∷ take (record-words * Messages.answerRecords (r .answer)) (r .words))
 
 -- over a schema, its table and the words lent for records
 module _ (S T : List ℕ) (room : ℕ) where
@@ -49,10 +49,10 @@ module _ (S T : List ℕ) (room : ℕ) where
   unfoldable pub treeLines : List ℕ → List ℕ → List ℕ
   treeLines m ws = linesFrom S T m ws (room / record-words) 0 []
 
-  -- a line of numbers; or the answer in words, then a line for each record counted
+  -- a line of numbers; or the answer in words, with the text around the place of a refusal, then a line for each record counted
   abbrev pub resultText : Style → List ℕ → MessageResult → List ℕ
   resultText Numbers m r = resultLine r
-  resultText Tree m r = messageHead S T (r .answer) ++ treeLines m (take (record-words * Messages.answerRecords (r .answer)) (r .words))
+  resultText Tree m r = messageHead S T m (r .answer) ++ treeLines m (take (record-words * Messages.answerRecords (r .answer)) (r .words))
 
   -- what is answered to a message
   unfoldable pub answerText : Style → List ℕ → List ℕ
@@ -78,12 +78,12 @@ module _ (s : Style) where
   -- what stands first: the schema's line, where there is a file
   abbrev pub firstLine : Option (List ℕ) → List ℕ
   firstLine none = no-schema
-  firstLine (some S) = schemaText s (schemaResult S table-room .answer)
+  firstLine (some S) = schemaText s S (schemaResult S table-room .answer)
 
   -- a program stops after a refused schema, and answers messages by the rows counted of an accepted one
   abbrev pub messageLines : List ℕ → List ℕ → SchemaAnswer → List ℕ → List ℕ
   messageLines S words (Accepted n) input = answersTo s S (take (row-words * n) words) record-room [] input
-  messageLines S words (Refused x) input = []
+  messageLines S words (Refused x p) input = []
 
   abbrev pub laterLines : Option (List ℕ) → List ℕ → List ℕ
   laterLines none input = []

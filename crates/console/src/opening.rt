@@ -7,12 +7,13 @@ use rules::ROW_WORDS;
 use rules::SchemaAnswer;
 use schema::compile::compile_schema;
 use trees::shown::put_bytes;
-ghost use Prim.Native.Nat.{_≤_};
+ghost use Prim.Native.Nat.{_+_, _≤_};
 ghost use mathlib.Core.Path.{_≡_};
 ghost use mathlib.Core.Option.{some};
 ghost use lib.ListN.{length};
+ghost use Rattle.grammar.specs.Limits.{schema-bytes};
 ghost use Rattle.lines.specs.Serving.Puts.{Puts};
-ghost use Rattle.wordings.specs.Serving.Rooms.{refusal-room};
+ghost use Rattle.wordings.specs.Serving.Rooms.{schema-head-room};
 ghost use Rattle.console.specs.Program.{table-room, no-schema};
 ghost use Rattle.console.specs.Serving.Beginning.{Within, fileIn, Lent, nextAfter, Opens};
 
@@ -29,7 +30,7 @@ pub struct Opening {
 }
 
 fn put_no_schema(out: &mut [u8]) -> usize
-    requires { ⌜ refusal-room ≤ length (now out) ⌝ }
+    requires { ⌜ schema-head-room ≤ length (now out) ⌝ }
     ensures { λ r. ⌜ Puts no-schema 0 (now (out .entry)) (now (out .exit)) r ⌝ }
 {
     put_bytes(out, 0, b"no schema\n")
@@ -40,7 +41,7 @@ fn next_after(answer: SchemaAnswer, size: usize, lent: usize) -> Next
     ensures { λ r. ⌜ r ≡ nextAfter answer size lent ⌝ }
 {
     match answer {
-        SchemaAnswer::Refused(_x) => Next::Stop,
+        SchemaAnswer::Refused(_x, _p) => Next::Stop,
         SchemaAnswer::Accepted(count) => {
             let words = words_of(count, ROW_WORDS, lent);
             Next::Messages(size, words)
@@ -50,11 +51,11 @@ fn next_after(answer: SchemaAnswer, size: usize, lent: usize) -> Next
 
 // The schema, compiled into the rows, and its line.
 fn open_schema(style: Style, schema: &[u8], rows: &mut [u32], out: &mut [u8]) -> Opening
-    requires { ⌜ (length (now rows) ≡ table-room) × (refusal-room ≤ length (now out)) ⌝ }
+    requires { ⌜ (length (now rows) ≡ table-room) × (schema-head-room ≤ length (now out)) × (length (now schema) ≤ schema-bytes + 1) ⌝ }
     ensures { λ r. ⌜ Opens style (some (now (schema .entry))) (now (schema .entry)) (now (rows .exit)) (now (out .entry)) (now (out .exit)) r ⌝ }
 {
     let answer = compile_schema(schema, rows);
-    let at = put_schema_answer(style, answer, out);
+    let at = put_schema_answer(style, schema, answer, out);
     let next = next_after(answer, schema.len(), rows.len());
     Opening { at, next }
 }

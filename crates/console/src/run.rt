@@ -7,12 +7,12 @@ use crate::rooms::schema_room;
 use crate::rooms::table_room;
 use crate::turns::take_input;
 use libc::STDOUT_FILENO;
-use wordings::heads::REFUSAL_ROOM;
+use wordings::heads::SCHEMA_HEAD_ROOM;
 
 pub fn run(style: Style) {
     let mut schema = schema_room();
     let mut rows = table_room();
-    let mut line = [0u8; REFUSAL_ROOM];
+    let mut line = [0u8; SCHEMA_HEAD_ROOM];
     let read = read_all(b"schema.json", &mut schema);
     let opening = open_run(style, read, &schema, &mut rows, &mut line);
     let at = opening.at;

@@ -10,7 +10,7 @@ use lib.ListN.{length, set, length-append}
 use lib.Seq.{sets, set-comm, length-sets}
 use Rattle.grammar.specs.Limits.{row-words}
 use Rattle.words.specs.Items.{putItem}
-use Rattle.words.proofs.WordLaws.{four-fits}
+use Rattle.words.proofs.WordLaws.{item-written}
 use Rattle.definitions.specs.declared.writing.Put.{Put}
 use Rattle.definitions.specs.declared.writing.Put.the-variants.{Rows, Refused}
 use Rattle.definitions.specs.Written.{RowPut, RowsAre, RowsTold, Few, PutsRows}
@@ -67,9 +67,9 @@ put-halves old {mid} {new} {n} {a} {b} {c} {d} {e} {f} {g} {h} fits p q =
     let ys : List ℕ = e ∷ f ∷ g ∷ h ∷ [] in
     let first : 4 * (2 * n) ≡ row-words * n = omega arith in
     let second : 4 * (2 * n + 1) ≡ row-words * n + 4 = omega arith in
-    let one : mid ≡ sets old (row-words * n) xs = p ∙ four-fits old xs (omega arith) ∙ ap (λ (i : ℕ). sets old i xs) first in
+    let one : mid ≡ sets old (row-words * n) xs = p ∙ item-written 4 old xs (omega arith) (omega arith) ∙ ap (λ (i : ℕ). sets old i xs) first in
     let same : length mid ≡ length old = ap length one ∙ length-sets old (row-words * n) xs in
-    let two : new ≡ sets mid (row-words * n + 4) ys = q ∙ four-fits mid ys (omega arith) ∙ ap (λ (i : ℕ). sets mid i ys) second in
+    let two : new ≡ sets mid (row-words * n + 4) ys = q ∙ item-written 4 mid ys (omega arith) (omega arith) ∙ ap (λ (i : ℕ). sets mid i ys) second in
     record {
       same-length = ap length two ∙ length-sets mid (row-words * n + 4) ys ∙ same;
       words = λ _. two ∙ ap (λ (k : List ℕ). sets k (row-words * n + 4) ys) one ∙ sym (sets-append xs ys old (row-words * n));

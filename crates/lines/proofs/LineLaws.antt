@@ -8,7 +8,7 @@ use lib.ListN.{length, take, drop, getD, set, take-append-drop, length-take, dro
 use lib.Seq.{take-suc, take-length, drop-cons}
 use borrow.Author.Tests.{eq-eqb, ne-eqb}
 use Rattle.lines.specs.Serving.Puts.{put}
-use Rattle.lines.specs.Serving.Lines.{beforeLF}
+use Rattle.lines.specs.Lines.{beforeLF}
 use Rattle.lines.proofs.TextLaws.{put-one, put-put, put-full}
 
 pub lf-here : (s : List ℕ) (i : ℕ) → i < length s → getD s i 0 ≡ 10 → beforeLF (drop i s) ≡ 0

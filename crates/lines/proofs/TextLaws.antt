@@ -10,7 +10,7 @@ use lib.Dec.{ltb}
 use lib.ListN.{length, take, getD, set, length-append, length-set}
 use lib.Seq.{take-suc, take-length}
 use borrow.Author.Tests.{ltb-true, ltb-false, lt-ltb, le-ltb}
-use Rattle.lines.specs.Text.{digitsIn, decimalText, spacedText, lineText}
+use Rattle.lines.specs.Text.{digitsIn, decimalText, spacedText, numbersText, lineText}
 use Rattle.lines.specs.Serving.Puts.{Puts, put, number-digits, word-digits}
 
 pub put-length : (at : ℕ) (t l : List ℕ) → length (put at t l) ≡ length l
@@ -145,10 +145,15 @@ puts-word ws i h a b =
 pub puts-words : (ws : List ℕ) (i : ℕ) {at r : ℕ} {old new : List ℕ} → i ≡ length ws → Puts (spacedText (take i ws)) at old new r → Puts (spacedText ws) at old new r
 puts-words ws i e a = puts-as (ap spacedText (ap (λ (n : ℕ). take n ws) e ∙ take-length ws)) a
 
-pub puts-line : (a : ℕ) (ns : List ℕ) {at p q r : ℕ} {old mid end new : List ℕ} → Puts (decimalText a) at old mid p → Puts (spacedText ns) p mid end q → Puts (10 ∷ []) q end new r
-    → Puts (lineText a ns) at old new r
-unfolding lineText
-puts-line a ns x y z = puts-on x (puts-on y z)
+-- numbers one after another, and the end of their line
+pub puts-first : (a : ℕ) {at r : ℕ} {old new : List ℕ} → Puts (decimalText a) at old new r → Puts (numbersText a []) at old new r
+unfolding numbersText spacedText
+puts-first a x = puts-as (sym (append-nil (decimalText a))) x
 
-pub puts-more : (xs ys : List ℕ) {at p r : ℕ} {old mid new : List ℕ} → Puts (spacedText xs) at old mid p → Puts (spacedText ys) p mid new r → Puts (spacedText (xs ++ ys)) at old new r
-puts-more xs ys x y = puts-as (sym (spaced-append xs ys)) (puts-on x y)
+pub puts-more : (a : ℕ) (xs ys : List ℕ) {at p r : ℕ} {old mid new : List ℕ} → Puts (numbersText a xs) at old mid p → Puts (spacedText ys) p mid new r → Puts (numbersText a (xs ++ ys)) at old new r
+unfolding numbersText
+puts-more a xs ys x y = puts-as (append-assoc (decimalText a) (spacedText xs) (spacedText ys) ∙ ap (λ (l : List ℕ). decimalText a ++ l) (sym (spaced-append xs ys))) (puts-on x y)
+
+pub puts-line : (a : ℕ) (ns : List ℕ) {at p r : ℕ} {old mid new : List ℕ} → Puts (numbersText a ns) at old mid p → Puts (10 ∷ []) p mid new r → Puts (lineText a ns) at old new r
+unfolding lineText
+puts-line a ns x y = puts-on x y

@@ -1,3 +1,3 @@
--- Serves contracts: text put into a room, and the lines of a text. Nobody has to believe these.
+-- Serves contracts: text put into a room, and where a line ends. Nobody has to believe these.
 pub mod Puts
 pub mod Lines

@@ -18,6 +18,9 @@ unfoldable pub spacedText : List ℕ → List ℕ
 spacedText [] = []
 spacedText (n ∷ ns) = code " " ∷ (decimalText n ++ spacedText ns)
 
--- a line of numbers
+-- numbers with a space between each two, and a line of them
+unfoldable pub numbersText : ℕ → List ℕ → List ℕ
+numbersText n ns = decimalText n ++ spacedText ns
+
 unfoldable pub lineText : ℕ → List ℕ → List ℕ
-lineText n ns = decimalText n ++ (spacedText ns ++ (code "\n" ∷ []))
+lineText n ns = numbersText n ns ++ (code "\n" ∷ [])

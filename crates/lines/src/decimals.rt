@@ -1,8 +1,8 @@
 // Numbers as decimal text, put into lent bytes from a place on.
-ghost use Prim.Native.Nat.{_+_, _*_, _≤_};
+ghost use Prim.Native.Nat.{_+_, _*_, _≤_, _<_};
 ghost use mathlib.Core.List.{[], _∷_};
 ghost use lib.ListN.{length};
-ghost use Rattle.lines.specs.Text.{decimalText, spacedText, lineText};
+ghost use Rattle.lines.specs.Text.{decimalText, spacedText, numbersText, lineText};
 ghost use Rattle.lines.specs.Serving.Puts.{Puts, number-room, word-room};
 
 // Room for a machine number of at most 20 digits, and for a word of at most 10, with a byte before or after each.
@@ -56,24 +56,41 @@ fn end_line(out: &mut [u8], at: usize) -> usize
     at + 1
 }
 
-// A line of two numbers.
-pub fn put_pair(out: &mut [u8], at: usize, a: usize, b: usize) -> usize
-    requires { ⌜ at + 2 * number-room ≤ length (now out) ⌝ }
-    ensures { λ r. ⌜ Puts (lineText a (b ∷ [])) at (now (out .entry)) (now (out .exit)) r ⌝ }
+// Three numbers, with room left for a byte after them.
+fn put_three(out: &mut [u8], at: usize, a: usize, b: usize, c: usize) -> usize
+    requires { ⌜ at + 3 * number-room ≤ length (now out) ⌝ }
+    ensures { λ r. ⌜ Puts (numbersText a (b ∷ c ∷ [])) at (now (out .entry)) (now (out .exit)) r ⌝ }
+    ensures { λ r. ⌜ r < at + 3 * number-room ⌝ }
 {
     let p = put_number(out, at, a);
     let q = put_spaced(out, p, b);
-    end_line(out, q)
+    put_spaced(out, q, c)
 }
 
-// A line of three numbers and words.
-pub fn put_line(out: &mut [u8], at: usize, a: usize, b: usize, c: usize, words: &[u32]) -> usize
-    requires { ⌜ at + 3 * number-room + word-room * length (now words) ≤ length (now out) ⌝ }
-    ensures { λ r. ⌜ Puts (lineText a (b ∷ c ∷ now (words .entry))) at (now (out .entry)) (now (out .exit)) r ⌝ }
+// A line of three numbers.
+pub fn put_triple(out: &mut [u8], at: usize, a: usize, b: usize, c: usize) -> usize
+    requires { ⌜ at + 3 * number-room ≤ length (now out) ⌝ }
+    ensures { λ r. ⌜ Puts (lineText a (b ∷ c ∷ [])) at (now (out .entry)) (now (out .exit)) r ⌝ }
 {
-    let p = put_number(out, at, a);
-    let q = put_spaced(out, p, b);
-    let s = put_spaced(out, q, c);
-    let e = put_words(out, s, words);
+    let p = put_three(out, at, a, b, c);
+    end_line(out, p)
+}
+
+// A line of four numbers and words.
+pub fn put_line(
+    out: &mut [u8],
+    at: usize,
+    a: usize,
+    b: usize,
+    c: usize,
+    d: usize,
+    words: &[u32],
+) -> usize
+    requires { ⌜ at + 4 * number-room + word-room * length (now words) ≤ length (now out) ⌝ }
+    ensures { λ r. ⌜ Puts (lineText a (b ∷ c ∷ d ∷ now (words .entry))) at (now (out .entry)) (now (out .exit)) r ⌝ }
+{
+    let p = put_three(out, at, a, b, c);
+    let q = put_spaced(out, p, d);
+    let e = put_words(out, q, words);
     end_line(out, e)
 }

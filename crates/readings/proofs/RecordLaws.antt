@@ -31,19 +31,20 @@ put-length w xs n = go (leb (record-words * n + record-words) (length w))
     go true = length-sets w (record-words * n) xs
     go false = refl
 
+-- a value starts and ends where its node says
+pub node-start : (m w : List ℕ) (j : Json) (l k : ℕ) → Holds message m w j l k → nodeStart w k ≡ startOf j
+node-start m w (leaf a e v) l k h = h .0 .has-start
+node-start m w (arr a e js) l k h = h .0 .has-start
+node-start m w (obj a e fs) l k h = h .0 .has-start
+
+node-end : (m w : List ℕ) (j : Json) (l k : ℕ) → Holds message m w j l k → nodeEnd w k ≡ endOf j
+node-end m w (leaf a e v) l k h = h .0 .has-end
+node-end m w (arr a e js) l k h = h .0 .has-end
+node-end m w (obj a e fs) l k h = h .0 .has-end
+
 pub node-record : (m w old : List ℕ) (j : Json) (l k t f n : ℕ) → Holds message m w j l k
     → putRecord old n (nodeStart w k ∷ nodeEnd w k ∷ t ∷ f ∷ []) ≡ putRecord old n (recordOf (typed j t f))
-node-record m w old j l k t f n h = ap₂ (λ (s e : ℕ). putRecord old n (s ∷ e ∷ t ∷ f ∷ [])) (starts j h) (ends j h)
-  where
-    starts : (j : Json) → Holds message m w j l k → nodeStart w k ≡ startOf j
-    starts (leaf a e v) h = h .0 .has-start
-    starts (arr a e js) h = h .0 .has-start
-    starts (obj a e fs) h = h .0 .has-start
-
-    ends : (j : Json) → Holds message m w j l k → nodeEnd w k ≡ endOf j
-    ends (leaf a e v) h = h .0 .has-end
-    ends (arr a e js) h = h .0 .has-end
-    ends (obj a e fs) h = h .0 .has-end
+node-record m w old j l k t f n h = ap₂ (λ (s e : ℕ). putRecord old n (s ∷ e ∷ t ∷ f ∷ [])) (node-start m w j l k h) (node-end m w j l k h)
 
 -- many
 pub all-length : (w : List ℕ) (n : ℕ) (ts : List Typed) → length (putAll w n ts) ≡ length w

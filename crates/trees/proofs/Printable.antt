@@ -65,7 +65,7 @@ byte-clean : (b : ℕ) → all clean (shownByte b) ≡ true
 unfolding shownByte
 byte-clean b = by-printable b (printable b) refl
 
-bytes-clean : (l : List ℕ) → all clean (shownBytes l) ≡ true
+pub bytes-clean : (l : List ℕ) → all clean (shownBytes l) ≡ true
 unfolding shownBytes
 bytes-clean [] = refl
 bytes-clean (b ∷ l) = joined (shownByte b) (shownBytes l) (byte-clean b) (bytes-clean l)
@@ -120,7 +120,7 @@ value-clean : (v : List ℕ) → all clean (valueShown v) ≡ true
 value-clean [] = refl
 value-clean (b ∷ v) = shown-clean (b ∷ v)
 
-spaces-clean : (n : ℕ) → all clean (replicate n 32) ≡ true
+pub spaces-clean : (n : ℕ) → all clean (replicate n 32) ≡ true
 spaces-clean zero = refl
 spaces-clean (suc n) = spaces-clean n
 

@@ -48,12 +48,12 @@ pub in-range : (b : ℕ) → 32 ≤ b → b ≤ 126 → b ∷ [] ≡ shownByte b
 unfolding shownByte
 in-range b h k = ap (by-range b) (sym (ap (λ (t : Bool). t && leb b 126) (le-leb 32 b h) ∙ le-leb b 126 k))
 
-shown-append : (xs ys : List ℕ) → shownBytes (xs ++ ys) ≡ shownBytes xs ++ shownBytes ys
+pub shown-append : (xs ys : List ℕ) → shownBytes (xs ++ ys) ≡ shownBytes xs ++ shownBytes ys
 unfolding shownBytes
 shown-append [] ys = refl
 shown-append (b ∷ xs) ys = ap (λ (l : List ℕ). shownByte b ++ l) (shown-append xs ys) ∙ sym (append-assoc (shownByte b) (shownBytes xs) (shownBytes ys))
 
-shown-one : (b : ℕ) → shownByte b ≡ shownBytes (b ∷ [])
+pub shown-one : (b : ℕ) → shownByte b ≡ shownBytes (b ∷ [])
 unfolding shownBytes
 shown-one b = sym (append-nil (shownByte b))
 

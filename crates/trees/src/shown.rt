@@ -53,7 +53,8 @@ fn put_byte(out: &mut [u8], at: usize, b: u8) -> usize
     at + 1
 }
 
-fn put_each(out: &mut [u8], at: usize, bytes: &[u8]) -> usize
+// Each byte as a terminal may have it.
+pub fn put_each(out: &mut [u8], at: usize, bytes: &[u8]) -> usize
     requires { ⌜ at + escape-bytes * length (now bytes) ≤ length (now out) ⌝ }
     ensures { λ r. ⌜ Puts (shownBytes (now (bytes .entry))) at (now (out .entry)) (now (out .exit)) r ⌝ }
     ensures { λ r. ⌜ r ≤ at + escape-bytes * length (now (bytes .entry)) ⌝ }

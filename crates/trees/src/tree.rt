@@ -46,7 +46,8 @@ struct Typed {
     array: u32,
 }
 
-fn put_spaces(out: &mut [u8], at: usize, count: usize) -> usize
+// So many spaces.
+pub fn put_spaces(out: &mut [u8], at: usize, count: usize) -> usize
     requires { ⌜ at + count ≤ length (now out) ⌝ }
     ensures { λ r. ⌜ Puts (replicate count 32) at (now (out .entry)) (now (out .exit)) r ⌝ }
 {

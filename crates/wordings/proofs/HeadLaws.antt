@@ -1,7 +1,8 @@
--- The first line of what is shown, put piece by piece.
-use Prim.Native.Nat.{ℕ, suc, _≤_, _<_}
+-- What is shown of an answer, put piece by piece.
+use Prim.Native.Nat.{ℕ, suc, _≤_, _<_, min}
 use mathlib.Core.Path.{_≡_, refl, sym, ap, _∙_}
-use mathlib.Core.List.{List, [], _∷_}
+use mathlib.Core.Bool.{Bool, true, false}
+use mathlib.Core.List.{List, [], _∷_, _++_}
 use lib.ListN.{length, getD}
 use Rattle.grammar.specs.Notation.{text}
 use Rattle.grammar.specs.Serving.TextTable.{boundsFrom}
@@ -19,7 +20,8 @@ use Rattle.lines.specs.Text.{decimalText}
 use Rattle.lines.specs.Serving.Puts.{Puts}
 use Rattle.lines.proofs.TextLaws.{puts-as, puts-on, puts-none}
 use Rattle.trees.specs.Escapes.{shown}
-use Rattle.wordings.specs.Wordings.{meanings, meaningOf, refusedLine, rowsLine, commandLine, schemaHead, messageHead}
+use Rattle.wordings.specs.Excerpts.{excerpt, positionLine}
+use Rattle.wordings.specs.Wordings.{meanings, meaningOf, refusedLine, rowsLine, commandLine, schemaPoints, messagePoints, schemaPointer, messagePointer, schemaHead, messageHead}
 use Rattle.wordings.specs.Serving.Rooms.{longest-meaning}
 
 -- ---- a meaning in the table
@@ -37,11 +39,33 @@ pub puts-refused : (n : ℕ) {at p q e r : ℕ} {o₀ o₁ o₂ o₃ o₄ : List
 unfolding refusedLine
 puts-refused n a b c d = puts-on a (puts-on b (puts-on c d))
 
-pub schema-refused : {a : SchemaAnswer} {x : SchemaRefusal} {n at r : ℕ} {old new : List ℕ} → n ≡ Schemas.answerNumber a → a ≡ SA.Refused x → Puts (refusedLine n) at old new r → Puts (schemaHead a) at old new r
-schema-refused e f p = puts-as (ap refusedLine (e ∙ ap Schemas.answerNumber f) ∙ ap schemaHead (sym f)) p
+-- a refusal and what is shown of its place
+module _ {x : SchemaRefusal} {place : ℕ} {points : Bool} where
+  pub schema-refused : (S : List ℕ) {a : SchemaAnswer} {n at p r : ℕ} {old mid new : List ℕ} → n ≡ Schemas.answerNumber a → a ≡ SA.Refused x place → points ≡ schemaPoints x
+      → Puts (refusedLine n) at old mid p → Puts (schemaPointer S place points) p mid new r → Puts (schemaHead S a) at old new r
+  schema-refused S e f g u v =
+      puts-as (ap (schemaHead S) (sym f)) (puts-on (puts-as (ap refusedLine (e ∙ ap Schemas.answerNumber f)) u) (puts-as (ap (schemaPointer S place) g) v))
 
-pub message-refused : (S T : List ℕ) {a : MessageAnswer} {x : MessageRefusal} {n at r : ℕ} {old new : List ℕ} → n ≡ Messages.answerNumber a → a ≡ MA.Refused x → Puts (refusedLine n) at old new r → Puts (messageHead S T a) at old new r
-message-refused S T e f p = puts-as (ap refusedLine (e ∙ ap Messages.answerNumber f) ∙ ap (messageHead S T) (sym f)) p
+module _ {x : MessageRefusal} {place : ℕ} {points : Bool} where
+  pub message-refused : (S T m : List ℕ) {a : MessageAnswer} {n at p r : ℕ} {old mid new : List ℕ} → n ≡ Messages.answerNumber a → a ≡ MA.Refused x place → points ≡ messagePoints x place
+      → Puts (refusedLine n) at old mid p → Puts (messagePointer m place points) p mid new r → Puts (messageHead S T m a) at old new r
+  message-refused S T m e f g u v =
+      puts-as (ap (messageHead S T m) (sym f)) (puts-on (puts-as (ap refusedLine (e ∙ ap Messages.answerNumber f)) u) (puts-as (ap (messagePointer m place) g) v))
+
+-- what is shown of a place in a text, or nothing
+pub unpointed : (S : List ℕ) (place : ℕ) {points : Bool} {at : ℕ} {out : List ℕ} → points ≡ false → at ≤ length out → Puts (schemaPointer S place points) at out out at
+unpointed S place e h = puts-as (ap (schemaPointer S place) (sym e)) (puts-none h)
+
+pub pointed : (S : List ℕ) (place : ℕ) {points : Bool} {i at p r : ℕ} {old mid new : List ℕ} → points ≡ true → i ≡ min place (length S) → Puts (positionLine S i) at old mid p
+    → Puts (excerpt S i) p mid new r → Puts (schemaPointer S place points) at old new r
+pointed S place e f u v = puts-as (ap (λ (k : ℕ). positionLine S k ++ excerpt S k) f ∙ ap (schemaPointer S place) (sym e)) (puts-on u v)
+
+pub message-unpointed : (m : List ℕ) (place : ℕ) {points : Bool} {at : ℕ} {out : List ℕ} → points ≡ false → at ≤ length out → Puts (messagePointer m place points) at out out at
+message-unpointed m place e h = puts-as (ap (messagePointer m place) (sym e)) (puts-none h)
+
+pub message-pointed : (m : List ℕ) (place : ℕ) {points : Bool} {i at r : ℕ} {old new : List ℕ} → points ≡ true → i ≡ min place (length m) → Puts (excerpt m i) at old new r
+    → Puts (messagePointer m place points) at old new r
+message-pointed m place e f u = puts-as (ap (excerpt m) f ∙ ap (messagePointer m place) (sym e)) u
 
 pub puts-rows : (n : ℕ) {at p q r : ℕ} {old mid end new : List ℕ} → Puts (text "0 schema accepted, rows: ") at old mid p → Puts (decimalText n) p mid end q → Puts (10 ∷ []) q end new r → Puts (rowsLine n) at old new r
 unfolding rowsLine

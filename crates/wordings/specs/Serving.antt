@@ -1,2 +1,2 @@
--- Serves contracts: the room that a first line takes. Nobody has to believe it.
+-- Serves contracts: the room that what is shown of an answer takes. Nobody has to believe it.
 pub mod Rooms

@@ -1,21 +1,32 @@
-// The first line of what is shown: an answer in words.
+// What is shown of an answer: its number in words, and the text around the place of a refusal.
+use crate::excerpts::EXCERPT_ROOM;
+use crate::excerpts::put_excerpt;
+use crate::positions::POSITION_ROOM;
+use crate::positions::put_position;
 use lines::decimals::NUMBER_ROOM;
 use lines::decimals::put_number;
 use numbers::message_number;
 use numbers::schema_number;
 use rows::names::name_of;
 use rules::MessageAnswer;
+use rules::MessageRefusal;
 use rules::SchemaAnswer;
+use rules::SchemaRefusal;
 use trees::shown::put_bytes;
 use trees::shown::put_shown;
-ghost use Prim.Native.Nat.{_+_, _-_, _≤_};
+use walker::records::least;
+ghost use mathlib.Core.Path.{_≡_};
+ghost use Prim.Native.Nat.{_+_, _-_, _≤_, _<_, _^_};
 ghost use lib.ListN.{length, take, drop};
 ghost use Rattle.lines.specs.Serving.Puts.{Puts};
-ghost use Rattle.wordings.specs.Wordings.{meaningOf, refusedLine, rowsLine, commandLine, schemaHead, messageHead};
-ghost use Rattle.wordings.specs.Serving.Rooms.{longest-meaning, refusal-room, command-room};
+ghost use Rattle.wordings.specs.Wordings.{meaningOf, refusedLine, rowsLine, commandLine, schemaPoints, messagePoints, schemaPointer, messagePointer, schemaHead, messageHead};
+ghost use Rattle.wordings.specs.Serving.Rooms.{longest-meaning, refusal-room, command-room, excerpt-room, position-room, schema-head-room, message-head-room};
 
 // Room for a refusal: its number, its meaning of at most 71 bytes, and LF.
-pub const REFUSAL_ROOM: usize = NUMBER_ROOM + 71 + 1;
+const REFUSAL_ROOM: usize = NUMBER_ROOM + 71 + 1;
+
+// Room for all that is shown of a schema's answer.
+pub const SCHEMA_HEAD_ROOM: usize = REFUSAL_ROOM + POSITION_ROOM + EXCERPT_ROOM;
 
 // The numbers of answers are 0 to 30.
 const NUMBERS: usize = 31;
@@ -79,6 +90,7 @@ fn put_meaning(n: usize, out: &mut [u8], at: usize) -> usize
 fn put_refusal(n: usize, out: &mut [u8], at: usize) -> usize
     requires { ⌜ at + refusal-room ≤ length (now out) ⌝ }
     ensures { λ r. ⌜ Puts (refusedLine n) at (now (out .entry)) (now (out .exit)) r ⌝ }
+    ensures { λ r. ⌜ r ≤ at + refusal-room ⌝ }
 {
     let p = put_number(out, at, n);
     let q = put_bytes(out, p, b" ");
@@ -95,14 +107,50 @@ fn put_rows(rows: usize, out: &mut [u8], at: usize) -> usize
     put_bytes(out, q, b"\n")
 }
 
-pub fn put_schema_head(answer: SchemaAnswer, out: &mut [u8], at: usize) -> usize
-    requires { ⌜ at + refusal-room ≤ length (now out) ⌝ }
-    ensures { λ r. ⌜ Puts (schemaHead answer) at (now (out .entry)) (now (out .exit)) r ⌝ }
+// Whether the place of a schema's refusal is shown.
+fn schema_points(x: SchemaRefusal) -> bool
+    ensures { λ r. ⌜ r ≡ schemaPoints x ⌝ }
+{
+    match x {
+        SchemaRefusal::TooLong => false,
+        SchemaRefusal::NotText => true,
+        SchemaRefusal::RepeatedKey => true,
+        SchemaRefusal::NotDefinitions => false,
+        SchemaRefusal::BadName => false,
+        SchemaRefusal::RepeatedName => false,
+        SchemaRefusal::UnknownName => false,
+        SchemaRefusal::BadChain => false,
+        SchemaRefusal::BadUnion => false,
+        SchemaRefusal::BadAlternate => false,
+        SchemaRefusal::BadReturn => false,
+        SchemaRefusal::TooManyRows => false,
+        SchemaRefusal::NoRoom => false,
+    }
+}
+
+fn put_schema_pointer(schema: &[u8], place: usize, points: bool, out: &mut [u8], at: usize) -> usize
+    requires { ⌜ (length (now schema) < 2 ^ 32) × (at + position-room + excerpt-room ≤ length (now out)) ⌝ }
+    ensures { λ r. ⌜ Puts (schemaPointer (now (schema .entry)) place points) at (now (out .entry)) (now (out .exit)) r ⌝ }
+{
+    if !points {
+        return at;
+    }
+    let p = least(place, schema.len());
+    let q = put_position(schema, p, out, at);
+    put_excerpt(schema, p, out, q)
+}
+
+pub fn put_schema_head(schema: &[u8], answer: SchemaAnswer, out: &mut [u8], at: usize) -> usize
+    requires { ⌜ (length (now schema) < 2 ^ 32) × (at + schema-head-room ≤ length (now out)) ⌝ }
+    ensures { λ r. ⌜ Puts (schemaHead (now (schema .entry)) answer) at (now (out .entry)) (now (out .exit)) r ⌝ }
 {
     let n = schema_number(answer);
     match answer {
         SchemaAnswer::Accepted(rows) => put_rows(rows, out, at),
-        SchemaAnswer::Refused(_x) => put_refusal(n as usize, out, at),
+        SchemaAnswer::Refused(x, place) => {
+            let p = put_refusal(n as usize, out, at);
+            put_schema_pointer(schema, place, schema_points(x), out, p)
+        }
     }
 }
 
@@ -115,19 +163,57 @@ fn put_command(schema: &[u8], table: &[u32], row: usize, out: &mut [u8], at: usi
     put_bytes(out, q, b"\n")
 }
 
+// Whether the place of a message's refusal is shown. That of absent arguments is 0, and nothing stands there.
+fn message_points(x: MessageRefusal, place: usize) -> bool
+    ensures { λ r. ⌜ r ≡ messagePoints x place ⌝ }
+{
+    match x {
+        MessageRefusal::UnsoundTable => false,
+        MessageRefusal::TooLong => false,
+        MessageRefusal::NotText => true,
+        MessageRefusal::TooDeep => true,
+        MessageRefusal::RepeatedKey => true,
+        MessageRefusal::NotEnvelope => false,
+        MessageRefusal::UnknownCommand => false,
+        MessageRefusal::NotOutOfBand => false,
+        MessageRefusal::NoReading => 0 < place,
+        MessageRefusal::NoRoom => 0 < place,
+    }
+}
+
+fn put_message_pointer(
+    message: &[u8],
+    place: usize,
+    points: bool,
+    out: &mut [u8],
+    at: usize,
+) -> usize
+    requires { ⌜ at + excerpt-room ≤ length (now out) ⌝ }
+    ensures { λ r. ⌜ Puts (messagePointer (now (message .entry)) place points) at (now (out .entry)) (now (out .exit)) r ⌝ }
+{
+    if !points {
+        return at;
+    }
+    put_excerpt(message, least(place, message.len()), out, at)
+}
+
 pub fn put_message_head(
     schema: &[u8],
     table: &[u32],
+    message: &[u8],
     answer: MessageAnswer,
     out: &mut [u8],
     at: usize,
 ) -> usize
-    requires { ⌜ at + command-room ≤ length (now out) ⌝ }
-    ensures { λ r. ⌜ Puts (messageHead (now (schema .entry)) (now (table .entry)) answer) at (now (out .entry)) (now (out .exit)) r ⌝ }
+    requires { ⌜ at + message-head-room ≤ length (now out) ⌝ }
+    ensures { λ r. ⌜ Puts (messageHead (now (schema .entry)) (now (table .entry)) (now (message .entry)) answer) at (now (out .entry)) (now (out .exit)) r ⌝ }
 {
     let n = message_number(answer);
     match answer {
         MessageAnswer::Accepted(row, _count) => put_command(schema, table, row, out, at),
-        MessageAnswer::Refused(_x) => put_refusal(n as usize, out, at),
+        MessageAnswer::Refused(x, place) => {
+            let p = put_refusal(n as usize, out, at);
+            put_message_pointer(message, place, message_points(x, place), out, p)
+        }
     }
 }

@@ -1,2 +1,4 @@
-// Answers in words: the first line of what a person is shown.
+// Answers in words, and the text around the place of a refusal.
+pub mod excerpts;
 pub mod heads;
+pub mod positions;

@@ -9,7 +9,7 @@ use Rattle.rules.specs.declared.SchemaAnswer.{SchemaAnswer}
 use Rattle.rules.specs.declared.SchemaAnswer.the-variants.{Accepted, Refused}
 use Rattle.rules.specs.Serving.Answers.{schemaResult}
 use Rattle.lines.specs.Serving.Puts.{Puts}
-use Rattle.wordings.specs.Serving.Rooms.{refusal-room}
+use Rattle.wordings.specs.Serving.Rooms.{schema-head-room}
 use Rattle.console.specs.declared.answers.Style.{Style}
 use Rattle.console.specs.declared.files.Read.{Read}
 use Rattle.console.specs.declared.files.Read.the-variants.{Bytes, Failed}
@@ -37,12 +37,12 @@ cutFile (some S) = some (take (schema-bytes + 1) S)
 pub record Lent (schema rows out : List ℕ) : Type 0 where
   pub bytes : length schema ≡ schema-bytes + 1
   pub words : length rows ≡ table-room
-  pub wide : refusal-room ≤ length out
+  pub wide : schema-head-room ≤ length out
 
 -- messages follow an accepted schema alone, by the rows counted of so many words lent
 abbrev pub nextAfter : SchemaAnswer → ℕ → ℕ → Next
 nextAfter (Accepted n) size lent = Messages size (min (row-words * n) lent)
-nextAfter (Refused x) size lent = Stop
+nextAfter (Refused x p) size lent = Stop
 
 -- the schema is accepted, and these words are its rows
 pub record TableOf (S T : List ℕ) : Type 0 where

@@ -3,7 +3,7 @@ use Prim.Native.Nat.{ℕ, _+_, _≤_}
 use mathlib.Core.Path.{_≡_}
 use mathlib.Core.List.{List, _++_}
 use lib.ListN.{length, take, drop}
-use Rattle.lines.specs.Serving.Lines.{beforeLF}
+use Rattle.lines.specs.Lines.{beforeLF}
 use Rattle.console.specs.declared.joins.Joined.{Joined}
 use Rattle.console.specs.declared.joins.Joined.the-variants.{Line, More}
 

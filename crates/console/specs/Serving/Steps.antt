@@ -4,7 +4,7 @@ use mathlib.Core.Path.{_≡_}
 use mathlib.Core.List.{List, _++_}
 use lib.ListN.{length, take, drop}
 use Rattle.grammar.specs.Limits.{message-bytes}
-use Rattle.lines.specs.Serving.Lines.{beforeLF}
+use Rattle.lines.specs.Lines.{beforeLF}
 use Rattle.lines.specs.Serving.Puts.{Puts, number-room, word-room}
 use Rattle.console.specs.declared.answers.Style.{Style}
 use Rattle.console.specs.declared.steps.Place.{Place}
@@ -15,9 +15,9 @@ use Rattle.console.specs.declared.turns.Wrote.{Wrote}
 use Rattle.console.specs.declared.turns.Wrote.the-variants as Wrotes
 use Rattle.console.specs.Program.{record-room, treeLines, answerText, answersTo}
 
--- the longest line of numbers: three, and the words of all records lent
+-- the longest line of numbers: four, and the words of all records lent
 abbrev pub longest-line : ℕ
-longest-line = 3 * number-room + word-room * record-room
+longest-line = 4 * number-room + word-room * record-room
 
 -- what is lent for answers
 abbrev pub out-room : ℕ

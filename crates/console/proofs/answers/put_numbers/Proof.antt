@@ -1,4 +1,4 @@
--- `put_numbers` meets its contract: three numbers and the words of the records counted.
+-- `put_numbers` meets its contract: four numbers and the words of the records counted.
 use Rattle.console.proofs.AnswerLaws.{puts-numbers}
 use borrow.Author.Needs.{needs}
 use Rattle.console.proofs.answers.put_numbers.Statement.{statement}
@@ -19,6 +19,9 @@ cast-put-line c = search needs
 message-row-requires : tie.Need-message-row-requires
 message-row-requires c κs = search needs
 
+message-place-requires : tie.Need-message-place-requires
+message-place-requires c κs = search needs
+
 sub-put-line : tie.Need-sub-put-line
 sub-put-line c = search needs
 
@@ -35,7 +38,7 @@ same-length : tie.Need-same-length
 same-length c = search needs
 
 returns : tie.Need-returns
-returns c = puts-numbers (c .before .before .before .before .before .before .before .before .before .before .before .args .records .now) (c .before .before .before .before .before .before .before .before .before .before .before .args .answer) (c .before .before .before .before .before .message-number .ensures) (c .before .before .before .before .message-row .ensures) (c .before .before .before .before .before .before .before .before .message-records .ensures) (c .before .before .before .before .before .before .before .words-of .ensures .0) (c .before .before .put-line .ensures)
+returns c = puts-numbers (c .before .before .before .before .before .before .before .before .before .before .before .before .args .records .now) (c .before .before .before .before .before .before .before .before .before .before .before .before .args .answer) (c .before .before .before .before .before .before .message-number .ensures) (c .before .before .before .before .before .message-row .ensures) (c .before .before .before .before .before .before .before .before .before .message-records .ensures) (c .before .before .before .before .message-place .ensures) (c .before .before .before .before .before .before .before .before .words-of .ensures .0) (c .before .before .put-line .ensures)
 
 pub put-numbers-spec : {M : Type 1} → statement M
 put-numbers-spec =
@@ -46,6 +49,7 @@ put-numbers-spec =
     message-number-requires
     cast-put-line
     message-row-requires
+    message-place-requires
     sub-put-line
     part-put-line-start
     part-put-line-end

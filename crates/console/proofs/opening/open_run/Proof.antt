@@ -1,4 +1,6 @@
 -- `open_run` meets its contract: without a file nothing follows, and what was read of one is the schema.
+use native.Mathlib.Omega.{arith}
+use lib.ListN.{length-take, length-drop}
 use Rattle.console.proofs.BeginningLaws.{bytes-in, opens-none, opens-in}
 use borrow.Author.Needs.{needs}
 use Rattle.console.proofs.opening.open_run.Statement.{statement}
@@ -23,7 +25,7 @@ part-open-schema-end : tie.Need-part-open-schema-end
 part-open-schema-end c = bytes-in _ (c .before .read .given .1) (c .before .before .before .before .before .before .pre .0)
 
 open-schema-requires : tie.Need-open-schema-requires
-open-schema-requires c κs = search needs
+open-schema-requires c κs = (search needs, search needs, simp (length-take, length-drop) (omega (arith, c .before .before .before .before .before .before .before .before .before .pre .1 .bytes)))
 
 same-length : tie.Need-same-length
 same-length c = search needs

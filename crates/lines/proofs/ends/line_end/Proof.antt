@@ -4,7 +4,7 @@ use native.Mathlib.Omega.{arith}
 use mathlib.Core.Path.{_≡_, refl}
 use lib.ListN.{length, drop}
 use borrow.Author.Needs.{needs}
-use Rattle.lines.specs.Serving.Lines.{beforeLF}
+use Rattle.lines.specs.Lines.{beforeLF}
 use Rattle.lines.proofs.LineLaws.{lf-here, lf-on, lf-none}
 use Rattle.lines.proofs.ends.line_end.Statement.{statement}
 use Rattle.lines.proofs.ends.line_end.Tie as tie

@@ -29,7 +29,11 @@ same-length : tie.Need-same-length
 same-length c = search needs
 
 returns : tie.Need-returns
-returns c = puts-refused (c .before .before .before .before .before .before .before .before .before .before .before .before .before .before .before .before .before .before .before .args .n) (c .before .before .before .before .before .before .before .before .before .before .before .before .before .before .before .before .put-number .ensures) (c .before .before .before .before .before .before .before .before .before .before .before .put-bytes .ensures) (c .before .before .before .before .before .before .before .put-meaning .ensures .0) (c .before .before .put-bytes2 .ensures)
+returns c =
+    let h : c .before .before .before .before .before .before .before .before .before .before .before .before .before .before .before .before .before .before .before .args .n < 2 ^ 64 = search needs in (
+      puts-refused (c .before .before .before .before .before .before .before .before .before .before .before .before .before .before .before .before .before .before .before .args .n) (c .before .before .before .before .before .before .before .before .before .before .before .before .before .before .before .before .put-number .ensures) (c .before .before .before .before .before .before .before .before .before .before .before .put-bytes .ensures) (c .before .before .before .before .before .before .before .put-meaning .ensures .0) (c .before .before .put-bytes2 .ensures),
+      omega (arith, number-length (c .before .before .before .before .before .before .before .before .before .before .before .before .before .before .before .before .before .before .before .args .n) h, c .before .before .before .before .before .before .before .before .before .before .before .before .before .before .before .before .put-number .ensures .after, c .before .before .before .before .before .before .before .before .before .before .before .put-bytes .ensures .after, c .before .before .before .before .before .before .before .put-meaning .ensures .1, c .before .before .put-bytes2 .ensures .after),
+    )
 
 pub put-refusal-spec : {M : Type 1} → statement M
 put-refusal-spec =

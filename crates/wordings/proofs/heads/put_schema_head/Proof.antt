@@ -25,17 +25,23 @@ cast-put-refusal c = search needs
 put-refusal-requires : tie.Need-put-refusal-requires
 put-refusal-requires c κs = search needs
 
+schema-points-requires : tie.Need-schema-points-requires
+schema-points-requires c κs = search needs
+
+put-schema-pointer-requires : tie.Need-put-schema-pointer-requires
+put-schema-pointer-requires c κs = search needs
+
 same-length : tie.Need-same-length
 same-length c = search needs
 
 returns : tie.Need-returns
-returns c = puts-as (ap schemaHead (sym (c .before .before .before .before .before .answer .given .1))) (c .before .before .put-rows .ensures)
+returns c = puts-as (ap (schemaHead (c .before .before .before .before .before .before .before .before .before .before .args .schema .now)) (sym (c .before .before .before .before .before .answer .given .1))) (c .before .before .put-rows .ensures)
 
 same-length-2 : tie.Need-same-length-2
 same-length-2 c = search needs
 
 returns-2 : tie.Need-returns-2
-returns-2 c = schema-refused (c .before .before .before .before .before .before .before .schema-number .ensures) (c .before .before .before .before .before .answer2 .given .1) (c .before .before .put-refusal .ensures)
+returns-2 c = schema-refused (c .before .before .before .before .before .before .before .before .before .before .before .before .before .before .before .args .schema .now) (c .before .before .before .before .before .before .before .before .before .before .before .before .schema-number .ensures) (c .before .before .before .before .before .before .before .before .before .before .answer2 .given .1) (c .before .before .before .before .schema-points .ensures) (c .before .before .before .before .before .before .before .put-refusal .ensures .0) (c .before .before .put-schema-pointer .ensures)
 
 pub put-schema-head-spec : {M : Type 1} → statement M
 put-schema-head-spec =
@@ -47,6 +53,8 @@ put-schema-head-spec =
     enum-known-answer-2
     cast-put-refusal
     put-refusal-requires
+    schema-points-requires
+    put-schema-pointer-requires
     same-length
     returns
     same-length-2
