@@ -8,8 +8,8 @@
  *   - A slice is a pointer and a length, in bytes or in words of 32 bits. A pointer to words is aligned as a uint32_t,
  *     one to a state as a uint64_t. With a length of 0 nothing is read or written there, and the pointer may be NULL.
  *     No other pointer may be NULL.
- *   - What a call writes to (rows, records, counts, a state, a buffer) overlaps with nothing else that it is handed.
- *     What it reads may.
+ *   - What a call writes to (rows, records, counts, a place, a state, a buffer) overlaps with nothing else that it is
+ *     handed. What it reads may.
  *   - A call sets every word of rows and records lent to it, whatever it held before, so more room than needed costs
  *     time. Of a stream's buffer only bytes of the message that is being read are written.
  *
@@ -21,6 +21,12 @@
  *
  * Answers. A call gives 0 or the lowest number that applies, never another. A refusal leaves every word of rows and
  * records and every count of them 0.
+ *
+ * Places. The place of a refusal says where the text goes wrong, in bytes from its start. For 2, 23 and 24 it is the
+ * length of the longest start that some valid text within the levels has: the first byte that can't stand there, or
+ * the end of a text that stops short. For 3 and 25 it is the opening quote of the earliest key that repeats one before
+ * it in its object. For 29 and 30 it is the start of the arguments, 0 where they are absent. For every other number, 0
+ * included, it is 0, and for all that a stream hands out.
  */
 #ifndef WINDOSPRIO_H
 #define WINDOSPRIO_H
@@ -91,6 +97,7 @@ enum windosprio_message_refusal {
  *   schema, schema_bytes  the schema, read only
  *   rows, row_words       the words lent for rows, WINDOSPRIO_ROW_WORDS each; WINDOSPRIO_ROWS rows are never too few
  *   row_count             set to the number of rows, 0 where the schema is refused
+ *   place                 set to the place of a refusal in the schema
  *
  * Gives 0 or a windosprio_schema_refusal. The table of an accepted schema is the first
  * row_count * WINDOSPRIO_ROW_WORDS words; those after it are 0. Stack: WINDOSPRIO_COMPILE_STACK.
@@ -98,7 +105,7 @@ enum windosprio_message_refusal {
  * Proved of this call, whatever comes: CompileCall in crates/gateway/specs/Calls.antt.
  */
 uint32_t windosprio_compile_schema(const uint8_t *schema, size_t schema_bytes, uint32_t *rows, size_t row_words,
-                                   size_t *row_count);
+                                   size_t *row_count, size_t *place);
 
 /*
  * Reads a message against a table.
@@ -110,6 +117,7 @@ uint32_t windosprio_compile_schema(const uint8_t *schema, size_t schema_bytes, u
  *                           array. As many records as the message has bytes are never too few
  *   command_row             set to the row of the command, 0 where the message is refused
  *   record_count            set to the number of records, 0 where the message is refused
+ *   place                   set to the place of a refusal in the message
  *
  * Gives 0 or a windosprio_message_refusal. The words after the last record are 0. Stack: WINDOSPRIO_CHECK_STACK.
  *
@@ -117,7 +125,7 @@ uint32_t windosprio_compile_schema(const uint8_t *schema, size_t schema_bytes, u
  */
 uint32_t windosprio_check_message(const uint32_t *table, size_t table_words, const uint8_t *schema, size_t schema_bytes,
                                   const uint8_t *message, size_t message_bytes, uint32_t *records, size_t record_words,
-                                  size_t *command_row, size_t *record_count);
+                                  size_t *command_row, size_t *record_count, size_t *place);
 
 /*
  * Says whether words are a sound table beside schema bytes: the check call answers any other with 21.

@@ -1,8 +1,10 @@
 //! The calls as the library exports them: over slices that the caller lends, with the numbers of docs/REFERENCE.md.
 //!
 //! Any bytes and any words may be handed over. A call sets every word of rows and records lent to it. A refusal leaves
-//! them all zero, an acceptance those after the last row or record. No call keeps anything, so calls may run on several
-//! threads at once. How much stack they need is in [`limits`](crate::limits).
+//! them all zero, an acceptance those after the last row or record. A place is where a refused text goes wrong, in bytes
+//! from its start (docs/REFERENCE.md, Places); it is 0 for an acceptance and for a refusal that points nowhere. No call
+//! keeps anything, so calls may run on several threads at once. How much stack they need is in
+//! [`limits`](crate::limits).
 
 use crate::limits::STREAM_WORDS;
 
@@ -14,6 +16,7 @@ mod exports {
             rows: *mut u32,
             row_words: usize,
             row_count: *mut usize,
+            place: *mut usize,
         ) -> u32;
 
         pub fn windosprio_check_message(
@@ -27,6 +30,7 @@ mod exports {
             record_words: usize,
             command_row: *mut usize,
             record_count: *mut usize,
+            place: *mut usize,
         ) -> u32;
 
         pub fn windosprio_is_sound(
@@ -51,27 +55,34 @@ mod exports {
     }
 }
 
-/// What a count holds before a call sets it; no answer has it.
+/// What a count or a place holds before a call sets it; no answer has it.
 const UNSET: usize = usize::MAX;
 
 /// Compiles a schema into the rows lent, [`ROW_WORDS`](crate::limits::ROW_WORDS) words each; gives the number, 0 or 1
-/// to 13, and the count of rows.
-pub fn compile(schema: &[u8], rows: &mut [u32]) -> (u32, usize) {
-    let mut count = UNSET;
+/// to 13, the count of rows and the place of a refusal.
+pub fn compile(schema: &[u8], rows: &mut [u32]) -> (u32, usize, usize) {
+    let (mut count, mut place) = (UNSET, UNSET);
     // SAFETY: each pointer goes with the length of its slice, which lives and isn't used otherwise during the call.
     let number = unsafe {
-        exports::windosprio_compile_schema(schema.as_ptr(), schema.len(), rows.as_mut_ptr(), rows.len(), &mut count)
+        exports::windosprio_compile_schema(
+            schema.as_ptr(),
+            schema.len(),
+            rows.as_mut_ptr(),
+            rows.len(),
+            &mut count,
+            &mut place,
+        )
     };
-    (number, count)
+    (number, count, place)
 }
 
 /// Checks a message with a table and the schema it is of, into the records lent,
-/// [`RECORD_WORDS`](crate::limits::RECORD_WORDS) words each; gives the number, 0 or 21 to 30, the command's row and the
-/// count of records.
+/// [`RECORD_WORDS`](crate::limits::RECORD_WORDS) words each; gives the number, 0 or 21 to 30, the command's row, the
+/// count of records and the place of a refusal.
 ///
 /// The table is the rows that [`compile`] counted, not the whole room lent to it: a row of zeros isn't sound.
-pub fn check(table: &[u32], schema: &[u8], message: &[u8], records: &mut [u32]) -> (u32, usize, usize) {
-    let (mut row, mut count) = (UNSET, UNSET);
+pub fn check(table: &[u32], schema: &[u8], message: &[u8], records: &mut [u32]) -> (u32, usize, usize, usize) {
+    let (mut row, mut count, mut place) = (UNSET, UNSET, UNSET);
     // SAFETY: each pointer goes with the length of its slice, which lives and isn't used otherwise during the call.
     let number = unsafe {
         exports::windosprio_check_message(
@@ -85,9 +96,10 @@ pub fn check(table: &[u32], schema: &[u8], message: &[u8], records: &mut [u32]) 
             records.len(),
             &mut row,
             &mut count,
+            &mut place,
         )
     };
-    (number, row, count)
+    (number, row, count, place)
 }
 
 /// Whether words are a sound table beside schema bytes; [`check`] refuses any other with 21.

@@ -19,8 +19,9 @@
 //! assert_eq!(lot.type_name().to_string(), "str");
 //!
 //! let refusal = schema.check(br#"{"execute":"stop-lot","arguments":{"lot":7}}"#).unwrap_err();
-//! assert_eq!(refusal, MessageRefusal::NoReading);
-//! assert_eq!(refusal.to_string(), "29: the arguments have no reading by the command's types");
+//! assert_eq!(refusal.why(), MessageRefusal::NoReading);
+//! assert_eq!(refusal.place(), 34);
+//! assert_eq!(refusal.to_string(), "29 at byte 34: the arguments have no reading by the command's types");
 //! # Ok::<(), Box<dyn std::error::Error>>(())
 //! ```
 //!
@@ -104,7 +105,7 @@ mod stream;
 mod types;
 
 pub use reading::{Reading, Record, Room};
-pub use refusals::{MessageRefusal, SchemaRefusal};
+pub use refusals::{MessageRefusal, Refusal, Refused, SchemaRefusal};
 pub use schema::Schema;
 pub use stream::{Chunk, StreamReader};
 pub use types::{BuiltIn, Definition, Type};

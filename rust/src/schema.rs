@@ -6,7 +6,7 @@ use std::str;
 use crate::limits::{most_records, RECORD_WORDS, ROWS, ROW_WORDS};
 use crate::reading::{Reading, Room};
 use crate::types::{BuiltIn, Definition, Type};
-use crate::{calls, MessageRefusal, SchemaRefusal};
+use crate::{calls, MessageRefusal, Refused, SchemaRefusal};
 
 /// The words of one row.
 type Row = [u32; ROW_WORDS];
@@ -23,23 +23,23 @@ pub struct Schema {
 
 impl Schema {
     /// Compiles a schema. Needs [`COMPILE_STACK`](crate::limits::COMPILE_STACK) bytes of stack.
-    pub fn compile(bytes: impl Into<Vec<u8>>) -> Result<Self, SchemaRefusal> {
+    pub fn compile(bytes: impl Into<Vec<u8>>) -> Result<Self, Refused<SchemaRefusal>> {
         let bytes = bytes.into();
         let mut table = vec![0; ROWS * ROW_WORDS];
         match calls::compile(&bytes, &mut table) {
-            (0, count) => {
+            (0, count, _) => {
                 table.truncate(count * ROW_WORDS);
                 table.shrink_to_fit();
                 Ok(Schema { bytes, table })
             }
-            (number, _) => Err(SchemaRefusal::answered(number)),
+            (number, _, place) => Err(Refused::answered(number, place)),
         }
     }
 
     /// Checks a message. Needs [`CHECK_STACK`](crate::limits::CHECK_STACK) bytes of stack.
     ///
     /// It allocates words for the records; who checks many messages uses [`check_in`](Self::check_in).
-    pub fn check<'a>(&'a self, message: &'a [u8]) -> Result<Reading<'a>, MessageRefusal> {
+    pub fn check<'a>(&'a self, message: &'a [u8]) -> Result<Reading<'a>, Refused<MessageRefusal>> {
         let mut words = vec![0; most_records(message.len()) * RECORD_WORDS];
         let (row, count) = self.check_into(message, &mut words)?;
         words.truncate(count * RECORD_WORDS);
@@ -47,17 +47,21 @@ impl Schema {
     }
 
     /// Checks a message, as [`check`](Self::check) does, in a room that is used again for the next message.
-    pub fn check_in<'a>(&'a self, room: &'a mut Room, message: &'a [u8]) -> Result<Reading<'a>, MessageRefusal> {
+    pub fn check_in<'a>(
+        &'a self,
+        room: &'a mut Room,
+        message: &'a [u8],
+    ) -> Result<Reading<'a>, Refused<MessageRefusal>> {
         let words = room.lend(most_records(message.len()));
         let (row, count) = self.check_into(message, words)?;
         Ok(Reading::new(self, message, row, Cow::Borrowed(&words[..count * RECORD_WORDS])))
     }
 
     /// The command's row and the count of records.
-    fn check_into(&self, message: &[u8], records: &mut [u32]) -> Result<(usize, usize), MessageRefusal> {
+    fn check_into(&self, message: &[u8], records: &mut [u32]) -> Result<(usize, usize), Refused<MessageRefusal>> {
         match calls::check(&self.table, &self.bytes, message, records) {
-            (0, row, count) => Ok((row, count)),
-            (number, ..) => Err(MessageRefusal::answered(number)),
+            (0, row, count, _) => Ok((row, count)),
+            (number, _, _, place) => Err(Refused::answered(number, place)),
         }
     }
 

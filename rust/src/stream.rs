@@ -1,7 +1,7 @@
 //! Messages out of a stream that comes in chunks of any size.
 
 use crate::limits::MESSAGE_BYTES;
-use crate::{calls, MessageRefusal};
+use crate::{calls, MessageRefusal, Refused};
 
 /// A reader of the messages of a stream, which come one after the other, with or without blanks between them, and in
 /// chunks that are cut anywhere. Each ends at the closing bracket of an outermost object or array.
@@ -14,17 +14,17 @@ use crate::{calls, MessageRefusal};
 /// for chunk in [&b"{\"execute\":\"st"[..], b"op\"} [1", b"] x"] {
 ///     let mut chunk = reader.push(chunk);
 ///     while let Some(item) = chunk.next() {
-///         seen.push(item.map(|message| message.to_vec()));
+///         seen.push(item.map(|message| message.to_vec()).map_err(|refused| refused.why()));
 ///     }
 /// }
 /// assert_eq!(seen, [Ok(br#"{"execute":"stop"}"#.to_vec()), Ok(b"[1]".to_vec()), Err(MessageRefusal::NotText)]);
 /// ```
 ///
 /// A refusal is [`TooLong`](MessageRefusal::TooLong), [`NotText`](MessageRefusal::NotText) or
-/// [`TooDeep`](MessageRefusal::TooDeep); then all is skipped up to and with the next clearing byte: 0xFF, or a byte
-/// below 0x20 other than tab, CR and LF. A clearing byte inside a message drops it, `NotText`, and skips nothing. A
-/// message that is handed out is JSON text within the limits, so that [`Schema::check`](crate::Schema::check) gives
-/// none of the three for it.
+/// [`TooDeep`](MessageRefusal::TooDeep), and points nowhere; then all is skipped up to and with the next clearing byte:
+/// 0xFF, or a byte below 0x20 other than tab, CR and LF. A clearing byte inside a message drops it, `NotText`, and skips
+/// nothing. A message that is handed out is JSON text within the limits, so that
+/// [`Schema::check`](crate::Schema::check) gives none of the three for it.
 ///
 /// It holds its room and three words, and allocates nothing while it reads.
 #[derive(Clone, Debug)]
@@ -71,13 +71,13 @@ impl Chunk<'_> {
     /// The next message or refusal that ends in this chunk; none when all of it is read. A message is lent until the
     /// next one is asked for.
     #[allow(clippy::should_implement_trait, reason = "what it gives is lent from the reader's room")]
-    pub fn next(&mut self) -> Option<Result<&[u8], MessageRefusal>> {
+    pub fn next(&mut self) -> Option<Result<&[u8], Refused<MessageRefusal>>> {
         let fed = calls::stream_feed(&mut self.reader.state, &mut self.reader.room, self.rest);
         self.rest = &self.rest[fed.taken..];
         match fed {
             calls::Fed { number: 0, message_bytes: 0, .. } => None,
             calls::Fed { number: 0, message_bytes, .. } => Some(Ok(&self.reader.room[..message_bytes])),
-            calls::Fed { number, .. } => Some(Err(MessageRefusal::answered(number))),
+            calls::Fed { number, .. } => Some(Err(Refused::of_stream(number))),
         }
     }
 
@@ -97,7 +97,7 @@ mod tests {
         for chunk in chunks {
             let mut chunk = reader.push(chunk);
             while let Some(item) = chunk.next() {
-                all.push(item.map(|message| message.to_vec()));
+                all.push(item.map(|message| message.to_vec()).map_err(Refused::why));
             }
             assert!(chunk.rest().is_empty());
         }

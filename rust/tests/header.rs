@@ -3,7 +3,7 @@
 use std::collections::BTreeMap;
 
 use windosprio::limits::*;
-use windosprio::{MessageRefusal, SchemaRefusal};
+use windosprio::{MessageRefusal, Refusal, SchemaRefusal};
 
 const HEADER: &str = include_str!("../../include/windosprio.h");
 

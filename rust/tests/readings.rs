@@ -1,7 +1,7 @@
 //! What the wrapper makes of accepted messages: the command, the records, their texts and types.
 
 use windosprio::limits::{most_records, MESSAGE_BYTES, RECORD_WORDS};
-use windosprio::{BuiltIn, Definition, MessageRefusal, Room, Schema, SchemaRefusal, Type};
+use windosprio::{BuiltIn, Definition, MessageRefusal, Refused, Room, Schema, SchemaRefusal, Type};
 
 /// A type of each kind; the comment isn't UTF-8.
 const LOTS: &[u8] = b"# \xFF
@@ -96,7 +96,7 @@ fn no_message_is_refused_for_want_of_room() {
         assert_eq!((message.len(), reading.records().len()), (bytes, 2 + 2 * (1 + blanks / 2)));
         assert!(reading.records().len() <= most_records(bytes));
     }
-    assert_eq!(schema.check(&[b' '; MESSAGE_BYTES + 1]), Err(MessageRefusal::TooLong));
+    assert_eq!(schema.check(&[b' '; MESSAGE_BYTES + 1]).map_err(Refused::why), Err(MessageRefusal::TooLong));
 }
 
 #[test]
@@ -107,17 +107,20 @@ fn the_shortest_message_has_room() {
 
 #[test]
 fn refusals_come_with_their_variant() {
-    assert_eq!(Schema::compile("{'struct':'s','base':'s','data':{}}"), Err(SchemaRefusal::BadChain));
-    assert_eq!(Schema::compile(vec![b' '; 32_769]), Err(SchemaRefusal::TooLong));
-    assert_eq!(lots().check(br#"{"execute":"stop"}"#), Err(MessageRefusal::UnknownCommand));
-    assert_eq!(lots().check(br#"{"exec-oob":"quit"}"#), Err(MessageRefusal::NotOutOfBand));
+    assert_eq!(
+        Schema::compile("{'struct':'s','base':'s','data':{}}").map_err(Refused::why),
+        Err(SchemaRefusal::BadChain)
+    );
+    assert_eq!(Schema::compile(vec![b' '; 32_769]).map_err(Refused::why), Err(SchemaRefusal::TooLong));
+    assert_eq!(lots().check(br#"{"execute":"stop"}"#).map_err(Refused::why), Err(MessageRefusal::UnknownCommand));
+    assert_eq!(lots().check(br#"{"exec-oob":"quit"}"#).map_err(Refused::why), Err(MessageRefusal::NotOutOfBand));
 }
 
 #[test]
 fn the_empty_schema_takes_no_command() {
     let schema = Schema::compile("").expect("the schema is accepted");
     assert_eq!((schema.rows(), schema.table(), schema.bytes()), (0, &[][..], &[][..]));
-    assert_eq!(schema.check(br#"{"execute":"c"}"#), Err(MessageRefusal::UnknownCommand));
+    assert_eq!(schema.check(br#"{"execute":"c"}"#).map_err(Refused::why), Err(MessageRefusal::UnknownCommand));
 }
 
 #[test]
