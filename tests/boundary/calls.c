@@ -71,8 +71,27 @@ static void take_words(struct slice *slice, enum place place, void *words) {
     take_back(slice);
 }
 
-/* That counts and words are as the number says: none after a refusal, and zeros after the last of an acceptance. */
-static void check_shape(struct answer answer, size_t width) {
+/* Whether an answer of this number has a place. */
+static bool points(uint32_t number) {
+    switch (number) {
+    case WINDOSPRIO_SCHEMA_NOT_TEXT:
+    case WINDOSPRIO_SCHEMA_REPEATED_KEY:
+    case WINDOSPRIO_MESSAGE_NOT_TEXT:
+    case WINDOSPRIO_MESSAGE_TOO_DEEP:
+    case WINDOSPRIO_MESSAGE_REPEATED_KEY:
+    case WINDOSPRIO_MESSAGE_NO_READING:
+    case WINDOSPRIO_MESSAGE_NO_ROOM: return true;
+    default: return false;
+    }
+}
+
+/* That counts, place and words are as the number says: no count after a refusal, no place where it points nowhere and
+ * none beyond the text, and zeros after the last of an acceptance. */
+static void check_shape(struct answer answer, size_t width, const struct text *text) {
+    if (!points(answer.number) && answer.at != 0)
+        fail("an answer that points nowhere has a place");
+    if (answer.at > text->count)
+        fail("the place lies beyond the text");
     if (answer.number != 0 && (answer.row != 0 || answer.count != 0))
         fail("a refusal has a count");
     if (answer.count > answer.room / width)
@@ -83,7 +102,8 @@ static void check_shape(struct answer answer, size_t width) {
 }
 
 static void check_same(enum place place, struct answer first, struct answer answer) {
-    if (place != LOW && (first.number != answer.number || first.row != answer.row || first.count != answer.count))
+    if (place != LOW && (first.number != answer.number || first.row != answer.row || first.count != answer.count ||
+                         first.at != answer.at))
         fail("the answers differ by place");
 }
 
@@ -93,10 +113,12 @@ struct answer compile(const struct text *schema, uint32_t *words, size_t room) {
         struct slice text = lend_text(&schema_memory, place, schema);
         struct slice rows = lend_out(&words_memory, place, room * sizeof(uint32_t));
         struct slice count = lend_out(&count_memory, place, sizeof(size_t));
+        struct slice at = lend_out(&place_memory, place, sizeof(size_t));
         struct answer answer = {.words = words, .room = room};
-        answer.number =
-            windosprio_compile_schema(text.lent, text.bytes, (uint32_t *)rows.lent, room, (size_t *)count.lent);
+        answer.number = windosprio_compile_schema(text.lent, text.bytes, (uint32_t *)rows.lent, room,
+                                                  (size_t *)count.lent, (size_t *)at.lent);
         answer.count = take_count(&count);
+        answer.at = take_count(&at);
         take_words(&rows, place, words);
         take_back(&text);
         check_same(place, first, answer);
@@ -104,7 +126,7 @@ struct answer compile(const struct text *schema, uint32_t *words, size_t room) {
     }
     if (first.number > 13)
         fail("a schema's number isn't an answer's");
-    check_shape(first, WINDOSPRIO_ROW_WORDS);
+    check_shape(first, WINDOSPRIO_ROW_WORDS, schema);
     for (size_t i = 0; i < first.count; i++)
         if (first.words[i * WINDOSPRIO_ROW_WORDS] - 1 > 8)
             fail("a row's kind isn't one of 1 to 9");
@@ -135,12 +157,14 @@ struct answer check(const struct table *table, const struct text *schema, const 
         struct slice records = lend_out(&words_memory, place, room * sizeof(uint32_t));
         struct slice row = lend_out(&row_memory, place, sizeof(size_t));
         struct slice count = lend_out(&count_memory, place, sizeof(size_t));
+        struct slice at = lend_out(&place_memory, place, sizeof(size_t));
         struct answer answer = {.words = words, .room = room};
         answer.number = windosprio_check_message((const uint32_t *)rows.lent, table->count, text.lent, text.bytes,
                                                  command.lent, command.bytes, (uint32_t *)records.lent, room,
-                                                 (size_t *)row.lent, (size_t *)count.lent);
+                                                 (size_t *)row.lent, (size_t *)count.lent, (size_t *)at.lent);
         answer.row = take_count(&row);
         answer.count = take_count(&count);
+        answer.at = take_count(&at);
         take_words(&records, place, words);
         take_back(&command);
         take_back(&text);
@@ -150,7 +174,7 @@ struct answer check(const struct table *table, const struct text *schema, const 
     }
     if (first.number != 0 && (first.number < 21 || first.number > 30))
         fail("a message's number isn't an answer's");
-    check_shape(first, WINDOSPRIO_RECORD_WORDS);
+    check_shape(first, WINDOSPRIO_RECORD_WORDS, message);
     if (first.number == 0)
         check_records(first, table, message);
     tally.message[first.number]++;
@@ -231,6 +255,8 @@ void check_room(struct answer got, struct answer whole, size_t width, uint32_t n
         fail("the number doesn't follow from the room");
     if (got.number == 0 && (got.row != whole.row || got.count != whole.count))
         fail("row or count differs by room");
+    if (fits && got.at != whole.at)
+        fail("the place differs by room");
     if (got.count > 0 && memcmp(got.words, whole.words, got.count * width * sizeof(uint32_t)) != 0)
         fail("the words differ by room");
 }

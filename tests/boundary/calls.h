@@ -15,6 +15,7 @@
 struct answer {
     uint32_t number;
     size_t row, count;
+    size_t at;             /* the place in the text */
     const uint32_t *words; /* as they were left */
     size_t room;           /* how many were lent */
 };

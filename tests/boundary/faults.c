@@ -8,9 +8,9 @@
 #include "windosprio.h"
 
 uint32_t __real_windosprio_check_message(const uint32_t *, size_t, const uint8_t *, size_t, const uint8_t *, size_t,
-                                         uint32_t *, size_t, size_t *, size_t *);
+                                         uint32_t *, size_t, size_t *, size_t *, size_t *);
 uint32_t __wrap_windosprio_check_message(const uint32_t *, size_t, const uint8_t *, size_t, const uint8_t *, size_t,
-                                         uint32_t *, size_t, size_t *, size_t *);
+                                         uint32_t *, size_t, size_t *, size_t *, size_t *);
 
 uint32_t __real_windosprio_stream_feed(uint64_t *, uint8_t *, size_t, const uint8_t *, size_t, size_t *, size_t *,
                                        size_t *);
@@ -32,9 +32,9 @@ static void touch(const uint8_t *byte) {
 __attribute__((no_sanitize("address", "undefined"))) uint32_t
 __wrap_windosprio_check_message(const uint32_t *table, size_t table_words, const uint8_t *schema, size_t schema_bytes,
                                 const uint8_t *message, size_t message_bytes, uint32_t *records, size_t record_words,
-                                size_t *command_row, size_t *record_count) {
+                                size_t *command_row, size_t *record_count, size_t *place) {
     uint32_t number = __real_windosprio_check_message(table, table_words, schema, schema_bytes, message, message_bytes,
-                                                      records, record_words, command_row, record_count);
+                                                      records, record_words, command_row, record_count, place);
     if (is_fault("read-after")) touch(message + message_bytes);
     if (is_fault("read-before")) touch(schema - 1);
     if (is_fault("read-table-after")) touch((const uint8_t *)(table + table_words));
@@ -44,6 +44,8 @@ __wrap_windosprio_check_message(const uint32_t *table, size_t table_words, const
     if (is_fault("word-left") && record_words > 0) records[record_words - 1] = 1;
     if (is_fault("count-left") && number != 0) *record_count = 1;
     if (is_fault("row-left") && number == 0) *command_row = SIZE_MAX;
+    if (is_fault("place-left") && number == 0) *place = 1;
+    if (is_fault("place-beyond") && number == WINDOSPRIO_MESSAGE_NOT_TEXT) *place = message_bytes + 1;
     if (is_fault("number")) return 31;
     if (is_fault("by-room") && number == WINDOSPRIO_MESSAGE_NO_ROOM) return WINDOSPRIO_MESSAGE_NO_READING;
     return number;

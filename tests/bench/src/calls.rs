@@ -30,10 +30,13 @@ fn schema_lines([compiled, judged]: [&'static str; 2], schemas: &[Schema]) -> Ve
     let (mut rows, mut rust_rows) = (vec![0; ROWS], vec![0; ROWS]);
     let compile = Task {
         what: compiled,
-        product: Box::new(|schema: &Schema| accepted(calls::compile(&schema.bytes, &mut rows))),
+        product: Box::new(|schema: &Schema| {
+            let (number, count, _) = calls::compile(&schema.bytes, &mut rows);
+            accepted(number, count)
+        }),
         rust: Box::new(|schema: &Schema| {
-            let (number, count) = compile_into(&schema.bytes, &mut rust_rows);
-            accepted((number, count as usize))
+            let (number, count, _) = compile_into(&schema.bytes, &mut rust_rows);
+            accepted(number, count as usize)
         }),
     };
     let judge = Task {
@@ -44,7 +47,7 @@ fn schema_lines([compiled, judged]: [&'static str; 2], schemas: &[Schema]) -> Ve
     measured(schemas, |schema| schema.bytes.len(), SCHEMA_REPETITIONS, [compile, judge]).to_vec()
 }
 
-fn accepted((number, count): (u32, usize)) -> usize {
+fn accepted(number: u32, count: usize) -> usize {
     assert_eq!(number, 0, "only what is accepted is timed");
     count
 }
@@ -68,12 +71,12 @@ pub fn check_task<'a>(what: &'static str, schema: &'a [u8], table: &'a [u32]) ->
     Task {
         what,
         product: Box::new(move |message: &Vec<u8>| {
-            let (number, _, count) = calls::check(table, schema, message, &mut records);
-            accepted((number, count))
+            let (number, _, count, _) = calls::check(table, schema, message, &mut records);
+            accepted(number, count)
         }),
         rust: Box::new(move |message: &Vec<u8>| {
-            let (number, _, count) = check_into(table, schema, message, &mut rust_records);
-            accepted((number, count as usize))
+            let (number, _, count, _) = check_into(table, schema, message, &mut rust_records);
+            accepted(number, count as usize)
         }),
     }
 }

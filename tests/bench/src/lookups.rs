@@ -140,7 +140,7 @@ impl Table {
     fn new(names: impl Iterator<Item = String>) -> Self {
         let schema = names.map(|name| format!("{{'command':'{name}'}}")).collect::<String>().into_bytes();
         let mut rows = vec![0; ROWS];
-        let (number, count) = windosprio::calls::compile(&schema, &mut rows);
+        let (number, count, _) = windosprio::calls::compile(&schema, &mut rows);
         assert_eq!((number, count), (0, COMMANDS), "a schema of commands");
         rows.truncate(count * ROW);
         Table { schema, rows }

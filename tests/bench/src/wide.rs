@@ -56,7 +56,7 @@ fn list(items: impl IntoIterator<Item = String>) -> String {
 fn line(what: &'static str, definition: &str, message: String) -> Vec<Line> {
     let schema = format!("{definition}{{'command':'stock','data':{{'lots':['Wide']}}}}").into_bytes();
     let mut rows = vec![0; crate::calls::ROWS];
-    let (number, count) = windosprio::calls::compile(&schema, &mut rows);
+    let (number, count, _) = windosprio::calls::compile(&schema, &mut rows);
     assert_eq!(number, 0, "the schema of: {what}");
     rows.truncate(count * 8);
     measured(&[message.into_bytes()], Vec::len, REPETITIONS, [check_task(what, &schema, &rows)]).to_vec()

@@ -33,6 +33,8 @@ const SETS: &[CaseSet] = &[
     CaseSet { name: "req02", folders: 53, calls: 169 },
     // Stricter alternates.
     CaseSet { name: "req05", folders: 60, calls: 216 },
+    // Places.
+    CaseSet { name: "req06", folders: 60, calls: 223 },
     // Messages in pieces.
     CaseSet { name: "req10", folders: 0, calls: 254 },
 ];
@@ -40,11 +42,11 @@ const SETS: &[CaseSet] = &[
 struct Product;
 
 impl Calls for Product {
-    fn compile(&self, schema: &[u8], rows: &mut [u32]) -> (u32, usize) {
+    fn compile(&self, schema: &[u8], rows: &mut [u32]) -> (u32, usize, usize) {
         windosprio::calls::compile(schema, rows)
     }
 
-    fn check(&self, table: &[u32], schema: &[u8], message: &[u8], records: &mut [u32]) -> (u32, usize, usize) {
+    fn check(&self, table: &[u32], schema: &[u8], message: &[u8], records: &mut [u32]) -> (u32, usize, usize, usize) {
         windosprio::calls::check(table, schema, message, records)
     }
 }

@@ -1,4 +1,4 @@
-//! The message call: number, command row, count and every word lent.
+//! The message call: number, command row, count, place and every word lent.
 
 mod edges;
 mod lists;
@@ -112,8 +112,8 @@ impl Call<'_> {
         let mut lent = LentWords::with_garbage(&mut random, self.room);
         let got = calls::check(table.words(), schema.bytes(), message.bytes(), lent.items_mut());
         let answer = self.by_reference(self.room);
-        let expected = (answer.number, answer.row as usize, answer.count as usize);
-        ensure(got == expected, || format!("number, row and count: product {got:?}, reference {expected:?}"))?;
+        let expected = (answer.number, answer.row as usize, answer.count as usize, answer.place as usize);
+        ensure(got == expected, || format!("number, row, count and place: product {got:?}, reference {expected:?}"))?;
         lent.check(&answer.words)?;
         Ok(answer)
     }

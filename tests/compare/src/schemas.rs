@@ -1,4 +1,4 @@
-//! The compile call: number, count and every word lent.
+//! The compile call: number, count, place and every word lent.
 
 use generate::schemas::{self, Schema, SchemaCase};
 use generate::{aims, Random};
@@ -111,8 +111,10 @@ fn compare_once(schema: &[u8], room: usize, seed: u64) -> Result<Answer, String>
     let mut lent = LentWords::with_garbage(&mut random, room);
     let got = calls::compile(placed.bytes(), lent.items_mut());
     let answer = compile(schema, room);
-    let expected = (answer.number, answer.count as usize);
-    ensure(got == expected, || format!("number and count in {room} words: product {got:?}, reference {expected:?}"))?;
+    let expected = (answer.number, answer.count as usize, answer.place as usize);
+    ensure(got == expected, || {
+        format!("number, count and place in {room} words: product {got:?}, reference {expected:?}")
+    })?;
     lent.check(&answer.words)?;
     Ok(answer)
 }

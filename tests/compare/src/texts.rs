@@ -11,7 +11,7 @@ use generate::print::Dialect;
 use generate::texts::{self, most_levels, Expected, TextCase};
 use generate::{schemas, Random};
 use harness::{check_bytes, check_expected, ensure, for_each_round, Check, Options, Rounds, Tally};
-use product::text::{keys_once, Verdict, NODE};
+use product::text::{first_repeat, Verdict, NODE};
 use reference::keys::repeated_key;
 
 use self::reading::Read;
@@ -102,10 +102,10 @@ fn compare_keys(dialect: Dialect, text: &[u8], read: &Read, count: usize, tally:
         Dialect::Schema => (true, "schema keys"),
         Dialect::Message => (false, "message keys"),
     };
-    let once = keys_once(schema, text, &read.words, count);
-    tally.add(what, if once { "once" } else { "twice" });
-    let repeated = repeated_key(text, &read.nodes);
-    ensure(once == repeated.is_none(), || format!("keys once: product {once}, reference has one again at {repeated:?}"))
+    let found = first_repeat(schema, text, &read.words, count);
+    tally.add(what, if found.is_some() { "twice" } else { "once" });
+    let expected = repeated_key(text, &read.nodes).map(|place| place as usize);
+    ensure(found == expected, || format!("a key again: product at {found:?}, reference at {expected:?}"))
 }
 
 fn text_of(dialect: Dialect) -> &'static str {

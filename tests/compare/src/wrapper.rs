@@ -21,7 +21,7 @@ pub fn run(options: &Options, tally: &mut Tally) -> Check {
     for_each_round(options.rounds_or(DEFAULT_ROUNDS), |random, round| {
         compare_schema(&schemas::aimed(random, &aims::in_turn(1..13, round)).bytes, tally)?;
         let source = schemas::valid(random);
-        let schema = Schema::compile(&source.bytes[..]).map_err(|refusal| refusal.to_string())?;
+        let schema = Schema::compile(&source.bytes[..]).map_err(|refused| refused.to_string())?;
         let messages = Messages::new(&source);
         (round * MESSAGES..(round + 1) * MESSAGES)
             .flat_map(|turn| several(random, &messages, turn))
@@ -37,11 +37,12 @@ fn several(random: &mut Random, messages: &Messages, turn: u64) -> [Vec<u8>; 3] 
 fn compare_schema(bytes: &[u8], tally: &mut Tally) -> Check {
     let mut expected = compile(bytes, ROWS * ROW_WORDS);
     expected.words.truncate(expected.count as usize * ROW_WORDS);
-    let (number, table) = match Schema::compile(bytes) {
-        Ok(schema) => (0, schema.table().to_vec()),
-        Err(refusal) => (refusal.number(), Vec::new()),
+    let (number, place, table) = match Schema::compile(bytes) {
+        Ok(schema) => (0, 0, schema.table().to_vec()),
+        Err(refused) => (refused.number(), refused.place() as u32, Vec::new()),
     };
-    check_expected("number and table", bytes, (number, table), (expected.number, expected.words))?;
+    let said = (number, place, table);
+    check_expected("number, place and table", bytes, said, (expected.number, expected.place, expected.words))?;
     tally.add("schemas", number);
     tally.pass();
     Ok(())
@@ -53,12 +54,13 @@ fn compare_message(schema: &Schema, room: &mut Room, message: &[u8], tally: &mut
     expected.words.truncate(expected.count as usize * RECORD_WORDS);
     let alone = schema.check(message);
     check_expected("answer in a room used before", message, &schema.check_in(room, message), &alone)?;
-    let (number, row, words) = match &alone {
-        Ok(reading) => (0, reading.command().row as u32, reading.records().flat_map(words_of).collect()),
-        Err(refusal) => (refusal.number(), 0, Vec::new()),
+    let (number, row, place, words) = match &alone {
+        Ok(reading) => (0, reading.command().row as u32, 0, reading.records().flat_map(words_of).collect()),
+        Err(refused) => (refused.number(), 0, refused.place() as u32, Vec::new()),
     };
-    let said = (number, row, words);
-    check_expected("number, row and records", message, said, (expected.number, expected.row, expected.words))?;
+    let said = (number, row, place, words);
+    let expected = (expected.number, expected.row, expected.place, expected.words);
+    check_expected("number, row, place and records", message, said, expected)?;
     alone.map_or(Ok(()), |reading| check_types(schema, &reading, tally))?;
     tally.add("messages", number);
     tally.pass();

@@ -15,15 +15,15 @@ pub fn answer(case: &Case) -> String {
         return given(stream, case.message_bytes.unwrap_or(MESSAGE_BYTES));
     }
     let mut rows = vec![0; case.row_words.unwrap_or(ROWS * ROW_WORDS)];
-    let (number, count) = compile(&case.schema, &mut rows);
+    let (number, count, place) = compile(&case.schema, &mut rows);
     let Some(message) = case.message.as_deref().filter(|_| number == 0) else {
-        return format!("{number} {count}");
+        return format!("{number} {count} {place}");
     };
     let table = case.table.as_deref().unwrap_or(&rows[..count * ROW_WORDS]);
     let mut records = vec![0; case.record_words.unwrap_or(RECORDS * RECORD_WORDS)];
-    let (number, row, count) = check(table, &case.schema, message, &mut records);
+    let (number, row, count, place) = check(table, &case.schema, message, &mut records);
     let words: String = records[..count * RECORD_WORDS].iter().map(|word| format!(" {word}")).collect();
-    format!("{number} {row} {count}{words}")
+    format!("{number} {row} {count} {place}{words}")
 }
 
 /// The numbers that a stream gives, 0 for a message.

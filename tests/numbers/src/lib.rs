@@ -42,7 +42,7 @@ impl Case {
 
     /// The number that the answer starts with.
     pub fn number(&self) -> Option<u32> {
-        self.answer.split(' ').next()?.parse().ok()
+        number_of(&self.answer)
     }
 
     fn add(&mut self, line: &str) -> Option<()> {
@@ -68,6 +68,11 @@ impl Case {
         }
         Some(())
     }
+}
+
+/// The number that an answer starts with.
+pub fn number_of(answer: &str) -> Option<u32> {
+    answer.split(' ').next()?.parse().ok()
 }
 
 /// A text as often as a key says: once, `N times`, or `for @ in CHARACTERS`, each of them in the place of `@`.
@@ -114,9 +119,13 @@ mod tests {
     #[test]
     fn texts_are_joined_and_repeated() {
         let document =
-            "x\n```case\nschema: {': '\nschema 3 times: a\n    b\nschema for @ in xyz: '@@'\nanswer: 2 0, size 9\n```\n";
-        let case =
-            Case { schema: b"{': 'ababab'xx''yy''zz'".to_vec(), answer: "2 0".to_string(), size: 9, ..Case::default() };
+            "x\n```case\nschema: {': '\nschema 3 times: a\n    b\nschema for @ in xyz: '@@'\nanswer: 2 0 0, size 9\n```\n";
+        let case = Case {
+            schema: b"{': 'ababab'xx''yy''zz'".to_vec(),
+            answer: "2 0 0".to_string(),
+            size: 9,
+            ..Case::default()
+        };
         assert_eq!(parse(document), Ok(vec![case]));
     }
 
@@ -138,7 +147,7 @@ mod tests {
 
     #[test]
     fn any_other_line_is_refused() {
-        let form = ["", "schema", "schema x times: a", "scheme: a", "words for row: 1", "answer: 2 0", "table: x"];
+        let form = ["", "schema", "schema x times: a", "scheme: a", "words for row: 1", "answer: 2 0 0", "table: x"];
         for line in form.into_iter().chain(["accepted: a", "accepted with: a"]) {
             assert!(parse(&format!("```case\n{line}\n```\n")).is_err(), "{line}");
         }

@@ -10,7 +10,7 @@ mod readme;
 use std::process::ExitCode;
 
 use harness::{ensure, Check, Report, Tally};
-use numbers::{cases, Case};
+use numbers::{cases, number_of, Case};
 
 const NUMBERS: [u32; 24] = [0, 1, 2, 3, 4, 5, 6, 7, 8, 9, 10, 11, 12, 13, 21, 22, 23, 24, 25, 26, 27, 28, 29, 30];
 
@@ -46,8 +46,9 @@ fn check_case(case: &Case) -> Check {
 }
 
 fn check_smallest(case: &Case) -> Check {
-    with_less(case)
-        .try_for_each(|less| ensure(calls::answer(&less) != case.answer, || format!("the same with less: {less:?}")))
+    with_less(case).try_for_each(|less| {
+        ensure(number_of(&calls::answer(&less)) != case.number(), || format!("the same number with less: {less:?}"))
+    })
 }
 
 /// The piece stands in the schema once, and without it the schema is accepted.
@@ -85,17 +86,17 @@ mod tests {
 
     #[test]
     fn a_wrong_answer_or_size_or_a_byte_too_many_is_noticed() {
-        assert_eq!(check_case(&case("{}", "4 0")), Ok(()));
-        assert!(check_case(&case("{}", "5 0")).is_err());
-        assert!(check_case(&Case { size: 3, ..case("{}", "4 0") }).is_err());
-        assert!(check_case(&case("{} ", "4 0")).is_err());
+        assert_eq!(check_case(&case("{}", "4 0 0")), Ok(()));
+        assert!(check_case(&case("{}", "5 0 0")).is_err() && check_case(&case("{}", "4 0 1")).is_err());
+        assert!(check_case(&Case { size: 3, ..case("{}", "4 0 0") }).is_err());
+        assert!(check_case(&case("{} ", "4 0 0")).is_err());
     }
 
     #[test]
     fn a_piece_that_is_not_at_fault_is_noticed() {
         let with =
-            |fault: &str| Case { fault: Some(fault.to_string()), ..case("{'enum':'a','data':['b','b']}{}", "4 0") };
-        assert_eq!(check_case(&Case { fault: Some("{}".to_string()), ..case("{'command':'a'}{}", "4 0") }), Ok(()));
+            |fault: &str| Case { fault: Some(fault.to_string()), ..case("{'enum':'a','data':['b','b']}{}", "4 0 0") };
+        assert_eq!(check_case(&Case { fault: Some("{}".to_string()), ..case("{'command':'a'}{}", "4 0 0") }), Ok(()));
         for fault in ["{}", ",'b'", "'a'", "x", "b"] {
             assert!(check_case(&with(fault)).is_err(), "{fault}");
         }

@@ -5,7 +5,7 @@ use std::fs;
 use std::path::Path;
 
 use harness::{ensure, Check, Tally};
-use numbers::Case;
+use numbers::{number_of, Case};
 
 use crate::{calls, NUMBERS};
 
@@ -21,8 +21,7 @@ pub fn check_examples(tally: &mut Tally) -> Check {
     for (number, example) in document.lines().filter_map(row) {
         if let Some(text) = code(example) {
             let answer = calls::answer(&case(number, text));
-            let given = answer.split(' ').next() == Some(number.to_string().as_str());
-            ensure(given, || format!("README.md: {text} isn't {number}: {answer}"))?;
+            ensure(number_of(&answer) == Some(number), || format!("README.md: {text} isn't {number}: {answer}"))?;
         }
         tally.add("examples of README.md", number);
         tally.pass();

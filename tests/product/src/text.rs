@@ -18,7 +18,7 @@ mod exports {
             nodes: *const u32,
             words: usize,
             count: usize,
-        ) -> bool;
+        ) -> usize;
 
         pub fn windosprio_probe_range(
             text: *const u8,
@@ -90,10 +90,13 @@ pub fn read(schema: bool, text: &[u8], lent: &mut [u32]) -> Verdict {
     }
 }
 
-/// Whether no object of the first `count` nodes has a key twice.
-pub fn keys_once(schema: bool, text: &[u8], nodes: &[u32], count: usize) -> bool {
+/// The place of the earliest key, in the objects of the first `count` nodes, that repeats one before it.
+pub fn first_repeat(schema: bool, text: &[u8], nodes: &[u32], count: usize) -> Option<usize> {
     // SAFETY: each pointer goes with the length of its slice, which lives during the call.
-    unsafe { exports::windosprio_probe_keys(text.as_ptr(), text.len(), schema, nodes.as_ptr(), nodes.len(), count) }
+    let place = unsafe {
+        exports::windosprio_probe_keys(text.as_ptr(), text.len(), schema, nodes.as_ptr(), nodes.len(), count)
+    };
+    (place < text.len()).then_some(place)
 }
 
 /// Whether the integer token from `start` to `end` lies from -`low` to `high`.
@@ -147,7 +150,8 @@ mod tests {
         let mut words = vec![0; words_for(text.len())];
         assert_eq!(read(false, text, &mut words), Verdict::Whole(5));
         assert_eq!(words[..8], [9, 0, 21, 5, 10, 1, 4, 3]);
-        assert!(!keys_once(false, text, &words, 5));
+        assert_eq!(first_repeat(false, text, &words, 5), Some(8));
+        assert_eq!(first_repeat(false, text, &words, 0), None);
         assert!(in_range(text, 5, 7, 7, 0) && !in_range(text, 17, 20, 0, 299));
         let (plain, coded) = (Token { start: 1, end: 4, plain: true }, Token { start: 8, end: 16, plain: false });
         assert!(means(false, text, plain, b"a") && !means(false, text, coded, b"b"));

@@ -7,7 +7,7 @@ use std::sync::atomic::{AtomicUsize, Ordering};
 
 /// The schema of P1, and its answer.
 pub const STOP_LOT: &[u8] = b"{'command':'stop-lot','data':{'lot':'str'}}";
-pub const STOP_LOT_ANSWER: &str = "0 3\n";
+pub const STOP_LOT_ANSWER: &str = "0 3 0\n";
 
 /// From this crate's folder.
 const EXAMPLE: &str = "../../examples/seed-batch";

@@ -38,7 +38,7 @@ fn one_line(program: &Path, size: usize) -> Check {
     let begun = Instant::now();
     repeat(&mut input, &vec![b'['; MIB], size)?;
     writeln!(input, "\n{STOP}").map_err(reason)?;
-    same(output.line()?.as_bytes(), b"22 0 0\n")?;
+    same(output.line()?.as_bytes(), b"22 0 0 0\n")?;
     same(output.line()?.as_bytes(), STOPPED.as_bytes())?;
     let seconds = begun.elapsed().as_secs_f64();
     check_memory(&running, &format!("a line of {size} MiB, {:.0} MiB a second", size as f64 / seconds))?;

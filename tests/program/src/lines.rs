@@ -23,7 +23,7 @@ pub const CHECKS: Checks = &[
 ];
 
 pub const STOP: &str = r#"{"execute":"stop-lot","arguments":{"lot":"007"}}"#;
-pub const STOPPED: &str = "0 0 2 34 47 17 0 41 46 1 0\n";
+pub const STOPPED: &str = "0 0 2 0 34 47 17 0 41 46 1 0\n";
 
 /// The message with blanks after it, so many bytes in all.
 pub fn padded(length: usize) -> String {
@@ -47,21 +47,21 @@ fn answers(program: &Path, input: &str, answers: &str) -> Check {
 fn lines_end_at_lf(program: &Path) -> Check {
     let cases = [
         ("", ""),
-        ("\n", "23 0 0\n"),
-        ("\n\n", "23 0 0\n23 0 0\n"),
-        ("5", "26 0 0\n"),
-        ("5\n", "26 0 0\n"),
-        ("5\n\n5", "26 0 0\n23 0 0\n26 0 0\n"),
-        ("5\r5\n", "23 0 0\n"),
+        ("\n", "23 0 0 0\n"),
+        ("\n\n", "23 0 0 0\n23 0 0 0\n"),
+        ("5", "26 0 0 0\n"),
+        ("5\n", "26 0 0 0\n"),
+        ("5\n\n5", "26 0 0 0\n23 0 0 0\n26 0 0 0\n"),
+        ("5\r5\n", "23 0 0 2\n"),
         (STOP, STOPPED),
     ];
     cases.iter().try_for_each(|(input, expected)| answers(program, input, expected))
 }
 
 fn cr_is_a_blank(program: &Path) -> Check {
-    answers(program, &format!("{STOP}\r\n{STOP}\r\n\r\n"), &format!("{STOPPED}{STOPPED}23 0 0\n"))?;
+    answers(program, &format!("{STOP}\r\n{STOP}\r\n\r\n"), &format!("{STOPPED}{STOPPED}23 0 0 1\n"))?;
     answers(program, &format!("{}\r\n", padded(16_383)), STOPPED)?;
-    answers(program, &format!("{}\r\n", padded(16_384)), "22 0 0\n")
+    answers(program, &format!("{}\r\n", padded(16_384)), "22 0 0 0\n")
 }
 
 /// Each alone, and each inside a string.
@@ -81,10 +81,11 @@ fn any_bytes(program: &Path) -> Check {
 
 /// At the limit, and at the sizes of a pipe and of the program's buffer; with and without a last LF.
 fn lengths(program: &Path) -> Check {
-    for (length, answer) in [(16_384, STOPPED), (16_385, "22 0 0\n"), (65_535, "22 0 0\n"), (65_536, "22 0 0\n")] {
+    for (length, answer) in [(16_384, STOPPED), (16_385, "22 0 0 0\n"), (65_535, "22 0 0 0\n"), (65_536, "22 0 0 0\n")]
+    {
         let line = padded(length);
-        answers(program, &format!("{line}\n{line}\n5\n"), &format!("{answer}{answer}26 0 0\n"))?;
-        answers(program, &format!("5\n{line}"), &format!("26 0 0\n{answer}"))?;
+        answers(program, &format!("{line}\n{line}\n5\n"), &format!("{answer}{answer}26 0 0 0\n"))?;
+        answers(program, &format!("5\n{line}"), &format!("26 0 0 0\n{answer}"))?;
     }
     Ok(())
 }

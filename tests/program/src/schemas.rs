@@ -21,8 +21,8 @@ pub const CHECKS: Checks = &[
     ("a link to itself", |program| linked(program, "schema.json", "no schema\n")),
     ("a folder named schema.json", folder_as_schema),
     ("a schema.json that may not be read", unreadable),
-    ("an empty schema.json", |program| linked(program, "/dev/null", "0 0\n27 0 0\n")),
-    ("a schema.json that never ends", |program| linked(program, "/dev/zero", "1 0\n")),
+    ("an empty schema.json", |program| linked(program, "/dev/null", "0 0 0\n27 0 0 0\n")),
+    ("a schema.json that never ends", |program| linked(program, "/dev/zero", "1 0 0\n")),
     ("a schema.json of a terabyte", terabyte),
     ("a schema.json of 32,768 and of 32,769 bytes", lengths),
     ("a schema.json of 1,024 rows", most_rows),
@@ -84,19 +84,19 @@ fn unreadable(program: &Path) -> Check {
 fn terabyte(program: &Path) -> Check {
     let folder = Folder::new();
     File::create(folder.schema()).and_then(|file| file.set_len(1 << 40)).map_err(reason)?;
-    prints(program, &folder, "1 0\n")
+    prints(program, &folder, "1 0 0\n")
 }
 
 fn lengths(program: &Path) -> Check {
     let at_end = |length: usize| format!("{:>length$}", String::from_utf8_lossy(STOP_LOT)).into_bytes();
-    prints(program, &Folder::with_schema(&at_end(32_768)), &format!("{STOP_LOT_ANSWER}27 0 0\n"))?;
-    prints(program, &Folder::with_schema(&at_end(32_769)), "1 0\n")
+    prints(program, &Folder::with_schema(&at_end(32_768)), &format!("{STOP_LOT_ANSWER}27 0 0 0\n"))?;
+    prints(program, &Folder::with_schema(&at_end(32_769)), "1 0 0\n")
 }
 
 fn most_rows(program: &Path) -> Check {
     let schema: String = (0..1_024).map(|number| format!("{{'command':'c{number}'}}")).collect();
     let printed = printed(program, schema.as_bytes(), b"{\"execute\":\"c1023\"}")?;
-    same(&printed, b"0 1024\n0 1023 1 0 0 0 0\n")
+    same(&printed, b"0 1024 0\n0 1023 1 0 0 0 0 0\n")
 }
 
 fn pieces_by_fifo(program: &Path) -> Check {
@@ -108,7 +108,7 @@ fn pieces_by_fifo(program: &Path) -> Check {
         let mut fifo = File::options().write(true).open(fifo)?;
         STOP_LOT.chunks(5).try_for_each(|piece| fifo.write_all(piece))
     });
-    prints(program, &folder, &format!("{STOP_LOT_ANSWER}27 0 0\n"))?;
+    prints(program, &folder, &format!("{STOP_LOT_ANSWER}27 0 0 0\n"))?;
     writer.join().expect("the writer doesn't panic").map_err(reason)
 }
 

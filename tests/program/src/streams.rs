@@ -77,7 +77,7 @@ fn in_turns(program: &Path) -> Check {
     let mut running = Running::start(folder.command(program))?;
     let (mut input, mut output) = (running.input(), running.output());
     same(output.line()?.as_bytes(), STOP_LOT_ANSWER.as_bytes())?;
-    for (line, answer) in [(STOP, STOPPED), ("", "23 0 0\n"), ("5", "26 0 0\n")].iter().cycle().take(300) {
+    for (line, answer) in [(STOP, STOPPED), ("", "23 0 0 0\n"), ("5", "26 0 0 0\n")].iter().cycle().take(300) {
         writeln!(input, "{line}").map_err(reason)?;
         same(output.line()?.as_bytes(), answer.as_bytes())?;
     }

@@ -36,7 +36,7 @@ fn start(program: &Path) -> Result<(Folder, File, Running, Output), String> {
 
 fn typed(program: &Path) -> Check {
     let (_folder, mut typist, running, mut output) = start(program)?;
-    for (line, answer) in [(STOP, STOPPED), ("", "23 0 0\n"), ("5", "26 0 0\n")] {
+    for (line, answer) in [(STOP, STOPPED), ("", "23 0 0 0\n"), ("5", "26 0 0 0\n")] {
         typist.write_all(format!("{line}\n").as_bytes()).map_err(reason)?;
         same(output.line()?.as_bytes(), answer.as_bytes())?;
     }
@@ -55,7 +55,7 @@ fn unfinished(program: &Path) -> Check {
     for piece in [b"5", CTRL_D, CTRL_D] {
         typist.write_all(piece).map_err(reason)?;
     }
-    same(&output.rest()?, b"26 0 0\n")?;
+    same(&output.rest()?, b"26 0 0 0\n")?;
     running.ends_well()
 }
 
@@ -67,8 +67,8 @@ fn on_one_terminal(program: &Path) -> Check {
     command.stdin(terminal.try_clone().map_err(reason)?).stdout(terminal);
     let running = Running::start(command)?;
     let mut seen = Output::of(typist.try_clone().map_err(reason)?);
-    same(seen.line()?.as_bytes(), b"0 3\r\n")?;
-    for (line, answer) in [(STOP, STOPPED), ("5", "26 0 0\n")] {
+    same(seen.line()?.as_bytes(), b"0 3 0\r\n")?;
+    for (line, answer) in [(STOP, STOPPED), ("5", "26 0 0 0\n")] {
         typist.write_all(format!("{line}\n").as_bytes()).map_err(reason)?;
         same(seen.line()?.as_bytes(), format!("{line}\r\n").as_bytes())?;
         same(seen.line()?.as_bytes(), answer.replace('\n', "\r\n").as_bytes())?;

@@ -15,25 +15,25 @@ const MESSAGE_ROOM: usize = 4_096 * 4;
 
 /// The two calls.
 pub trait Calls {
-    /// Gives number and row count.
-    fn compile(&self, schema: &[u8], rows: &mut [u32]) -> (u32, usize);
+    /// Gives number, row count and place.
+    fn compile(&self, schema: &[u8], rows: &mut [u32]) -> (u32, usize, usize);
 
-    /// Gives number, command row and record count.
-    fn check(&self, table: &[u32], schema: &[u8], message: &[u8], records: &mut [u32]) -> (u32, usize, usize);
+    /// Gives number, command row, record count and place.
+    fn check(&self, table: &[u32], schema: &[u8], message: &[u8], records: &mut [u32]) -> (u32, usize, usize, usize);
 }
 
 /// Those of the reference.
 pub struct Reference;
 
 impl Calls for Reference {
-    fn compile(&self, schema: &[u8], rows: &mut [u32]) -> (u32, usize) {
-        let (number, count) = compile_into(schema, rows);
-        (number, count as usize)
+    fn compile(&self, schema: &[u8], rows: &mut [u32]) -> (u32, usize, usize) {
+        let (number, count, place) = compile_into(schema, rows);
+        (number, count as usize, place as usize)
     }
 
-    fn check(&self, table: &[u32], schema: &[u8], message: &[u8], records: &mut [u32]) -> (u32, usize, usize) {
-        let (number, row, count) = check_into(table, schema, message, records);
-        (number, row as usize, count as usize)
+    fn check(&self, table: &[u32], schema: &[u8], message: &[u8], records: &mut [u32]) -> (u32, usize, usize, usize) {
+        let (number, row, count, place) = check_into(table, schema, message, records);
+        (number, row as usize, count as usize, place as usize)
     }
 }
 
@@ -55,15 +55,15 @@ pub fn serve(
         return writeln!(output, "no schema");
     };
     let mut rows = vec![0; SCHEMA_ROOM];
-    let (number, count) = calls.compile(schema, &mut rows);
-    writeln!(output, "{number} {count}")?;
+    let (number, rows_counted, place) = calls.compile(schema, &mut rows);
+    writeln!(output, "{number} {rows_counted} {place}")?;
     if number != 0 {
         return Ok(());
     }
     let mut records = vec![0; MESSAGE_ROOM];
     while let Some(message) = next_message(&mut input)? {
-        let (number, row, count) = calls.check(&rows[..count * 8], schema, &message, &mut records);
-        write!(output, "{number} {row} {count}")?;
+        let (number, row, count, place) = calls.check(&rows[..rows_counted * 8], schema, &message, &mut records);
+        write!(output, "{number} {row} {count} {place}")?;
         records[..count * 4].iter().try_for_each(|word| write!(output, " {word}"))?;
         writeln!(output)?;
     }
@@ -98,7 +98,7 @@ mod tests {
 
     const SCHEMA: &[u8] = b"{'command':'stop-lot','data':{'lot':'str'}}";
     const MESSAGE: &str = r#"{"execute":"stop-lot","arguments":{"lot":"007"}}"#;
-    const ACCEPTED: &str = "0 0 2 34 47 17 0 41 46 1 0\n";
+    const ACCEPTED: &str = "0 0 2 0 34 47 17 0 41 46 1 0\n";
 
     /// What the program prints, for any size of its input buffer.
     fn printed(schema: Option<&[u8]>, input: &[u8]) -> String {
@@ -113,12 +113,12 @@ mod tests {
 
     fn answers(input: &[u8]) -> String {
         let text = printed(Some(SCHEMA), input);
-        text.strip_prefix("0 3\n").expect("the schema is accepted").to_string()
+        text.strip_prefix("0 3 0\n").expect("the schema is accepted").to_string()
     }
 
     #[test]
     fn prints_the_two_lines_of_p1() {
-        assert_eq!(printed(Some(SCHEMA), MESSAGE.as_bytes()), format!("0 3\n{ACCEPTED}"));
+        assert_eq!(printed(Some(SCHEMA), MESSAGE.as_bytes()), format!("0 3 0\n{ACCEPTED}"));
     }
 
     #[test]
@@ -142,16 +142,17 @@ mod tests {
 
     #[test]
     fn stops_after_a_refused_schema() {
-        assert_eq!(printed(Some(b"{}"), b"5\n"), "4 0\n");
-        assert_eq!(printed(Some(&[b' '; MOST_SCHEMA_BYTES + 1]), b"5\n"), "1 0\n");
+        assert_eq!(printed(Some(b"{}"), b"5\n"), "4 0 0\n");
+        assert_eq!(printed(Some(&[b' '; MOST_SCHEMA_BYTES + 1]), b"5\n"), "1 0 0\n");
+        assert_eq!(printed(Some(b"{} {'a':\"a\"}"), b"5\n"), "2 0 8\n");
     }
 
     #[test]
     fn lines_end_at_lf_alone() {
         assert_eq!(answers(b""), "");
-        assert_eq!(answers(b"\n"), "23 0 0\n");
-        assert_eq!(answers(b"5\n\n5"), "26 0 0\n23 0 0\n26 0 0\n");
-        assert_eq!(answers(b"5\r5\n"), "23 0 0\n");
+        assert_eq!(answers(b"\n"), "23 0 0 0\n");
+        assert_eq!(answers(b"5\n\n5"), "26 0 0 0\n23 0 0 0\n26 0 0 0\n");
+        assert_eq!(answers(b"5\r5\n"), "23 0 0 2\n");
         assert_eq!(answers(format!("{MESSAGE}\r\n{MESSAGE}").as_bytes()), ACCEPTED.repeat(2));
     }
 
@@ -159,7 +160,7 @@ mod tests {
     fn cr_counts_towards_the_bytes() {
         let pad = |length: usize| format!("{MESSAGE}{}\r\n", " ".repeat(length - 1 - MESSAGE.len()));
         assert_eq!(answers(pad(16_384).as_bytes()), ACCEPTED);
-        assert_eq!(answers(pad(16_385).as_bytes()), "22 0 0\n");
+        assert_eq!(answers(pad(16_385).as_bytes()), "22 0 0 0\n");
     }
 
     #[test]
@@ -167,13 +168,13 @@ mod tests {
         for length in [16_385, 16_386, 32_770, 100_000] {
             let mut input = vec![b'['; length];
             input.extend(b"\n5\n");
-            assert_eq!(answers(&input), "22 0 0\n26 0 0\n");
-            assert_eq!(answers(&vec![b'['; length]), "22 0 0\n");
+            assert_eq!(answers(&input), "22 0 0 0\n26 0 0 0\n");
+            assert_eq!(answers(&vec![b'['; length]), "22 0 0 0\n");
         }
     }
 
     #[test]
     fn an_empty_schema_is_accepted_and_has_no_command() {
-        assert_eq!(printed(Some(b""), MESSAGE.as_bytes()), "0 0\n27 0 0\n");
+        assert_eq!(printed(Some(b""), MESSAGE.as_bytes()), "0 0 0\n27 0 0 0\n");
     }
 }

@@ -6,7 +6,7 @@ mod references;
 use crate::keys;
 use crate::rows::{Rows, MOST_ROWS, ROW};
 use crate::rules;
-use crate::text::{self, Dialect, Verdict};
+use crate::text::{self, Dialect, Node, Verdict};
 
 pub const MOST_SCHEMA_BYTES: usize = 32_768;
 pub const SCHEMA_LEVELS: usize = 8;
@@ -36,42 +36,55 @@ impl Refusal {
     }
 }
 
-/// The two numbers of an answer, and every word lent.
+/// The three numbers of an answer, and every word lent.
 #[derive(Clone, Debug, PartialEq, Eq)]
 pub struct Answer {
     pub number: u32,
     pub count: u32,
+    pub place: u32,
     pub words: Vec<u32>,
 }
 
 /// Compiles a schema into `room` lent words.
 pub fn compile(schema: &[u8], room: usize) -> Answer {
     let mut words = vec![0; room];
-    let (number, count) = compile_into(schema, &mut words);
-    Answer { number, count, words }
+    let (number, count, place) = compile_into(schema, &mut words);
+    Answer { number, count, place, words }
 }
 
-/// The same into words of the caller's; gives number and row count.
-pub fn compile_into(schema: &[u8], lent: &mut [u32]) -> (u32, u32) {
+/// The same into words of the caller's; gives number, row count and place.
+pub fn compile_into(schema: &[u8], lent: &mut [u32]) -> (u32, u32, u32) {
     lent.fill(0);
-    match table_of(schema, lent.len() / ROW) {
+    let table =
+        nodes_of(schema).and_then(|nodes| table_of(schema, &nodes, lent.len() / ROW).map_err(|refusal| (refusal, 0)));
+    match table {
         Ok(table) => {
             let words = table.as_flattened();
             lent[..words.len()].copy_from_slice(words);
-            (0, table.len() as u32)
+            (0, table.len() as u32, 0)
         }
-        Err(refusal) => (refusal.number(), 0),
+        Err((refusal, place)) => (refusal.number(), 0, place as u32),
     }
 }
 
-/// The rows of the table, if `lent` are enough.
-fn table_of(schema: &[u8], lent: usize) -> Result<Vec<[u32; ROW]>, Refusal> {
-    refuse_if(schema.len() > MOST_SCHEMA_BYTES, Refusal::TooLong)?;
-    let Verdict::Whole(nodes) = text::read(Dialect::Schema, schema, SCHEMA_LEVELS) else {
-        return Err(Refusal::NotSchemaText);
+/// The nodes of a text whose keys are fine, or a refusal and its place.
+fn nodes_of(schema: &[u8]) -> Result<Vec<Node>, (Refusal, usize)> {
+    if schema.len() > MOST_SCHEMA_BYTES {
+        return Err((Refusal::TooLong, 0));
+    }
+    let nodes = match text::read(Dialect::Schema, schema, SCHEMA_LEVELS) {
+        Verdict::Whole(nodes) => nodes,
+        Verdict::Fault(place) | Verdict::Deep(place) => return Err((Refusal::NotSchemaText, place)),
     };
-    refuse_if(keys::repeated_key(schema, &nodes).is_some(), Refusal::RepeatedKey)?;
-    let (mut table, names) = layout::lay_out(schema, &nodes)?;
+    match keys::repeated_key(schema, &nodes) {
+        Some(place) => Err((Refusal::RepeatedKey, place as usize)),
+        None => Ok(nodes),
+    }
+}
+
+/// The rows of the table, if `lent` are enough. No refusal from here on points anywhere.
+fn table_of(schema: &[u8], nodes: &[Node], lent: usize) -> Result<Vec<[u32; ROW]>, Refusal> {
+    let (mut table, names) = layout::lay_out(schema, nodes)?;
 
     let rows = Rows::new(table.as_flattened(), schema);
     refuse_if(rules::has_bad_name(rows), Refusal::BadName)?;

@@ -7,6 +7,7 @@
 
 mod decompile;
 mod messages;
+mod places;
 mod schemas;
 mod tables;
 mod texts;

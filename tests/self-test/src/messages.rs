@@ -1,9 +1,12 @@
-//! Checking: numbers and records agree with how messages were made, answers with other rooms.
+//! Checking: numbers and records agree with how messages were made, answers with other rooms, places with those found
+//! anew.
 
 use generate::messages::{MessageCase, Messages, Reading};
 use generate::{aims, Random};
 use harness::{check_bytes, check_expected, ensure, Check, Tally};
 use reference::message::{check as check_message, Answer};
+
+use crate::places;
 
 /// Words of as many records as any message has: 8,192 values at most, each with an alternate's record at most.
 const WHOLE_ROOM: usize = 16_400 * 4;
@@ -57,6 +60,7 @@ fn check_answer(case: &MessageCase, schema: &[u8], message: &[u8]) -> Check {
     check_form(&answer, case.room)?;
     check_form(&most, WHOLE_ROOM)?;
     ensure((answer.number, answer.row, answer.count) == expected, || format!("{answer:?}"))?;
+    places::check_message(answer.number, answer.place, message)?;
     ensure(answer.number != 0 || answer.words.starts_with(words), || "other records".to_string())?;
     check_records(&case.table, message, words)?;
     match needed.checked_sub(1) {

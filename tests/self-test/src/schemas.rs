@@ -1,10 +1,13 @@
-//! Compiling: numbers agree with how schemas were made, rows with their models, answers with other rooms.
+//! Compiling: numbers agree with how schemas were made, rows with their models, answers with other rooms, places with
+//! those found anew.
 
 use generate::schemas::{self, Schema, SchemaCase};
 use generate::{aims, Random};
 use harness::{check_bytes, check_expected, ensure, Check, Tally};
 use reference::schema::{compile, Answer};
 use reference::table::is_sound;
+
+use crate::places;
 
 /// Words of 1,024 rows.
 const WHOLE_ROOM: usize = 1_024 * 8;
@@ -55,6 +58,7 @@ fn check_answer(schema: &[u8], room: usize) -> Check {
     let words = &most.words[..needed];
     let expected = if most.number == 0 && needed > room { (13, 0) } else { (most.number, most.count) };
     ensure((answer.number, answer.count) == expected, || format!("{answer:?} in {room} words"))?;
+    places::check_schema(answer.number, answer.place, schema)?;
     ensure(answer.number != 0 || answer.words.starts_with(words), || "other rows".to_string())?;
     ensure(most.number != 0 || is_sound(words, schema), || "not sound".to_string())?;
     check_in_less_room(schema, &most)

@@ -1,5 +1,5 @@
-//! Product and reference asked the same: number, counts and every word lent must agree, and the answer must be the
-//! expected one.
+//! Product and reference asked the same: number, counts, place and every word lent must agree, and the answer must be
+//! the expected one.
 
 use harness::{check_expected, ensure};
 use reference::{message, schema, table};
@@ -32,9 +32,10 @@ pub fn check_message(schema: &[u8], message: &[u8], expected: (u32, usize, usize
 /// Number, row count and table.
 fn compile(text: &[u8]) -> Result<(u32, usize, Vec<u32>), String> {
     let mut words = vec![GARBAGE; SCHEMA_ROOM];
-    let (number, count) = calls::compile(text, &mut words);
+    let (number, count, place) = calls::compile(text, &mut words);
     let answer = schema::compile(text, SCHEMA_ROOM);
-    agree("number and rows", (number, count), (answer.number, answer.count as usize))?;
+    let expected = (answer.number, answer.count as usize, answer.place as usize);
+    agree("number, rows and place", (number, count, place), expected)?;
     agree_on_words(&words, &answer.words)?;
     words.truncate(count * ROW);
     if number == 0 {
@@ -47,11 +48,12 @@ fn compile(text: &[u8]) -> Result<(u32, usize, Vec<u32>), String> {
 /// Number, command row and record count.
 fn check(table: &[u32], schema: &[u8], text: &[u8]) -> Result<(u32, usize, usize), String> {
     let mut words = vec![GARBAGE; MESSAGE_ROOM];
-    let got = calls::check(table, schema, text, &mut words);
+    let (number, row, count, place) = calls::check(table, schema, text, &mut words);
     let answer = message::check(table, schema, text, MESSAGE_ROOM);
-    agree("number, command row and records", got, (answer.number, answer.row as usize, answer.count as usize))?;
+    let expected = (answer.number, answer.row as usize, answer.count as usize, answer.place as usize);
+    agree("number, command row, records and place", (number, row, count, place), expected)?;
     agree_on_words(&words, &answer.words)?;
-    Ok(got)
+    Ok((number, row, count))
 }
 
 fn agree_on_words(product: &[u32], reference: &[u32]) -> Result<(), String> {

@@ -19,7 +19,8 @@ enum Call {
     Check { table: Vec<u32>, schema: Vec<u8>, message: Vec<u8> },
 }
 
-/// A call, the words lent to it, and its answer: the numbers in their order, and the words used.
+/// A call, the words lent to it, and its answer: the numbers in their order, the last two a count and a place, and the
+/// words used.
 #[derive(Debug, PartialEq, Eq)]
 struct Case {
     call: Call,
@@ -35,7 +36,7 @@ impl Case {
             "compile" => Case {
                 call: Call::Compile { schema: object.bytes("schema")? },
                 lent: object.number("rows_lent")? * ROW,
-                numbers: vec![object.number("number")?, object.number("count")?],
+                numbers: object.numbers(["number", "count", "place"])?,
                 used: object.words("words")?,
             },
             "check" => Case {
@@ -45,13 +46,13 @@ impl Case {
                     message: object.bytes("message")?,
                 },
                 lent: object.number("records_lent")? * RECORD,
-                numbers: vec![object.number("number")?, object.number("row")?, object.number("count")?],
+                numbers: object.numbers(["number", "row", "count", "place"])?,
                 used: object.words("records")?,
             },
             other => return Err(format!("no call {other}")),
         };
         object.finish()?;
-        let (words, count) = (case.used.len(), *case.numbers.last().expect("an answer has a count"));
+        let (words, count) = (case.used.len(), case.numbers[case.numbers.len() - 2]);
         ensure(words == count * case.call.unit() && words <= case.lent, || {
             format!("{words} words of {count} in {} lent", case.lent)
         })?;
@@ -94,14 +95,14 @@ impl Call {
     fn answer(&self, calls: &dyn Calls, random: &mut Random, lent: &mut [u32]) -> Vec<usize> {
         match self {
             Call::Compile { schema } => {
-                let (number, count) = calls.compile(PlacedText::new(random, schema).bytes(), lent);
-                vec![number as usize, count]
+                let (number, count, place) = calls.compile(PlacedText::new(random, schema).bytes(), lent);
+                vec![number as usize, count, place]
             }
             Call::Check { table, schema, message } => {
                 let table = PlacedTable::new(random, table);
                 let [schema, message] = [schema, message].map(|text| PlacedText::new(random, text));
-                let (number, row, count) = calls.check(table.words(), schema.bytes(), message.bytes(), lent);
-                vec![number as usize, row, count]
+                let (number, row, count, place) = calls.check(table.words(), schema.bytes(), message.bytes(), lent);
+                vec![number as usize, row, count, place]
             }
         }
     }
@@ -120,11 +121,11 @@ mod tests {
 
     /// `{'command':'a'}` with one row lent.
     const COMPILE: &str = r#"{"call": "compile", "schema": "7b27636f6d6d616e64273a2761277d", "rows_lent": 1,
-        "number": 0, "count": 1, "words": [9, 12, 1, 0, 0, 0, 0, 0]}"#;
+        "number": 0, "count": 1, "place": 0, "words": [9, 12, 1, 0, 0, 0, 0, 0]}"#;
     /// `{"execute":"a"}` with two records lent.
     const CHECK: &str = r#"{"call": "check", "table": [9, 12, 1, 0, 0, 0, 0, 0],
         "schema": "7b27636f6d6d616e64273a2761277d", "message": "7b2265786563757465223a2261227d", "records_lent": 2,
-        "number": 0, "row": 0, "count": 1, "records": [0, 0, 0, 0]}"#;
+        "number": 0, "row": 0, "count": 1, "place": 0, "records": [0, 0, 0, 0]}"#;
 
     /// The text on one line.
     fn line(text: &str) -> String {
@@ -143,13 +144,18 @@ mod tests {
             ("[9, 12, 1, 0, 0, 0, 0, 1]", "[9, 12, 1, 0, 0, 0, 0, 0]"),
             ("\"number\": 7", "\"number\": 0"),
             ("\"rows_lent\": 0", "\"rows_lent\": 1"),
-            ("\"count\": 0, \"words\": []", "\"count\": 1, \"words\": [9, 12, 1, 0, 0, 0, 0, 0]"),
+            (
+                "\"count\": 0, \"place\": 0, \"words\": []",
+                "\"count\": 1, \"place\": 0, \"words\": [9, 12, 1, 0, 0, 0, 0, 0]",
+            ),
+            ("\"place\": 1", "\"place\": 0"),
         ] {
             assert!(check(&line(COMPILE).replace(right, wrong)).is_err(), "{wrong}");
         }
         for (wrong, right) in [
             ("\"records\": [0, 0, 0, 1]", "\"records\": [0, 0, 0, 0]"),
             ("\"row\": 1", "\"row\": 0"),
+            ("\"place\": 1", "\"place\": 0"),
             ("\"records_lent\": 0", "\"records_lent\": 2"),
         ] {
             assert!(check(&line(CHECK).replace(right, wrong)).is_err(), "{wrong}");
@@ -161,7 +167,8 @@ mod tests {
         for (wrong, right) in [
             ("\"call\": \"judge\"", "\"call\": \"compile\""),
             ("\"count\": 2", "\"count\": 1"),
-            ("\"number\": 0, \"place\": 0", "\"number\": 0"),
+            ("\"number\": 0, \"line\": 0", "\"number\": 0"),
+            ("", "\"place\": 0, "),
             ("", "\"rows_lent\": 1, "),
         ] {
             assert!(Case::parse(&line(COMPILE).replace(right, wrong)).is_err(), "{wrong}");

@@ -44,6 +44,11 @@ impl Object {
         number(&value).ok_or_else(|| format!("{key} is no number: {value:?}"))
     }
 
+    /// Several numbers, in the order of their keys.
+    pub fn numbers<const N: usize>(&mut self, keys: [&str; N]) -> Result<Vec<usize>, String> {
+        keys.into_iter().map(|key| self.number(key)).collect()
+    }
+
     /// An array of words.
     pub fn words(&mut self, key: &str) -> Result<Vec<u32>, String> {
         let words = match self.take(key)? {

@@ -7,7 +7,7 @@ use harness::usage::memory;
 use harness::{ensure, Check, Tally};
 use reference::stream::{self, Output};
 use windosprio::limits::MESSAGE_BYTES;
-use windosprio::{MessageRefusal, StreamReader};
+use windosprio::{Refused, StreamReader};
 
 const GIGABYTE: usize = 1 << 30;
 const BLOCK: usize = 1 << 20;
@@ -52,7 +52,7 @@ fn run(what: &str, block: &[u8], outputs: &[Output], before: &[u8], tally: &mut 
                 Output::Message(bytes) => Ok(*bytes),
                 Output::Refused(number) => Err(*number),
             });
-            let item: Given = item.map_err(|refusal: MessageRefusal| refusal.number());
+            let item: Given = item.map_err(Refused::number);
             ensure(next == Some(item), || format!("{what}: output {given} is {item:?}, not {next:?}"))?;
             given += 1;
         }

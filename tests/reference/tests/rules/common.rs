@@ -17,6 +17,7 @@ pub fn answer_with_room(text: &[u8], room: usize) -> schema::Answer {
     assert_eq!(answer.words.len(), room);
     assert!(answer.words[used..].iter().all(|&word| word == 0));
     assert!(answer.number == 0 || answer.count == 0);
+    assert!(matches!(answer.number, 2 | 3) || answer.place == 0);
     answer
 }
 
@@ -34,6 +35,7 @@ pub fn message_answer(schema: &str, message: &[u8], room: usize) -> message::Ans
     assert_eq!(answer.words.len(), room);
     assert!(answer.words[used..].iter().all(|&word| word == 0));
     assert!(answer.number == 0 || answer.count == 0 && answer.row == 0);
+    assert!(matches!(answer.number, 23..=25 | 29 | 30) || answer.place == 0);
     answer
 }
 

@@ -14,30 +14,32 @@ fn p1_is_whole() {
     let rows = [[9, 12, 8, 2, 0, 0, 0, 0], [3, 0, 0, 1, 0, 0, 0, 0], [4, 31, 3, 1, 0, 0, 0, 0]];
     assert_eq!(table(STOP_LOT.as_bytes()), rows.concat());
     let answer = message_answer(STOP_LOT, STOP_007.as_bytes(), MESSAGE_ROOM);
-    assert_eq!((answer.number, answer.row, answer.count), (0, 0, 2));
+    assert_eq!((answer.number, answer.row, answer.count, answer.place), (0, 0, 2, 0));
     assert_eq!(records(STOP_LOT, STOP_007), [[34, 47, 17, 0], [41, 46, 1, 0]]);
 }
 
 #[test]
-fn p2_to_p7_are_refused_with_their_numbers() {
+fn p2_to_p7_are_refused_with_their_numbers_and_places() {
     let cases = [
-        (29, r#"{"execute":"stop-lot","arguments":{"lot":7}}"#),
-        (23, r#"{"execute":"stop-lot","arguments":{"lot":007}}"#),
-        (29, r#"{"execute":"stop-lot"}"#),
-        (25, r#"{"execute":"stop-lot","arguments":{"lot":"007","lot":"007"}}"#),
-        (28, r#"{"exec-oob":"stop-lot","arguments":{"lot":"007"}}"#),
-        (23, ""),
-        (26, "5"),
+        (29, 34, r#"{"execute":"stop-lot","arguments":{"lot":7}}"#),
+        (23, 42, r#"{"execute":"stop-lot","arguments":{"lot":007}}"#),
+        (29, 0, r#"{"execute":"stop-lot"}"#),
+        (25, 47, r#"{"execute":"stop-lot","arguments":{"lot":"007","lot":"007"}}"#),
+        (28, 0, r#"{"exec-oob":"stop-lot","arguments":{"lot":"007"}}"#),
+        (23, 0, ""),
+        (26, 0, "5"),
     ];
-    for (number, message) in cases {
-        assert_eq!(message_number(STOP_LOT, message), number, "{message}");
+    for (number, place, message) in cases {
+        let answer = message_answer(STOP_LOT, message.as_bytes(), MESSAGE_ROOM);
+        assert_eq!((answer.number, answer.place), (number, place), "{message}");
     }
 }
 
 #[test]
 fn p8_room_for_one_record_is_too_little() {
-    let number = |room| message_answer(STOP_LOT, STOP_007.as_bytes(), room).number;
-    assert_eq!([0, 1, 4, 7, 8, 9].map(number), [30, 30, 30, 30, 0, 0]);
+    let answer = |room| message_answer(STOP_LOT, STOP_007.as_bytes(), room);
+    assert_eq!([0, 1, 4, 7, 8, 9].map(|room| answer(room).number), [30, 30, 30, 30, 0, 0]);
+    assert_eq!([4, 8].map(|room| answer(room).place), [34, 0]);
 }
 
 #[test]
@@ -45,18 +47,19 @@ fn every_lent_word_is_written_whatever_it_held() {
     let mut words = [7; 40];
     for schema in [STOP_LOT, "", "{}", "{'command':'c','returns':'int'}"] {
         words.fill(7);
-        let (number, count) = compile_into(schema.as_bytes(), &mut words);
+        let (number, count, place) = compile_into(schema.as_bytes(), &mut words);
         let answer = compile(schema.as_bytes(), words.len());
-        assert_eq!((number, count, &words[..]), (answer.number, answer.count, &answer.words[..]), "{schema}");
+        assert_eq!((number, count, place), (answer.number, answer.count, answer.place), "{schema}");
+        assert_eq!(words[..], answer.words, "{schema}");
     }
     let rows = table(STOP_LOT.as_bytes());
     let cases = [(&rows[..], STOP_007), (&rows[1..], STOP_007), (&rows, "5"), (&rows, r#"{"execute":"stop-lot"}"#)];
     for (rows, message) in cases {
         for room in [7, 8, 11, 40] {
             words.fill(7);
-            let (number, row, count) = check_into(rows, STOP_LOT.as_bytes(), message.as_bytes(), &mut words[..room]);
+            let got = check_into(rows, STOP_LOT.as_bytes(), message.as_bytes(), &mut words[..room]);
             let answer = check(rows, STOP_LOT.as_bytes(), message.as_bytes(), room);
-            assert_eq!((number, row, count), (answer.number, answer.row, answer.count), "{message}");
+            assert_eq!(got, (answer.number, answer.row, answer.count, answer.place), "{message}");
             assert_eq!(words[..room], answer.words, "{message}");
         }
     }

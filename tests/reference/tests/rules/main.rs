@@ -5,5 +5,6 @@ mod common;
 mod lots;
 mod messages;
 mod names_and_rules;
+mod places;
 mod rows_and_soundness;
 mod schema_text;
