@@ -62,7 +62,7 @@ __wrap_windosprio_stream_feed(uint64_t *state, uint8_t *buffer, size_t buffer_by
     if (is_fault("buffer-beyond") && buffer_bytes > WINDOSPRIO_MESSAGE_BYTES) buffer[WINDOSPRIO_MESSAGE_BYTES] = 0;
     if (is_fault("state-after")) state[WINDOSPRIO_STREAM_WORDS] = 0;
     if (is_fault("byte-lost") && piece_bytes > 1 && *taken == piece_bytes) --*taken;
-    if (is_fault("place-left")) *place = *taken + 1;
+    if (is_fault("stream-place-left")) *place = *taken + 1;
     if (is_fault("message-cut") && *message_bytes > 1) --*message_bytes;
     return number;
 }
