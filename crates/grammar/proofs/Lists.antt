@@ -44,6 +44,7 @@ same_comm x y = go (same x y) refl
 
 module _ {A : Type 0} (f : A → Bool) where
   pub all_true : (l : List A) → all f l ≡ true → (x : A) → Memᴰ x l → f x ≡ true
+  all_true [] e x m = elim m [ ]
   all_true (y ∷ l) e x (Memᴰ.head h) = rw h (both (f y) (all f l) e).0
   all_true (y ∷ l) e x (Memᴰ.tail m) = all_true l (both (f y) (all f l) e).1 x m
 

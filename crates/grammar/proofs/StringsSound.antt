@@ -51,7 +51,7 @@ unfolding char_step
 from_low3 {a = a} {b = b} {e = e} {h = h} {y = y} {z = z} ea eb g ee (char_on {b = d} w) =
     go (hex-run d (λ d. char (0x10000 + (h - 0xD800) * 0x400 + (((0xD0 + y) * 16 + z) * 16 + d - 0xDC00))) w)
   where
-    fin : {o q c : ℕ} {l r : List ℕ} (v : ℕ) → hex_digit d ≡ some v
+    fin : {o q : ℕ} {l r : List ℕ} (v : ℕ) {c : ℕ} → hex_digit d ≡ some v
         → CharRun message (char (0x10000 + (h - 0xD800) * 0x400 + (((0xD0 + y) * 16 + z) * 16 + v - 0xDC00))) (suc (suc (suc (suc (suc (suc o)))))) l q r c
         → Low h o (code "\\" ∷ code "u" ∷ a ∷ b ∷ e ∷ d ∷ l) q r c
     fin v ed char_whole = low (hex4 ea eb ee ed) (low_range y z v g (hex-low b y eb) (hex-low e z ee) (hex-low d v ed))
@@ -185,12 +185,12 @@ high-char : {p q c : ℕ} {l r : List ℕ} → Utf8 p l q r c → 0x80 ≤ c →
 high-char {c = c} u h g = plain u (unescaped-is c (record { from = omega arith; upto = g; no_quote = omega arith; no_backslash = omega arith }))
 
 -- two bytes; three and four, of which the first two make v
-two-char : {p q c : ℕ} {l r : List ℕ} (a : ℕ) → within 0xC2 0xDF a ≡ true → Last (a - 0xC0) (suc p) l q r c → MessageChar p (a ∷ l) q r c
+two-char : {p q : ℕ} {l r : List ℕ} (a : ℕ) {c : ℕ} → within 0xC2 0xDF a ≡ true → Last (a - 0xC0) (suc p) l q r c → MessageChar p (a ∷ l) q r c
 two-char a t (last {b = b} u) =
     let h = within-true 0xC2 0xDF a t in let g = within-true 0x80 0xBF b u in
     high-char (two (within-is 0xC0 0xDF a (omega arith) h.1) u refl (within-is 0x80 0x7FF (join (a - 0xC0) b) (omega arith) (omega arith))) (omega arith) (omega arith)
 
-three-char : {p q c : ℕ} {l r : List ℕ} (a b v : ℕ) → within 0xE0 0xEF a ≡ true → tail b ≡ true → v ≡ join (a - 0xE0) b → 0x20 ≤ v → v ≤ 0x3FF → Outside 0x360 0x37F v
+three-char : {p q : ℕ} {l r : List ℕ} (a b v : ℕ) {c : ℕ} → within 0xE0 0xEF a ≡ true → tail b ≡ true → v ≡ join (a - 0xE0) b → 0x20 ≤ v → v ≤ 0x3FF → Outside 0x360 0x37F v
     → Last v (suc (suc p)) l q r c → MessageChar p (a ∷ b ∷ l) q r c
 three-char a b v t u e h g n (last {b = c} w) =
     let i = within-true 0x80 0xBF c w in
@@ -200,7 +200,7 @@ three-char a b v t u e h g n (last {b = c} w) =
     free (below k) i j = within-below 0xD800 0xDFFF (join v c) (omega arith)
     free (above k) i j = within-above 0xD800 0xDFFF (join v c) (omega arith)
 
-four-char : {p q c : ℕ} {l r : List ℕ} (a b v : ℕ) → within 0xF0 0xF7 a ≡ true → tail b ≡ true → v ≡ join (a - 0xF0) b → 0x10 ≤ v → v ≤ 0x10F → LastTwo v (suc (suc p)) l q r c
+four-char : {p q : ℕ} {l r : List ℕ} (a b v : ℕ) {c : ℕ} → within 0xF0 0xF7 a ≡ true → tail b ≡ true → v ≡ join (a - 0xF0) b → 0x10 ≤ v → v ≤ 0x10F → LastTwo v (suc (suc p)) l q r c
     → MessageChar p (a ∷ b ∷ l) q r c
 four-char a b v t u e h g (last_two {b = c} {c = d} w x) =
     let i = within-true 0x80 0xBF c w in let j = within-true 0x80 0xBF d x in
