@@ -3,7 +3,7 @@
 use Prim.Native.Nat.{ℕ}
 use mathlib.Core.Path.{◌≡◌, refl}
 use mathlib.Core.Bool.{Bool, true, false, cond}
-use mathlib.Core.List.{List, ◌∷◌}
+use mathlib.Core.List.{List, [], ◌∷◌}
 use mathlib.Core.Option.{Option, none, some}
 use Rattle.grammar.specs.Notation.{text, all}
 use Rattle.grammar.specs.Tree.{Json, Fields}
@@ -59,8 +59,8 @@ module _ (fs : Fields) (N : Name → Type 0) (B : Body → Type 0) (name_of : (k
 
   pub if_definition : IfThere B (enum_body fs) → IfThere B (struct_body fs) → IfThere B (union_body fs) → IfThere B (alternate_body fs) → IfThere B (command_body fs) → IfThere (Both N B) (as_definition fs)
   if_definition e s u a c =
-      by_key (text "enum") _ (enum_body fs) _ e
-      (by_key (text "struct") _ (struct_body fs) _ s
-      (by_key (text "union") _ (union_body fs) _ u
-      (by_key (text "alternate") _ (alternate_body fs) _ a
-      (by_key (text "command") _ (command_body fs) none c tt))))
+      by_key (text "enum") (text "data" ∷ []) (enum_body fs) _ e
+      (by_key (text "struct") (text "data" ∷ text "base" ∷ []) (struct_body fs) _ s
+      (by_key (text "union") (text "base" ∷ text "discriminator" ∷ text "data" ∷ []) (union_body fs) _ u
+      (by_key (text "alternate") (text "data" ∷ []) (alternate_body fs) _ a
+      (by_key (text "command") (text "data" ∷ text "returns" ∷ text "allow-oob" ∷ []) (command_body fs) none c tt))))
