@@ -7,7 +7,7 @@ ghost use Rattle.builtins.specs.Ranges.{range_as};
 use crate::{INT, INT8, INT16, INT32, INT64, SIZE, UINT8, UINT16, UINT32, UINT64};
 
 // The most below 0 and the most above, or any number.
-#[derive(Drop)]
+#[derive(Clone, Copy)]
 pub enum Range {
     From(u64, u64),
     Any,

@@ -16,7 +16,7 @@ use rules::{MessageAnswer, RECORD_WORDS, SchemaAnswer};
 use wordings::heads::{put_message_head, put_schema_head};
 
 // How a program answers: in numbers, or in words and as a tree of records.
-#[derive(Drop)]
+#[derive(Clone, Copy)]
 pub enum Style {
     Numbers,
     Tree,
@@ -26,7 +26,7 @@ pub enum Style {
 pub const LINE: usize = 4 * NUMBER_ROOM + WORD_ROOM * RECORD_ROOM;
 
 // The place after what is put, and how many record words are to be shown after it.
-#[derive(Drop)]
+#[derive(Clone, Copy)]
 pub struct Said {
     pub at: usize,
     pub words: usize,

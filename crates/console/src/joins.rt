@@ -5,7 +5,7 @@ ghost use Rattle.console.specs.Serving.Joining.{Joins};
 use lines::ends::{keep, line_end};
 
 // A whole line in the first so many bytes of the carry, and the place in the chunk after its LF; or the chunk is used up, and so many bytes are kept.
-#[derive(Drop)]
+#[derive(Clone, Copy)]
 pub enum Joined {
     Line(usize, usize),
     More(usize),

@@ -15,14 +15,14 @@ use schema::compile::compile_schema;
 use trees::shown::put_bytes;
 
 // Nothing more; or messages, for the schema in the first so many bytes and its table in the first so many words.
-#[derive(Drop)]
+#[derive(Clone, Copy)]
 pub enum Next {
     Stop,
     Messages(usize, usize),
 }
 
 // The place after what is put first, and what follows it.
-#[derive(Drop)]
+#[derive(Clone, Copy)]
 pub struct Opening {
     pub at: usize,
     pub next: Next,

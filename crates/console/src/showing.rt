@@ -11,7 +11,7 @@ use walker::reader::{next, reader_at};
 use walker::records::Seen;
 
 // What is shown so far: the number of the record to ask for next, how many are open around it, the place after the lines put and not yet written; whether to ask on, and whether all could be written.
-#[derive(Drop)]
+#[derive(Clone, Copy)]
 pub struct Listing {
     pub next: usize,
     pub around: usize,

@@ -6,7 +6,7 @@ use crate::answers::{Style, put_answer};
 use crate::joins::{Joined, join_line};
 
 // A place in a chunk, how many bytes are kept of the line that goes on there, and the place after the answers put so far.
-#[derive(Drop)]
+#[derive(Clone, Copy)]
 pub struct Place {
     pub next: usize,
     pub kept: usize,
@@ -14,7 +14,7 @@ pub struct Place {
 }
 
 // The place after a line; and how long the message is and how many of its record words are to be shown, where any are.
-#[derive(Drop)]
+#[derive(Clone, Copy)]
 pub struct Taken {
     pub next: usize,
     pub kept: usize,

@@ -14,14 +14,14 @@ use libc::{STDIN_FILENO, STDOUT_FILENO};
 const OUT: usize = 2 * LINE;
 
 // How many bytes are kept of a line that goes on; or standard output can't be written.
-#[derive(Drop)]
+#[derive(Clone, Copy)]
 enum Turn {
     Kept(usize),
     Stop,
 }
 
 // The place after what is put and not yet written; or standard output can't be written.
-#[derive(Drop)]
+#[derive(Clone, Copy)]
 enum Wrote {
     At(usize),
     Stop,

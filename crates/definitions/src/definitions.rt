@@ -13,7 +13,7 @@ use text::nodes::{NODE_KIND, NODE_NEXT, node_number, node_word};
 use tokens::node;
 
 // The row kind that a kind key says, and the node of its value.
-#[derive(Drop)]
+#[derive(Clone, Copy)]
 pub enum KindKey {
     Key(u32, usize),
     NoKey,

@@ -9,7 +9,7 @@ use text::nodes::{NODE_KIND, NODE_NEXT, node_number, node_word};
 use tokens::node;
 
 // A type: a name, or a list of one name, by the word of the name; or any other value.
-#[derive(Drop)]
+#[derive(Clone, Copy)]
 pub enum TypeText {
     One(u32),
     ListOf(u32),
@@ -47,7 +47,7 @@ pub fn read_type(nodes: &[u32], k: usize) -> TypeText
 }
 
 // A type as the words of a row: the word of its name and 1 if it is a list; or refusal 4.
-#[derive(Drop)]
+#[derive(Clone, Copy)]
 pub enum TypeRead {
     Taken(u32, u32),
     Refused,
@@ -77,7 +77,7 @@ pub fn take_return(nodes: &[u32], k: usize) -> TypeRead
 }
 
 // A flag: 0 or 1, or no flag.
-#[derive(Drop)]
+#[derive(Clone, Copy)]
 pub enum FlagRead {
     Flag(u32),
     Refused,

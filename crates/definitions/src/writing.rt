@@ -7,14 +7,14 @@ use rules::ROW_WORDS;
 use words::put_four;
 
 // How many rows there are now, or that the schema breaks the table of keys.
-#[derive(Drop)]
+#[derive(Clone, Copy)]
 pub enum Put {
     Rows(usize),
     Refused,
 }
 
 // The words of a row as it is written: its kind, its name, words 4 to 7. Word 8 is 0.
-#[derive(Drop)]
+#[derive(Clone, Copy)]
 pub struct Row {
     pub kind: u32,
     pub start: u32,

@@ -25,7 +25,7 @@ fn row_of(link: u32) -> usize
 }
 
 // The links of the structs whose members an object has, a union's base and its branch's, 0 for no struct; or no object is read there.
-#[derive(Drop)]
+#[derive(Clone, Copy)]
 pub enum Structs {
     Links(u32, u32),
     NoObject,

@@ -13,14 +13,14 @@ use rows::rows::word;
 use rules::{MessageRefusal, row};
 
 // The node of the value, 0 where it is absent; how it is read; the second number of an acceptance.
-#[derive(Drop)]
+#[derive(Clone, Copy)]
 pub struct Asked {
     pub node: usize,
     pub how: ReadAs,
     pub second: usize,
 }
 
-#[derive(Drop)]
+#[derive(Clone, Copy)]
 pub enum Asking {
     Asks(Asked),
     Refuses(MessageRefusal),

@@ -27,7 +27,7 @@ const SHORT_MESSAGE: usize = MESSAGE_BYTES / 4;
 const SHORT_ROOM: usize = NODE_WORDS * (SHORT_MESSAGE / 2);
 
 // The message's value stands in the nodes from node 0 on; or why there is none, and at which place.
-#[derive(Drop)]
+#[derive(Clone, Copy)]
 pub enum TextFound {
     Value,
     Refused(MessageRefusal, usize),

@@ -13,7 +13,7 @@ use strings::decoded::Decoded;
 use strings::dialects::Dialect;
 use text::nodes::{NODE_KIND, node_word};
 
-#[derive(Drop)]
+#[derive(Clone, Copy)]
 pub enum Command {
     Row(usize),
     Unknown,

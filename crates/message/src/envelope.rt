@@ -9,7 +9,7 @@ use text::nodes::{NODE_KIND, node_word};
 use tokens::node;
 
 // The node of the command's name, whether it is out of band, and the node of the arguments, 0 if they are absent.
-#[derive(Drop)]
+#[derive(Clone, Copy)]
 pub enum Envelope {
     Call(usize, bool, usize),
     Improper,

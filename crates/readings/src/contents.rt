@@ -12,7 +12,7 @@ use text::nodes::{NODE_KIND, node_word};
 use tokens::node;
 
 // Inside a value: nothing more than its own record, its elements, or its fields as members of the structs with two links; or it doesn't fit.
-#[derive(Drop)]
+#[derive(Clone, Copy)]
 pub enum Content {
     Alone,
     Elements,

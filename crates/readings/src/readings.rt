@@ -16,14 +16,14 @@ use rules::row;
 use text::nodes::{NODE_END, NODE_NEXT, NODE_START, node_number, node_word};
 
 // How many records there are now, or that there is no reading.
-#[derive(Drop)]
+#[derive(Clone, Copy)]
 pub enum Count {
     Records(usize),
     Nothing,
 }
 
 // At which type a value is read: a type reference, 1 if as an array of it, and whether keys that no member has pass.
-#[derive(Drop)]
+#[derive(Clone, Copy)]
 pub struct ReadAs {
     pub reference: u32,
     pub array: u32,
@@ -31,7 +31,7 @@ pub struct ReadAs {
 }
 
 // The structs whose members an object has, as links, 0 for none, and whether keys that no member has pass.
-#[derive(Drop)]
+#[derive(Clone, Copy)]
 pub struct Members {
     pub base: u32,
     pub branch: u32,
@@ -39,7 +39,7 @@ pub struct Members {
 }
 
 // The node that is read, the levels left below it, and the count of records so far.
-#[derive(Drop)]
+#[derive(Clone, Copy)]
 pub struct At {
     pub node: usize,
     pub left: usize,

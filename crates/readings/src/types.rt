@@ -9,7 +9,7 @@ use rules::{kind, row};
 use table::alternates::type_kind;
 use text::nodes::{NODE_KIND, node_word};
 
-#[derive(Drop)]
+#[derive(Clone, Copy)]
 pub enum Choice {
     Itself,
     Alternative(u32),

@@ -62,7 +62,7 @@ fn put_command(s: &[u8], rows: &mut [u32], heads: &[u32; BUCKETS], links: &[u32]
 }
 
 // What a row names by its words: a struct or any type, by one word; what a union or a command does; or nothing.
-#[derive(Drop)]
+#[derive(Clone, Copy)]
 enum Slot {
     Word(bool, usize),
     Data,

@@ -3,7 +3,7 @@ pub mod kind;
 pub mod row;
 
 // Why a schema is refused, in the order of the reference's table (Schema answers, 1 to 13).
-#[derive(Drop)]
+#[derive(Clone, Copy)]
 pub enum SchemaRefusal {
     TooLong,
     NotText,
@@ -21,14 +21,14 @@ pub enum SchemaRefusal {
 }
 
 // Accepted with a count of rows, or refused at a place.
-#[derive(Drop)]
+#[derive(Clone, Copy)]
 pub enum SchemaAnswer {
     Accepted(usize),
     Refused(SchemaRefusal, usize),
 }
 
 // Why a message is refused, in the order of the reference's table (Message answers, 21 to 30).
-#[derive(Drop)]
+#[derive(Clone, Copy)]
 pub enum MessageRefusal {
     UnsoundTable,
     TooLong,
@@ -43,7 +43,7 @@ pub enum MessageRefusal {
 }
 
 // Accepted with the command's row and a count of records, or refused at a place.
-#[derive(Drop)]
+#[derive(Clone, Copy)]
 pub enum MessageAnswer {
     Accepted(usize, usize),
     Refused(MessageRefusal, usize),

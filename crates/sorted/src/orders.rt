@@ -6,7 +6,7 @@ ghost use Rattle.sorted.specs.Orders.{order, meant_by, stands_for, stands_at};
 use crate::spans::span;
 
 // How the first of two stands to the second.
-#[derive(Drop)]
+#[derive(Clone, Copy)]
 pub enum Order {
     Before,
     Same,
@@ -14,7 +14,7 @@ pub enum Order {
 }
 
 // What bytes stand for: themselves, or a name in C.
-#[derive(Drop)]
+#[derive(Clone, Copy)]
 pub enum Sense {
     Bytes,
     NameInC,

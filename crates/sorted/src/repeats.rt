@@ -13,7 +13,7 @@ use words::number_at;
 const MOST: usize = 0xFFFF_FFFF;
 
 // The first that repeats one before it, none, or that the search was given up.
-#[derive(Drop)]
+#[derive(Clone, Copy)]
 pub enum Found {
     Never,
     At(usize),

@@ -156,6 +156,7 @@ module _ {p : ℕ} where
   key_turns a fs k b i = tests (eqb b (code "\"")) (goes_to (InString (as_key a fs p) []) k i) sticks
 
   follow_turns : (v : Json) (k : Stack) (b : ℕ) → Framed k → Turns p (follow message message_levels v k p b) (follow_turn (frames k) b)
+  follow_turns v (bottom _) b i = elim i [ ]
   follow_turns v (in_array a js k) b (under_array i) =
       tests (eqb b (code ",")) (goes_to AtValue (in_array a (item v js) k) (under_array i)) (tests (eqb b (code "]")) (closes (λ a. arr a (suc p) (reverse_items js (item v no_items))) array false i) sticks)
   follow_turns v (in_object a fs s e cs k) b (under_object i) =

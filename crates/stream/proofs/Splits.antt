@@ -27,6 +27,8 @@ no_refusal h = let z : ◌≡◌ {A = ℕ} 0 1 = cc in absurd (omega arith)
 
 mutual
   pub stream_hands : {limit : ℕ} {l m : List ℕ} {os : List Output} {e : End} → Stream limit l os e → Memᴰ (message m) os → Handed limit m
+  stream_hands Stream.done h = elim h [ ]
+  stream_hands (Stream.begun _ _) h = elim h [ ]
   stream_hands (Stream.gap t d) h = stream_hands d h
   stream_hands {limit} (Stream.whole e w i d) (Memᴰ.head h) = subst (λ (m : List ℕ). Handed limit m) (same-message h) (record { whole = w; short = i })
   stream_hands (Stream.whole e w i d) (Memᴰ.tail h) = stream_hands d h
@@ -36,5 +38,6 @@ mutual
   stream_hands (Stream.lost e r d) (Memᴰ.tail h) = skips_hand d h
 
   pub skips_hand : {limit : ℕ} {l m : List ℕ} {os : List Output} {e : End} → Skips limit l os e → Memᴰ (message m) os → Handed limit m
+  skips_hand Skips.over h = elim h [ ]
   skips_hand (Skips.skip t d) h = skips_hand d h
   skips_hand (Skips.clear t d) h = stream_hands d h

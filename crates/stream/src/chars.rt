@@ -54,7 +54,7 @@ const THREE_F4: u64 = 20;
 const NO_DIGIT: u8 = 16;
 
 // After a byte: more bytes are wanted, in this mode; the character is complete; or the byte does not fit.
-#[derive(Drop)]
+#[derive(Clone, Copy)]
 pub enum CharTurn {
     Stay(u64),
     Char,

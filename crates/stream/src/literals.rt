@@ -11,7 +11,7 @@ use crate::chars::within;
 use crate::mode;
 
 // The byte belongs to the number, which is then in this mode, or it does not.
-#[derive(Drop)]
+#[derive(Clone, Copy)]
 pub enum NumberTurn {
     On(u64),
     Off,

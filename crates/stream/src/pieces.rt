@@ -13,7 +13,7 @@ use grammar::MESSAGE_BYTES;
 use rules::MessageRefusal;
 
 // After a byte: it is passed over; it is kept in the buffer as the next byte of a message, or as its last; the message is lost to a refusal, or to a byte that clears.
-#[derive(Drop)]
+#[derive(Clone, Copy)]
 pub enum Outcome {
     ToBetween,
     ToSkipping,
@@ -24,7 +24,7 @@ pub enum Outcome {
 }
 
 // What a call hands out: nothing, since its piece is over; a message of so many bytes; a refusal.
-#[derive(Drop)]
+#[derive(Clone, Copy)]
 pub enum Said {
     Nothing,
     Message(usize),
@@ -32,7 +32,7 @@ pub enum Said {
 }
 
 // What a call gives: where the reader stands now, what is handed out, and how many bytes of the piece are taken.
-#[derive(Drop)]
+#[derive(Clone, Copy)]
 pub struct Fed {
     pub state: State,
     pub said: Said,

@@ -5,7 +5,7 @@ use crate::pieces::{Said, feed};
 use crate::state::{Words, state_of, words_of};
 
 // What a call gives: the words to keep, what is handed out, and how many bytes of the piece are taken.
-#[derive(Drop)]
+#[derive(Clone, Copy)]
 pub struct Read {
     pub words: Words,
     pub said: Said,

@@ -6,7 +6,7 @@ ghost use Rattle.stream.specs.Serving.Contracts.{standing_of, InnerState, StateO
 use crate::{mode, nesting};
 
 // Between messages; in what a refusal skips; or inside a message: what is read next, the open brackets, and how many of its bytes are in the buffer.
-#[derive(Drop)]
+#[derive(Clone, Copy)]
 pub enum State {
     Between,
     Skipping,
@@ -14,7 +14,7 @@ pub enum State {
 }
 
 // The words: 0 for the mode is between messages, another that is none is skipping.
-#[derive(Drop)]
+#[derive(Clone, Copy)]
 pub struct Words {
     pub mode: u64,
     pub nest: u64,

@@ -10,7 +10,7 @@ use crate::literals::{NumberTurn, begin_number, may_end, number_turn, wanted_byt
 use crate::{mode, nesting};
 
 // After a byte: a mode and the open brackets; the outermost bracket is closed; no text goes on so; or only one with more levels.
-#[derive(Drop)]
+#[derive(Clone, Copy)]
 pub enum Turn {
     To(u64, u64),
     Ended,

@@ -10,7 +10,7 @@ ghost use Rattle.strings.specs.Strings.{grammar_of};
 use crate::dialects::Dialect;
 
 // A code point and the place past it, or the place of the first byte that no character could have there.
-#[derive(Drop)]
+#[derive(Clone, Copy)]
 pub enum Char {
     Code(u32, usize),
     Fault(usize),

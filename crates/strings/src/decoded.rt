@@ -6,7 +6,7 @@ use crate::chars::{Char, next_char};
 use crate::dialects::Dialect;
 
 // How many of the lent bytes are the string's code points; or it has more of them, or one that is no byte.
-#[derive(Drop)]
+#[derive(Clone, Copy)]
 pub enum Decoded {
     Whole(usize),
     Other,

@@ -1,5 +1,5 @@
 // The two dialects of text: that of schemas and that of messages.
-#[derive(Drop)]
+#[derive(Clone, Copy)]
 pub enum Dialect {
     Schema,
     Message,

@@ -11,7 +11,7 @@ use crate::classes::class_in;
 use crate::dialects::Dialect;
 
 // The place past the closing quote, of a string whose bytes are its code points or of any other; or the place of the first byte that no string could have there.
-#[derive(Drop)]
+#[derive(Clone, Copy)]
 pub enum StringRead {
     Plain(usize),
     Coded(usize),

@@ -94,7 +94,7 @@ pub fn is_member(rows: &[u32], link: usize, left: usize, m: usize) -> bool
 }
 
 // What the members of a struct are judged against: the children of a row, or the members of the struct with a link.
-#[derive(Drop)]
+#[derive(Clone, Copy)]
 pub enum Against {
     Children(usize),
     Members(usize),

@@ -10,7 +10,7 @@ use rows::rows::{child_count, first_child, next_row, word};
 use rules::{kind, row};
 
 // What a string may look like.
-#[derive(Drop)]
+#[derive(Clone, Copy)]
 pub enum Like {
     Number,
     Boolean,

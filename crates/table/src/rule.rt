@@ -11,7 +11,7 @@ use rows::rows::{wide, word};
 use rules::{ROW_WORDS, kind, row};
 
 // A rule on the rows of one kind: the chain of a struct, a union, an alternate, what a command returns.
-#[derive(Drop)]
+#[derive(Clone, Copy)]
 pub enum Rule {
     Chains,
     Unions,

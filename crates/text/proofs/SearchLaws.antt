@@ -182,6 +182,7 @@ record Before (f : ℕ → List ℕ) (m : ℕ) (x : List ℕ) : Type 0 where
   pub is : f number ≡ x
 
 in_passed : (f : ℕ → List ℕ) (m : ℕ) {x : List ℕ} → Memᴰ x (passed f m) → Before f m x
+in_passed f zero h = elim h [ ]
 in_passed f (suc m) (Memᴰ.head e) = record { number = m; below = omega arith; is = sym e }
 in_passed f (suc m) (Memᴰ.tail e) = let b = in_passed f m e in record { number = b.number; below = omega (arith, b.below); is = b.is }
 

@@ -5,14 +5,14 @@ ghost use Rattle.text.specs.Containers.{OpeningAt, closing, container_node};
 use tokens::node;
 
 // What brackets hold: values, or members.
-#[derive(Drop)]
+#[derive(Clone, Copy)]
 pub enum Container {
     Array,
     Object,
 }
 
 // A bracket that opens a container; or another byte, or the end.
-#[derive(Drop)]
+#[derive(Clone, Copy)]
 pub enum Opening {
     Bracket(Container),
     Other,

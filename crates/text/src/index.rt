@@ -18,7 +18,7 @@ use words::{number_at, put_word, wide};
 const LONG: usize = MESSAGE_BYTES / 2;
 
 // A key is new, repeats one, or its bucket was given up.
-#[derive(Drop)]
+#[derive(Clone, Copy)]
 pub enum Lookup {
     New,
     Again,

@@ -28,14 +28,14 @@ const FEW_LINKS: usize = LINKS / 8;
 const FEWEST_LINKS: usize = LINKS / 64;
 
 // The place of the opening quote of the earliest key that repeats one before it in the same object.
-#[derive(Drop)]
+#[derive(Clone, Copy)]
 pub enum Repeated {
     Never,
     At(usize),
 }
 
 // The objects before node `at` are searched; `best` is the least node found, or the number of nodes.
-#[derive(Drop)]
+#[derive(Clone, Copy)]
 pub struct Progress {
     pub at: usize,
     pub best: usize,

@@ -15,7 +15,7 @@ use tokens::scalars::{ScalarRead, read_scalar};
 use tokens::separators::{Following, KeyRead, read_following, read_key};
 
 // The place past what was read and the next node; or the place of the first byte that fits nothing; or that of a bracket that opens a level too many.
-#[derive(Drop)]
+#[derive(Clone, Copy)]
 pub enum Read {
     Past(usize, usize),
     Fault(usize),
@@ -55,7 +55,7 @@ fn scalar_node(
 }
 
 // The value after blanks at `i`, from node k on, with `left` levels left.
-#[cycle(read_at_read_container_read_entry_read_member_read_value)]
+#[cycle(readers)]
 pub fn read_value(
     s: &[u8],
     classes: &[u8; 256],
@@ -73,7 +73,7 @@ pub fn read_value(
 }
 
 // The value that stands at `at`, where no blank does, from node k on.
-#[cycle(read_at_read_container_read_entry_read_member_read_value)]
+#[cycle(readers)]
 pub fn read_at(
     s: &[u8],
     classes: &[u8; 256],
@@ -93,7 +93,7 @@ pub fn read_at(
 }
 
 // The container whose bracket stands at `at`, as node k.
-#[cycle(read_at_read_container_read_entry_read_member_read_value)]
+#[cycle(readers)]
 fn read_container(
     s: &[u8],
     classes: &[u8; 256],
@@ -145,7 +145,7 @@ fn read_container(
 }
 
 // The entry after blanks at `i`, from node k on: a value of an array, or a member of an object.
-#[cycle(read_at_read_container_read_entry_read_member_read_value)]
+#[cycle(readers)]
 fn read_entry(
     s: &[u8],
     classes: &[u8; 256],
@@ -166,7 +166,7 @@ fn read_entry(
 }
 
 // The member after blanks at `i`: its key as node k, its value from node k + 1 on.
-#[cycle(read_at_read_container_read_entry_read_member_read_value)]
+#[cycle(readers)]
 fn read_member(
     s: &[u8],
     classes: &[u8; 256],

@@ -14,7 +14,7 @@ use tokens::blanks::skip_blanks;
 const MOST_BYTES: usize = 0x7FFF_FFFF;
 
 // The number of nodes of a whole text; or the place of the first byte that fits nothing; or that of a bracket that opens a level too many; or more bytes than nodes can speak of.
-#[derive(Drop)]
+#[derive(Clone, Copy)]
 pub enum Text {
     Whole(usize),
     Fault(usize),

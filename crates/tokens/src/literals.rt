@@ -9,14 +9,14 @@ use strings::class;
 use strings::classes::class_in;
 
 // The place past what was read, or the place of the first byte that could not stand there.
-#[derive(Drop)]
+#[derive(Clone, Copy)]
 pub enum TokenRead {
     Past(usize),
     Fault(usize),
 }
 
 // The place past a number, which is an integer or not; or the place of the first byte that could not stand there.
-#[derive(Drop)]
+#[derive(Clone, Copy)]
 pub enum NumberRead {
     Integer(usize),
     Other(usize),

@@ -13,7 +13,7 @@ use strings::dialects::Dialect;
 use strings::strings::{StringRead, read_string};
 
 // The kind of a node and the place past the value; or the place of the first byte that no value could have there.
-#[derive(Drop)]
+#[derive(Clone, Copy)]
 pub enum ScalarRead {
     Found(u32, usize),
     Fault(usize),

@@ -11,14 +11,14 @@ use strings::dialects::Dialect;
 use strings::strings::{StringRead, read_string};
 
 // A key: its start, its end, its node's kind, and the place past the colon; or the place of the first byte that could not stand there.
-#[derive(Drop)]
+#[derive(Clone, Copy)]
 pub enum KeyRead {
     Key(usize, usize, u32, usize),
     Fault(usize),
 }
 
 // Past a comma, past the closing bracket, or at neither.
-#[derive(Drop)]
+#[derive(Clone, Copy)]
 pub enum Following {
     Comma(usize),
     Close(usize),

@@ -15,14 +15,14 @@ use rules::{kind, row};
 use walker::records::{Seen, least, part_of, record_at};
 
 // Where a byte stands that is looked for.
-#[derive(Drop)]
+#[derive(Clone, Copy)]
 pub enum BytePlace {
     At(usize),
     Missing,
 }
 
 // Where the key before a value stands in the message; or the value has none.
-#[derive(Drop)]
+#[derive(Clone, Copy)]
 pub enum Label {
     Key(usize, usize),
     Element,

@@ -25,7 +25,7 @@ const RIGHT_ROOM: usize = TYPE_ROOM + SHOWN_ROOM + 6;
 pub const LINE_ROOM: usize = LEFT_ROOM + RIGHT_ROOM;
 
 // The number of the record that is shown next, how many are open around it, and the place after the lines put.
-#[derive(Drop)]
+#[derive(Clone, Copy)]
 pub struct Progress {
     pub next: usize,
     pub around: usize,
@@ -33,7 +33,7 @@ pub struct Progress {
 }
 
 // What a record says of a value: where it stands in the message, and its type.
-#[derive(Drop)]
+#[derive(Clone, Copy)]
 struct Typed {
     start: usize,
     end: usize,

@@ -6,7 +6,7 @@ ghost use Rattle.walker.specs.Seeing.{seen_at, place_after, part_of};
 use rules::RECORD_WORDS;
 
 // A record: start, end, type reference, 1 if array. Or there is none.
-#[derive(Drop)]
+#[derive(Clone, Copy)]
 pub enum Seen {
     Record(u32, u32, u32, u32),
     Nothing,

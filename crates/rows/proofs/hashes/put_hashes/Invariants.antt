@@ -1,0 +1,16 @@
+-- `hashes::put_hashes` writes the hashes of the first rows.
+-- The loop writes one hash at a time.
+use Prim.Native.Nat.{◌-◌}
+use mathlib.Core.Path.{ap, ◌∙◌}
+use native.Mathlib.Omega.{arith}
+use lib.ListN.{length, length-set}
+use borrow.Author.Rules.{rules}
+use Rattle.rows.specs.Hashes.{hash_of}
+use Rattle.rows.proofs.HashLaws.{HashesTo, hashes_none, hashes_more, hashes_all}
+use Rattle.rows.proofs.hashes.put_hashes.Given as goal
+
+abbrev pub invariant-loop-r : goal.invariant-loop-r
+invariant-loop-r l = HashesTo l.schema l.rows l.hashes (length l.initial.hashes) l.r
+
+abbrev pub decreases-loop-r : goal.decreases-loop-r
+decreases-loop-r l = length l.hashes - l.r

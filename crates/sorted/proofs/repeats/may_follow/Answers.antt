@@ -1,0 +1,6 @@
+-- `repeats::may_follow` meets its contract: by how the two stand.
+use borrow.Author.Rules.{rules}
+use Rattle.sorted.proofs.repeats.may_follow.Goals as goal
+
+pub returns-in-Same : goal.returns-in-Same
+returns-in-Same c = rw c.in-Same.is

@@ -1,0 +1,12 @@
+-- `bytes::same_blocks` compares two parts block by block, and what is left byte by byte: the loop has passed only equal blocks.
+use Prim.Native.Nat.{◌-◌, ◌≤◌}
+use native.Mathlib.Omega.{arith}
+use borrow.Author.Rules.{rules}
+use Rattle.strings.proofs.Parts.{Agree, agree_none, agree_block, block_differs, parts-left}
+use Rattle.strings.proofs.bytes.same_blocks.Given as goal
+
+abbrev pub invariant-loop-k : goal.invariant-loop-k
+invariant-loop-k l = (l.k ≤ l.n) × Agree l.s l.i l.t l.j l.k
+
+abbrev pub decreases-loop-k : goal.decreases-loop-k
+decreases-loop-k l = l.n - l.k

@@ -1,0 +1,28 @@
+-- `hashes::codes_hash` gives the hash of a string's code points.
+-- The invariant: what is left, from the hash so far, has the hash of the whole. The measure is the bytes left.
+use Prim.Native.Nat.{◌-◌}
+use native.Mathlib.Omega.{arith}
+use lib.ListN.{length}
+use borrow.Author.Rules.{rules}
+use Rattle.strings.specs.Strings.{grammar_of}
+use Rattle.strings.proofs.StringReads.{moves}
+use Rattle.strings.proofs.HashLaws.{HashedCodes, codes-start, codes_outside, codes-end, codes-more, codes-past}
+use Rattle.strings.proofs.hashes.codes_hash.Goals as goal
+
+pub returns-then-s-a : goal.returns-then-s-a
+returns-then-s-a c = codes_outside _ _ _ c.if-s-a.true
+
+pub loop-i-init : goal.loop-i-init
+loop-i-init c = codes-start _ _ _
+
+pub returns-in-Fault : goal.returns-in-Fault
+returns-in-Fault c = codes-end c.args.dialect c.loop-i.invariant c.next_char.ensures c.in-Fault.is
+
+pub loop-i-smaller : goal.loop-i-smaller
+loop-i-smaller c = omega (arith, moves c.args.dialect _ _ c.next_char.ensures c.in-Code.is, c.loop-i-test.true)
+
+pub loop-i-preserved : goal.loop-i-preserved
+loop-i-preserved c = codes-more c.args.dialect c.loop-i.invariant c.next_char.ensures c.in-Code.is c.mix-hash.ensures
+
+pub returns : goal.returns
+returns c = codes-past c.args.dialect c.loop-i.invariant c.loop-i-test.false

@@ -1,0 +1,44 @@
+-- `text::strings::message_string` reads a message string.
+-- The loop's invariant: the string is read up to `i`, and a byte that is not plain stands before `i` or at it.
+use Prim.Native.Nat.{◌-◌}
+use native.Mathlib.Omega.{arith}
+use borrow.Author.Rules.{rules}
+use lib.ListN.{length}
+use mathlib.Core.Logic.{⊎_elim}
+use Rattle.strings.specs.declared.dialects.Dialect.TheVariants.{Message}
+use Rattle.strings.proofs.StringReads.{moves, CodedTo, plain_string_lem, coded-starts, coded-more, coded-string, coded-fault, coded-ends}
+use Rattle.strings.proofs.strings.message_string.Goals as goal
+use Rattle.strings.proofs.strings.message_string.Goals.{then-i-s+else-s-i-eq34, else-i-s}
+
+pub plain_end-i-requires : goal.plain_end-i-requires
+plain_end-i-requires c = c.requires.0
+
+pub returns-then-s-i-eq34 : goal.returns-then-s-i-eq34
+returns-then-s-i-eq34 c =
+    plain_string_lem c.requires.1 c.plain_end-i.ensures c.if-i-s.true c.if-s-i-eq34.true
+
+pub loop-i-init : goal.loop-i-init
+loop-i-init c =
+    coded-starts c.requires.1 c.plain_end-i.ensures (elim c.if-i-s.branch [ then-i-s+else-s-i-eq34 w ↦ λ h. w.if-s-i-eq34.false | else-i-s w ↦ λ h. absurd (omega (arith, w.if-i-s.false)) ])
+
+pub returns-then-s-i-eq34-2 : goal.returns-then-s-i-eq34-2
+returns-then-s-i-eq34-2 c = coded-string c.loop-i.invariant c.loop-i-test.true c.if-s-i-eq34-2.true
+
+pub returns-in-Fault : goal.returns-in-Fault
+returns-in-Fault c =
+    coded-fault c.loop-i.invariant c.if-s-i-eq34-2.false c.message_char.ensures c.in-Fault.is
+
+pub plain_end-i-requires-in-Code : goal.plain_end-i-requires-in-Code
+plain_end-i-requires-in-Code c = c.requires.0
+
+pub loop-i-smaller : goal.loop-i-smaller
+loop-i-smaller c =
+    omega
+    (arith, moves Message _ _ c.message_char.ensures c.in-Code.is, c.plain_end-i-in-Code.ensures.on, c.loop-i-test.true)
+
+pub loop-i-preserved : goal.loop-i-preserved
+loop-i-preserved c =
+    coded-more c.loop-i.invariant c.message_char.ensures c.in-Code.is c.plain_end-i-in-Code.ensures
+
+pub returns : goal.returns
+returns c = coded-ends c.loop-i.invariant c.loop-i-test.false

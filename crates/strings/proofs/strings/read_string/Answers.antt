@@ -1,0 +1,10 @@
+-- `text::strings::read_string` reads a string of the dialect that it is asked for.
+-- By the dialect.
+use borrow.Author.Rules.{rules}
+use Rattle.strings.proofs.strings.read_string.Goals as goal
+
+pub returns-in-Schema : goal.returns-in-Schema
+returns-in-Schema c = rw c.in-Schema.is c.schema_string.ensures
+
+pub returns-in-Message : goal.returns-in-Message
+returns-in-Message c = rw c.in-Message.is c.message_string.ensures

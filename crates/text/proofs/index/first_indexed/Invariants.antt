@@ -1,0 +1,17 @@
+-- `index::first_indexed` meets its contract: the keys before node i are listed, and repeat none.
+-- The measure is the nodes left.
+use Prim.Native.Nat.{◌-◌, ◌≤◌}
+use native.Mathlib.Omega.{arith}
+use mathlib.Core.Path.{◌≡◌, refl, ◌∙◌, subst}
+use lib.ListN.{length}
+use borrow.Author.Rules.{rules}
+use Rattle.strings.specs.Strings.{grammar_of}
+use Rattle.text.specs.Index.{LooksUp}
+use Rattle.text.proofs.IndexLaws.{Listing, listing_start, listing-given, listing_hit, listing-length, listing-on, listing_stuck, listing-end}
+use Rattle.text.proofs.index.first_indexed.Given as goal
+
+abbrev pub invariant-loop-i : goal.invariant-loop-i
+invariant-loop-i l = (l.b ≤ l.i) × (length l.links ≡ length l.initial.links) × Listing (grammar_of l.dialect) l.s l.nodes l.b l.end l.heads l.links l.i
+
+abbrev pub decreases-loop-i : goal.decreases-loop-i
+decreases-loop-i l = l.end - l.i

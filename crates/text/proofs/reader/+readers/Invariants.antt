@@ -1,0 +1,34 @@
+-- The readers of values, containers, entries and members meet their contracts. They call each other with fewer levels, or with the same and a smaller rank.
+-- In the loop the entries so far are the invariant, and what is left of the text is the measure. Each return is a law of its own.
+use Prim.Native.Nat.{ℕ, ◌+◌, ◌-◌, ◌*◌, ◌<◌}
+use native.Mathlib.Omega.{arith}
+use lib.ListN.{length}
+use borrow.Author.Rules.{rules}
+use Rattle.strings.specs.Strings.{grammar_of}
+use Rattle.tokens.proofs.StringTokens.{dialect_complete as laws}
+use Rattle.text.proofs.Inside.{entry-told, comma_on, close-on, reached-ready, reached-fits}
+use Rattle.text.proofs.Values.{stood, missed, opens, container-at, unbracketed, scalar-at, ready-after, value_after, value-entry}
+use Rattle.text.proofs.Pairs.{key-ready, pair_fits, pair_read, pair-stop, key-stop}
+use Rattle.text.proofs.Entries.{EntriesAt, container-too_deep, entries_none, entries_begin, entries-past, entries-stop, entries_comma, entries-close, entries_neither}
+use Rattle.text.proofs.reader.+readers.Given as goal
+
+abbrev pub decreases-read_at : goal.decreases-read_at
+decreases-read_at l = 5 * l.left + 1
+
+abbrev pub decreases-read_container : goal.decreases-read_container
+decreases-read_container l = 5 * l.left
+
+abbrev pub decreases-read_entry : goal.decreases-read_entry
+decreases-read_entry l = 5 * l.left + 4
+
+abbrev pub decreases-read_member : goal.decreases-read_member
+decreases-read_member l = 5 * l.left + 3
+
+abbrev pub decreases-read_value : goal.decreases-read_value
+decreases-read_value l = 5 * l.left + 2
+
+abbrev pub invariant-read_container-loop-e : goal.invariant-read_container-loop-e
+invariant-read_container-loop-e l = EntriesAt l.shape l.close (grammar_of l.dialect) l.s l.initial.nodes l.nodes l.at l.k l.left l.i l.n
+
+abbrev pub decreases-read_container-loop-e : goal.decreases-read_container-loop-e
+decreases-read_container-loop-e l = length l.s - l.i

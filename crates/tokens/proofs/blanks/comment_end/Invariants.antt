@@ -1,0 +1,15 @@
+-- `blanks::comment_end` meets its contract: the machine leaves the comment at its LF or at the end.
+-- The invariant: up to `i` the machine stays inside the comment.
+use Prim.Native.Nat.{◌-◌}
+use native.Mathlib.Omega.{arith}
+use lib.ListN.{length}
+use borrow.Author.Rules.{rules}
+use Rattle.grammar.specs.Serving.Machine.Schema.{schema}
+use Rattle.tokens.proofs.BlankRuns.{Commented, commented_none, commented_more, comment_line, comment-text}
+use Rattle.tokens.proofs.blanks.comment_end.Given as goal
+
+abbrev pub invariant-loop-i : goal.invariant-loop-i
+invariant-loop-i l = Commented schema l.s l.from l.i
+
+abbrev pub decreases-loop-i : goal.decreases-loop-i
+decreases-loop-i l = length l.s - l.i
