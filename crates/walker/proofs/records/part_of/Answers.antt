@@ -1,5 +1,4 @@
 -- `part_of` meets its contract: both places are cut to the message.
-use borrow.Author.Rules.{rules}
 use Rattle.walker.proofs.SeeingLaws.{part-within}
 use Rattle.walker.proofs.records.part_of.Goals as goal
 

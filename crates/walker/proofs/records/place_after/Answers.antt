@@ -1,6 +1,5 @@
 -- `place_after` meets its contract: one on after a whole record, and the same place at the end.
 use native.Mathlib.Omega.{arith}
-use borrow.Author.Rules.{rules}
 use Rattle.walker.proofs.SeeingLaws.{after-whole, after-end}
 use Rattle.walker.proofs.records.place_after.Goals as goal
 

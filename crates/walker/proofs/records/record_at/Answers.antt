@@ -2,7 +2,6 @@
 use Prim.Native.Nat.{◌*◌}
 use native.Mathlib.Omega.{arith}
 use mathlib.Core.Path.{refl}
-use borrow.Author.Rules.{rules}
 use Rattle.grammar.specs.Limits.{record_words}
 use Rattle.walker.proofs.SeeingLaws.{seen_whole, seen_none}
 use Rattle.walker.proofs.records.record_at.Goals as goal
