@@ -171,15 +171,13 @@ module _ {w : List ℕ} {k : ℕ} where
     pub take-list : {p : ℕ} → r ≡ ListOf p → TakesType w k (Types.Taken p 1)
     take-list e = record { told = λ s j h. let v = told_of e s j h in record { type = record { name = v.0; list = true }; is = v.1; place = v.2; list = refl } }
 
-    -- what the arm of a `let .. else` is told of the discriminator
-    pub take_none : (tag_of (declared enum) r ≡ 0) ⊎ (tag_of (declared enum) r ≡ 2) → (tag_of (declared enum) r ≡ 1) ⊎ (tag_of (declared enum) r ≡ 2) → TakesType w k Types.Refused
+    -- what the arm of a `let .. else` is told
+    pub take_none : ((p : ℕ) → r ≡ ListOf p → ⊥) → ((p : ℕ) → r ≡ One p → ⊥) → TakesType w k Types.Refused
     take_none a b = record { told = told_of (other r a b) }
       where
-        other : (x : Text.TypeText) → (tag_of (declared enum) x ≡ 0) ⊎ (tag_of (declared enum) x ≡ 2) → (tag_of (declared enum) x ≡ 1) ⊎ (tag_of (declared enum) x ≡ 2) → x ≡ Other
-        other (One p) a (inl h) = absurd (omega arith)
-        other (One p) a (inr h) = absurd (omega arith)
-        other (ListOf p) (inl h) b = absurd (omega arith)
-        other (ListOf p) (inr h) b = absurd (omega arith)
+        other : (x : Text.TypeText) → ((p : ℕ) → x ≡ ListOf p → ⊥) → ((p : ℕ) → x ≡ One p → ⊥) → x ≡ Other
+        other (One p) a b = absurd (b p refl)
+        other (ListOf p) a b = absurd (a p refl)
         other Other a b = refl
 
   -- a value that may be absent

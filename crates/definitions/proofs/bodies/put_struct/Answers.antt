@@ -1,0 +1,31 @@
+-- `bodies::put_struct` meets its contract.
+use borrow.Author.Tests.{not-true, not-false}
+use mathlib.Core.Path.{refl}
+use native.Mathlib.Omega.{arith}
+use Rattle.rules.specs.Kinds.{struct_kind}
+use Rattle.lookups.specs.Lookups.FindsEach.{nothing, ◌and◌}
+use Rattle.definitions.specs.Parts.{keys_of_kind}
+use Rattle.definitions.proofs.BodyLaws.{other_key, no_other-key, struct-list, struct-refused}
+use Rattle.definitions.proofs.Stores.{handed, refused}
+use borrow.Author.Rules.{rules}
+use Rattle.definitions.proofs.bodies.put_struct.Goals as goal
+
+pub returns-then-not-no_others : goal.returns-then-not-no_others
+returns-then-not-no_others c =
+    let members = c.value_at-d.ensures in
+    let base = c.value_at-b.ensures in
+    refused refl (other_key (keys_of_kind struct_kind) refl (members and base and nothing) c.no_others.ensures (c.if-not-no_others.true))
+
+pub returns-then-not-base_fits : goal.returns-then-not-base_fits
+returns-then-not-base_fits c =
+    let members = c.value_at-d.ensures in
+    let base = c.value_at-b.ensures in
+    let left = no_other-key (keys_of_kind struct_kind) refl (members and base and nothing) c.no_others.ensures (c.if-not-no_others.false) in
+    refused refl (λ o h. struct-refused base c.base_fits.ensures (c.if-not-base_fits.true) o (left o h))
+
+pub returns : goal.returns
+returns c =
+    let members = c.value_at-d.ensures in
+    let base = c.value_at-b.ensures in
+    let left = no_other-key (keys_of_kind struct_kind) refl (members and base and nothing) c.no_others.ensures (c.if-not-no_others.false) in
+    handed (omega arith) (λ o h. struct-list members base c.base_fits.ensures (c.if-not-base_fits.false) c.data_link-link.ensures o (left o h)) c.put_list_rows.ensures

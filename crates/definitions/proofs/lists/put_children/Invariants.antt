@@ -1,0 +1,15 @@
+-- `lists::put_children` meets its contract: the children passed are put, those left decide the rest.
+-- The measure is the nodes left.
+use borrow.Author.Rules.{rules}
+use mathlib.Core.Path.{refl, ◌∙◌}
+use native.Mathlib.Omega.{arith}
+use Prim.Native.Nat.{◌+◌, ◌-◌}
+use Rattle.definitions.proofs.ListLaws.{ChildrenLeft, children_begin, children-on, children_fail, children_stuck, children-all, children-other, children-list, list_stuck, list-absent}
+use Rattle.definitions.proofs.Stores.{refused}
+use Rattle.definitions.proofs.lists.put_children.Given as goal
+
+abbrev pub invariant-loop-a : goal.invariant-loop-a
+invariant-loop-a l = ChildrenLeft l.s l.nodes l.kind l.initial.rows l.rows l.n (l.k + 1) l.a l.end l.m
+
+abbrev pub decreases-loop-a : goal.decreases-loop-a
+decreases-loop-a l = l.end - l.a
