@@ -1,6 +1,6 @@
 -- Laws of rows in any words: unnamed and inline structs, children as numbers up to an end, and how large the counts are that 32-bit words hold.
 -- Each goes by the tests in the definition.
-use Prim.Native.Nat.{ℕ, ◌+◌, ◌*◌, ◌<◌, ◌^◌}
+use Prim.Native.Nat.{ℕ, ◌+◌, ◌<◌, ◌^◌}
 use mathlib.Core.Path.{◌≡◌, ◌∙◌}
 use mathlib.Core.Bool.{Bool, true, false, cond, ◌||◌, and-false}
 use mathlib.Core.Logic.{◌⊎◌, ⊎_elim}

@@ -1,6 +1,5 @@
 -- `hashes::c_byte_back` gives a byte counted from the end, as it is in C.
 use mathlib.Core.Path.{ap, ◌∙◌}
-use borrow.Author.Rules.{rules}
 use Rattle.rules.specs.Names.{c_byte}
 use Rattle.rows.proofs.hashes.c_byte_back.Goals as goal
 

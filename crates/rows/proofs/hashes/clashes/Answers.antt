@@ -3,7 +3,6 @@
 use mathlib.Core.Path.{ap, ◌∙◌}
 use Rattle.rules.specs.Names.{clash}
 use Rattle.rows.proofs.HashLaws.{no_clash_lem}
-use borrow.Author.Rules.{rules}
 use Rattle.rows.proofs.hashes.clashes.Goals as goal
 
 pub returns-then-is_other : goal.returns-then-is_other

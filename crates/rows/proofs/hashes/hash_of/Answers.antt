@@ -4,7 +4,6 @@ use Prim.Native.Nat.{◌-◌}
 use lib.ListN.{length}
 use Rattle.rows.specs.Hashes.{hash_of}
 use Rattle.rows.proofs.NameFacts.{c_length, c_byte_lem}
-use borrow.Author.Rules.{rules}
 use Rattle.rows.proofs.hashes.hash_of.Goals as goal
 
 pub returns : goal.returns

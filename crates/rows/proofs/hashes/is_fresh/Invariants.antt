@@ -1,16 +1,11 @@
 -- `hashes::is_fresh` says whether a row's name clashes with none of a walk's.
 -- The loop tests every row of it.
-use mathlib.Core.Path.{ap}
 use mathlib.Core.Bool.{not}
-use native.Mathlib.Omega.{arith}
 use Rattle.rules.specs.Names.{clash}
 use Rattle.rules.specs.Rows.{walk, name_of}
 use Rattle.rows.specs.Hashes.{fresh_in}
 use Rattle.rows.specs.Rows.{Room}
-use Rattle.rows.proofs.Walks.{so}
-use Rattle.rows.proofs.LoopLaws.{AllWalk, all_miss, all-next, all-over, room_next}
-use Rattle.rows.proofs.HashLaws.{with_row, fresh-walk}
-use borrow.Author.Rules.{rules}
+use Rattle.rows.proofs.LoopLaws.{AllWalk}
 use Rattle.rows.proofs.hashes.is_fresh.Given as goal
 
 abbrev pub invariant-loop-left : goal.invariant-loop-left

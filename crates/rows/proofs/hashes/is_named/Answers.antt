@@ -3,7 +3,6 @@
 use mathlib.Core.Path.{ap, ◌∙◌}
 use Rattle.rules.specs.Names.{same_name}
 use Rattle.rows.proofs.HashLaws.{other_name}
-use borrow.Author.Rules.{rules}
 use Rattle.rows.proofs.hashes.is_named.Goals as goal
 
 pub returns-then-is_other : goal.returns-then-is_other

@@ -1,13 +1,9 @@
 -- `hashes::pairs_apart` says whether no two names of a walk clash.
 -- The loop tests of every row of it that its name is fresh among those after it.
-use mathlib.Core.Path.{refl}
-use native.Mathlib.Omega.{arith}
 use Rattle.rules.specs.Rows.{walk}
 use Rattle.rows.specs.Rows.{Room}
-use Rattle.rows.proofs.Walks.{granted, denied}
-use Rattle.rows.proofs.LoopLaws.{WalkLeft, left-ends, room_next}
-use Rattle.rows.proofs.HashLaws.{names_apart, pairs_walk, pairs_miss, pairs_next}
-use borrow.Author.Rules.{rules}
+use Rattle.rows.proofs.LoopLaws.{WalkLeft}
+use Rattle.rows.proofs.HashLaws.{names_apart}
 use Rattle.rows.proofs.hashes.pairs_apart.Given as goal
 
 abbrev pub invariant-loop-left : goal.invariant-loop-left

@@ -1,12 +1,10 @@
 -- `hashes::put_hashes` writes the hashes of the first rows.
 -- The loop writes one hash at a time.
-use Prim.Native.Nat.{◌-◌}
 use mathlib.Core.Path.{ap, ◌∙◌}
 use native.Mathlib.Omega.{arith}
-use lib.ListN.{length, length-set}
-use borrow.Author.Rules.{rules}
+use lib.ListN.{length-set}
 use Rattle.rows.specs.Hashes.{hash_of}
-use Rattle.rows.proofs.HashLaws.{HashesTo, hashes_none, hashes_more, hashes_all}
+use Rattle.rows.proofs.HashLaws.{hashes_none, hashes_more, hashes_all}
 use Rattle.rows.proofs.hashes.put_hashes.Goals as goal
 
 pub loop-r-init : goal.loop-r-init

@@ -1,12 +1,8 @@
 -- `hashes::put_hashes` writes the hashes of the first rows.
 -- The loop writes one hash at a time.
 use Prim.Native.Nat.{◌-◌}
-use mathlib.Core.Path.{ap, ◌∙◌}
-use native.Mathlib.Omega.{arith}
-use lib.ListN.{length, length-set}
-use borrow.Author.Rules.{rules}
-use Rattle.rows.specs.Hashes.{hash_of}
-use Rattle.rows.proofs.HashLaws.{HashesTo, hashes_none, hashes_more, hashes_all}
+use lib.ListN.{length}
+use Rattle.rows.proofs.HashLaws.{HashesTo}
 use Rattle.rows.proofs.hashes.put_hashes.Given as goal
 
 abbrev pub invariant-loop-r : goal.invariant-loop-r

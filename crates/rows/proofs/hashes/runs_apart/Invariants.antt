@@ -1,14 +1,10 @@
 -- `hashes::runs_apart` says whether no row of one walk has the name of a row of another.
 -- The loop tests of every row of the first that its name is fresh in the second.
-use native.Mathlib.Omega.{arith}
 use Rattle.rules.specs.Rows.{walk, name_of}
 use Rattle.rules.specs.Rules.{names_of, no_clash}
 use Rattle.rows.specs.Rows.{Room}
 use Rattle.rows.specs.Hashes.{fresh_in}
-use Rattle.rows.proofs.Walks.{granted, denied}
-use Rattle.rows.proofs.LoopLaws.{AllWalk, all_miss, all-next, all-over, room_next}
-use Rattle.rows.proofs.HashLaws.{runs-walk}
-use borrow.Author.Rules.{rules}
+use Rattle.rows.proofs.LoopLaws.{AllWalk}
 use Rattle.rows.proofs.hashes.runs_apart.Given as goal
 
 abbrev pub invariant-loop-left : goal.invariant-loop-left

@@ -1,6 +1,6 @@
 -- `rows::index::is_unlisted` says whether none of the rows of a chain has a name.
 -- The rows left of the chain decide what all do; the measure is the count that falls.
-use Rattle.rows.proofs.IndexLaws.{NameWalk, name_start, listed_hit, listed-on, listed-end, listed_out}
+use Rattle.rows.proofs.IndexLaws.{name_start, listed_hit, listed-on, listed-end, listed_out}
 use borrow.Author.Rules.{rules}
 use Rattle.rows.proofs.index.is_unlisted.Goals as goal
 

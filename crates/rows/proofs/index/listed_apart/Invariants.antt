@@ -1,18 +1,14 @@
 -- `rows::index::listed_apart` says whether no two names of a walk clash.
 -- The rows before the loop's row are in the index, and what is left decides.
 use Prim.Native.Nat.{◌≤◌}
-use mathlib.Core.Path.{◌≡◌, refl}
-use native.Mathlib.Omega.{arith}
+use mathlib.Core.Path.{◌≡◌}
 use lib.ListN.{length}
-use borrow.Author.Tests.{not-true, not-false}
 use Rattle.grammar.specs.Notation.{apart}
 use Rattle.rules.specs.Names.{clash}
 use Rattle.rules.specs.Rows.{walk, past}
 use Rattle.rules.specs.Rules.{names_of}
 use Rattle.rows.specs.Rows.{Room}
-use Rattle.rows.proofs.LoopLaws.{room_next, past_next, past-within}
-use Rattle.rows.proofs.IndexLaws.{RunIndex, run-start, run_hit, run_on, run_end}
-use borrow.Author.Rules.{rules}
+use Rattle.rows.proofs.IndexLaws.{RunIndex}
 use Rattle.rows.proofs.index.listed_apart.Given as goal
 
 abbrev pub invariant-loop-left : goal.invariant-loop-left

@@ -1,8 +1,7 @@
 -- `table::names::good_name` says whether a name is good.
 -- Each test refutes one part of what a good name is; the rest is its bytes.
 use mathlib.Core.Path.{◌∙◌}
-use borrow.Author.Rules.{rules}
-use Rattle.rows.proofs.Walks.{so, granted, denied}
+use Rattle.rows.proofs.Walks.{so}
 use Rattle.rows.proofs.NameFacts.{no_name, name-long, name_start, name-reserved, name-rest}
 use Rattle.rows.proofs.names.good_name.Goals as goal
 
@@ -13,7 +12,7 @@ pub returns-then-n-gt-NAME_BYTES : goal.returns-then-n-gt-NAME_BYTES
 returns-then-n-gt-NAME_BYTES c = let a = c.args in name-long a.digits a.name.now c.if-n-eq0.false c.if-n-gt-NAME_BYTES.true
 
 pub returns-then-not-good_start : goal.returns-then-not-good_start
-returns-then-not-good_start c = let a = c.args in name_start a.digits a.name.now c.if-n-eq0.false (denied c.good_start.ensures c.if-not-good_start.true)
+returns-then-not-good_start c = let a = c.args in name_start a.digits a.name.now c.if-n-eq0.false (so c.good_start.ensures c.if-not-good_start.true)
 
 pub returns-then-is_reserved : goal.returns-then-is_reserved
 returns-then-is_reserved c = let a = c.args in name-reserved a.digits a.name.now c.if-n-eq0.false (so c.is_reserved.ensures c.if-is_reserved.true)
@@ -22,4 +21,4 @@ pub returns : goal.returns
 returns c =
     let a = c.args in
     c.name_bytes.ensures ∙ name-rest a.digits a.name.now c.if-n-eq0.false c.if-n-gt-NAME_BYTES.false
-    (granted c.good_start.ensures c.if-not-good_start.false) (so c.is_reserved.ensures c.if-is_reserved.false)
+    (so c.good_start.ensures c.if-not-good_start.false) (so c.is_reserved.ensures c.if-is_reserved.false)

@@ -1,6 +1,5 @@
 -- `table::names::is_reserved` says whether a name begins with q_.
 -- By its length, its first and its second byte.
-use borrow.Author.Rules.{rules}
 use Rattle.rows.proofs.NameFacts.{reserved-short, reserved-first, reserved-second}
 use Rattle.rows.proofs.names.is_reserved.Goals as goal
 

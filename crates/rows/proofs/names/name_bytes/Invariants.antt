@@ -3,10 +3,9 @@
 use Prim.Native.Nat.{◌-◌}
 use mathlib.Core.Path.{◌≡◌}
 use lib.ListN.{length, get_or, drop}
-use borrow.Author.Rules.{rules}
 use Rattle.grammar.specs.Notation.{all}
 use Rattle.rules.specs.Names.{name_byte}
-use Rattle.rows.proofs.Walks.{granted, denied, up_to, up_to_hit, up_to-on, up_to-end, up_to-list}
+use Rattle.rows.proofs.Walks.{up_to}
 use Rattle.rows.proofs.names.name_bytes.Given as goal
 
 abbrev pub invariant-loop-i : goal.invariant-loop-i

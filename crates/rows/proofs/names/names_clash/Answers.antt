@@ -1,13 +1,8 @@
 -- `names::names_clash` says whether two names are one in C.
 -- Lengths refuse early; the loop tests every place from the first on.
-use Prim.Native.Nat.{◌-◌}
-use mathlib.Core.Path.{◌≡◌, sym, ◌∙◌}
-use lib.Dec.{eqb}
-use lib.ListN.{get_or}
-use borrow.Author.Rules.{rules}
+use mathlib.Core.Path.{sym, ◌∙◌}
 use borrow.Author.Tests.{eq-eqb, ne_eqb}
-use Rattle.rules.specs.Names.{c_byte, clash}
-use Rattle.rows.proofs.Walks.{up_to, up_to_hit, up_to-on, up_to-end}
+use Rattle.rows.proofs.Walks.{up_to_hit, up_to-on, up_to-end}
 use Rattle.rows.proofs.NameFacts.{clash-up_to, clash-length}
 use Rattle.rows.proofs.names.names_clash.Goals as goal
 

@@ -3,7 +3,6 @@ use mathlib.Core.Path.{sym, ap, ◌∙◌}
 use lib.ListN.{length}
 use Rattle.grammar.proofs.Lists.{different}
 use Rattle.strings.proofs.Parts.{parts_whole}
-use borrow.Author.Rules.{rules}
 use Rattle.rows.proofs.names.same_bytes.Goals as goal
 
 pub returns-then-n-y : goal.returns-then-n-y

@@ -1,5 +1,6 @@
 -- `rows::child_count` counts a row's children.
 -- By kind: the count stands in a word of its own, and other kinds have none.
+use Rattle.rules.specs.Kinds.{enum_kind, struct_kind, union_kind, alternate_kind}
 use mathlib.Core.Path.{sym, ◌∙◌}
 use native.Mathlib.Omega.{arith}
 use borrow.Author.Rules.{rules}

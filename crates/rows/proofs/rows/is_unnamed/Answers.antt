@@ -1,6 +1,5 @@
 -- `table::rows::is_unnamed` says whether a row is a struct with start, length and base link 0.
 -- Each word read decides, or leaves it to the next.
-use borrow.Author.Rules.{rules}
 use Rattle.rows.proofs.RowFacts.{unnamed-kind, unnamed-start, unnamed-size, unnamed-base}
 use Rattle.rows.proofs.rows.is_unnamed.Goals as goal
 

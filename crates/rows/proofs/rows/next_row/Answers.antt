@@ -1,5 +1,4 @@
 -- `rows::rows::next_row` gives the row after another.
-use borrow.Author.Rules.{rules}
 use Rattle.rows.proofs.RowFacts.{follows-one}
 use Rattle.rows.proofs.rows.next_row.Goals as goal
 

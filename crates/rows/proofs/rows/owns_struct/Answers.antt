@@ -1,11 +1,11 @@
 -- `rows::rows::owns_struct` says whether a row's inline struct follows it.
 -- The row must be one that owns and link on; then the next row decides.
-use borrow.Author.Rules.{rules}
 use mathlib.Core.Path.{◌∙◌}
-use mathlib.Core.Logic.{inl, inr, ⊎_elim}
+use mathlib.Core.Logic.{inl, inr}
 use Rattle.rows.proofs.Walks.{so}
 use Rattle.rows.proofs.RowFacts.{owns-kind, owns_no_link, owns-linked}
 use Rattle.rows.proofs.rows.owns_struct.Goals as goal
+use Rattle.rows.proofs.rows.owns_struct.Goals.{then-owner-ne-UNION+else-owner-ne-COMMAND, else-owner-ne-UNION}
 
 pub returns-then-owner-ne-COMMAND : goal.returns-then-owner-ne-COMMAND
 returns-then-owner-ne-COMMAND c = owns-kind _ _ _ c.word-owner.ensures c.if-owner-ne-UNION.true c.if-owner-ne-COMMAND.true
@@ -15,4 +15,4 @@ returns-then-wide-s c = owns_no_link _ _ c.next_row-s.ensures _ c.word.ensures (
 
 pub returns : goal.returns
 returns c =
-    owns-linked _ _ c.next_row-s.ensures _ c.word.ensures _ _ c.word-owner.ensures (⊎_elim (λ w. inl w.1.left) (λ w. inr w.left) c.if-owner-ne-UNION.branch) (so c.wide.ensures c.if-wide-s.false) c.is_unnamed.ensures
+    owns-linked _ _ c.next_row-s.ensures _ c.word.ensures _ _ c.word-owner.ensures (elim c.if-owner-ne-UNION.branch [ then-owner-ne-UNION+else-owner-ne-COMMAND w ↦ inl w.if-owner-ne-COMMAND.false | else-owner-ne-UNION w ↦ inr w.if-owner-ne-UNION.false ]) (so c.wide.ensures c.if-wide-s.false) c.is_unnamed.ensures

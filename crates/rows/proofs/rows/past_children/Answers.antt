@@ -1,5 +1,4 @@
 -- `rows::rows::past_children` gives the row after all that belongs to a row.
-use borrow.Author.Rules.{rules}
 use Rattle.rows.proofs.ChildLaws.{children-room, children-past}
 use Rattle.rows.proofs.rows.past_children.Goals as goal
 

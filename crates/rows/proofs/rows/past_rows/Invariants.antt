@@ -1,12 +1,9 @@
 -- `rows::rows::past_rows` gives the row after a walk.
 -- The walk from the loop's row on ends where the whole does.
 use Prim.Native.Nat.{◌+◌, ◌-◌, ◌≤◌, ◌^◌}
-use mathlib.Core.Path.{◌≡◌, refl, sym, ◌∙◌}
-use native.Mathlib.Omega.{arith}
+use mathlib.Core.Path.{◌≡◌}
 use Rattle.rules.specs.Rows.{past}
 use Rattle.rows.specs.Rows.{Room}
-use Rattle.rows.proofs.LoopLaws.{room_next, past_next, past-over}
-use borrow.Author.Rules.{rules}
 use Rattle.rows.proofs.rows.past_rows.Given as goal
 
 abbrev pub invariant-loop-left : goal.invariant-loop-left
