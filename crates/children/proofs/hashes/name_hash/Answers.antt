@@ -1,0 +1,17 @@
+-- `hashes::name_hash` gives the hash of a name.
+-- The invariant: what is left, from the hash so far, has the hash of the whole. The measure is the bytes left.
+use borrow.Author.Rules.{rules}
+use Prim.Native.Nat.{◌-◌}
+use native.Mathlib.Omega.{arith}
+use lib.ListN.{length}
+use Rattle.children.proofs.HashLaws.{BytesLeft, bytes-start, bytes-more, bytes-end}
+use Rattle.children.proofs.hashes.name_hash.Goals as goal
+
+pub loop-i-init : goal.loop-i-init
+loop-i-init c = bytes-start _
+
+pub loop-i-preserved : goal.loop-i-preserved
+loop-i-preserved c = bytes-more c.loop-i.invariant (omega arith) c.wide.ensures c.mix-hash.ensures
+
+pub returns : goal.returns
+returns c = bytes-end c.loop-i.invariant (omega arith)

@@ -1,0 +1,12 @@
+-- `references::find::find` finds the first definition that fits and has the name.
+-- The loop keeps what is left to look at; the measure is the count that falls.
+use native.Mathlib.Omega.{arith}
+use Rattle.references.proofs.FindLaws.{Left, left-start, left-small, left_hit, left-on, left_end, left_out}
+use borrow.Author.Rules.{rules}
+use Rattle.references.proofs.find.find.Given as goal
+
+abbrev pub invariant-loop-left : goal.invariant-loop-left
+invariant-loop-left l = Left l.s l.rows l.links l.structs l.name l.initial.link l.link l.left
+
+abbrev pub decreases-loop-left : goal.decreases-loop-left
+decreases-loop-left l = l.left
