@@ -9,7 +9,7 @@ use borrow.Author.Rules.{rules}
 use Rattle.trees.proofs.tree.put_record.Goals as goal
 
 pub overflow_add-result : goal.overflow_add-result
-overflow_add-result c = let h = seen_below _ _ (sym c.requires.0 ∙ c.in-Record.is) in ?
+overflow_add-result c = let h = seen_below _ _ (sym c.requires.0 ∙ c.in-Record.is) in search rules
 
 pub returns-in-Nothing : goal.returns-in-Nothing
 returns-in-Nothing c =

@@ -1,0 +1,16 @@
+-- `commands::coded_command` meets its contract: the name is what it was decoded to, or one that is too long.
+use native.Mathlib.Omega.{arith}
+use mathlib.Core.Path.{refl}
+use Rattle.message.proofs.CommandLaws.{decoded_within, decoded_found, long-found}
+use borrow.Author.Rules.{rules}
+use Rattle.message.proofs.commands.coded_command.Goals as goal
+
+-- TODO slice-bounds-named-command-end
+part-named-command-end : tie.Need-slice-bounds-named-command-end
+part-named-command-end c = omega (arith, decoded_within c.before.before.before.before.before.decode-node.ensures c.before.before.n.given.1)
+
+pub returns-in-Whole : goal.returns-in-Whole
+returns-in-Whole c = decoded_found c.decode_node.ensures c.in-Whole.is refl c.named_command.ensures
+
+pub returns-in-Other : goal.returns-in-Other
+returns-in-Other c = long-found (search rules) c.decode_node.ensures c.in-Other.is c.long_command.ensures

@@ -1,0 +1,15 @@
+-- `cut_to` meets its contract. The invariant: from where it is, with the columns left, the cut ends where it does from the place. The measure is the bytes left.
+use Prim.Native.Nat.{◌+◌, ◌-◌, ◌≤◌}
+use native.Mathlib.Omega.{arith}
+use mathlib.Core.Path.{◌≡◌, refl, sym, ◌∙◌}
+use lib.ListN.{length, drop, get_or}
+use Rattle.wordings.specs.Excerpts.{side_columns, cut_to}
+use Rattle.wordings.proofs.ExcerptLaws.{some_columns, not_shut, to-stop, to-on, to_end}
+use borrow.Author.Rules.{rules}
+use Rattle.wordings.proofs.excerpts.cut_to.Given as goal
+
+abbrev pub invariant-loop-i : goal.invariant-loop-i
+invariant-loop-i l = (l.place ≤ l.i) × (l.i ≤ length l.s) × (l.i + l.columns ≤ l.place + side_columns) × (cut_to l.columns l.i (drop l.i l.s) ≡ cut_to side_columns l.place (drop l.place l.s))
+
+abbrev pub decreases-loop-i : goal.decreases-loop-i
+decreases-loop-i l = length l.s - l.i
