@@ -5,10 +5,6 @@ use Rattle.message.proofs.CommandLaws.{decoded_within, decoded_found, long-found
 use borrow.Author.Rules.{rules}
 use Rattle.message.proofs.commands.coded_command.Goals as goal
 
--- TODO slice-bounds-named-command-end
-part-named-command-end : tie.Need-slice-bounds-named-command-end
-part-named-command-end c = omega (arith, decoded_within c.before.before.before.before.before.decode-node.ensures c.before.before.n.given.1)
-
 pub returns-in-Whole : goal.returns-in-Whole
 returns-in-Whole c = decoded_found c.decode_node.ensures c.in-Whole.is refl c.named_command.ensures
 

@@ -1,7 +1,7 @@
 -- `envelope::call` meets its contract: by the kind of the node.
 use borrow.Author.Tests.{eq-eqb, ne_eqb}
 use Rattle.message.specs.Envelopes.{call_of}
-use Rattle.rows.proofs.Walks.{denied, granted}
+use Rattle.rows.proofs.Walks.{so}
 use borrow.Author.Rules.{rules}
 use Rattle.message.proofs.envelope.call.Goals as goal
 
@@ -11,8 +11,8 @@ returns-then-name-eq0 c = simp (eq-eqb _ _ c.if-name-eq0.true)
 
 pub returns-then-not-is_string : goal.returns-then-not-is_string
 unfolding call_of
-returns-then-not-is_string c = simp (ne_eqb _ _ c.if-name-eq0.false, denied c.is_string.ensures c.if-not-is_string.true)
+returns-then-not-is_string c = simp (ne_eqb _ _ c.if-name-eq0.false, so c.is_string.ensures c.if-not-is_string.true)
 
 pub returns : goal.returns
 unfolding call_of
-returns c = simp (ne_eqb _ _ c.if-name-eq0.false, granted c.is_string.ensures c.if-not-is_string.false)
+returns c = simp (ne_eqb _ _ c.if-name-eq0.false, so c.is_string.ensures c.if-not-is_string.false)

@@ -6,7 +6,7 @@ use borrow.Author.Rules.{rules}
 use Rattle.wordings.proofs.heads.put_schema_pointer.Goals as goal
 
 pub returns-then-not-points : goal.returns-then-not-points
-returns-then-not-points c = unpointed c.args.schema.now c.args.place (not-true c.args.points c.if-not-points.true) (omega (arith, c.requires.1))
+returns-then-not-points c = unpointed c.args.schema.now c.args.place c.if-not-points.true (omega (arith, c.requires.1))
 
 pub returns : goal.returns
-returns c = pointed c.args.schema.now c.args.place (not-false c.args.points c.if-not-points.false) c.least-p.ensures c.put_position-q.ensures.puts c.put_excerpt.ensures
+returns c = pointed c.args.schema.now c.args.place c.if-not-points.false c.least-p.ensures c.put_position-q.ensures.puts c.put_excerpt.ensures

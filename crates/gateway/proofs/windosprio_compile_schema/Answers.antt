@@ -1,0 +1,7 @@
+-- `windosprio_compile_schema` meets its contract: the call, in numbers.
+use Rattle.gateway.proofs.Outcomes.{compiled}
+use borrow.Author.Rules.{rules}
+use Rattle.gateway.proofs.windosprio_compile_schema.Goals as goal
+
+pub returns : goal.returns
+returns c = compiled c.compile_schema-a.ensures c.schema_number.ensures c.schema_rows.ensures c.schema_place.ensures
