@@ -1,14 +1,16 @@
 -- One ask of the reader: none is left, the line waits, or what is put is written.
-use Prim.Native.Nat.{ℕ, ◌+◌, ◌-◌, ◌≤◌}
+use Prim.Native.Nat.{ℕ, suc, ◌+◌, ◌-◌, ◌/◌, ◌≤◌, ◌<◌}
 use native.Mathlib.Omega.{arith}
-use mathlib.Core.Path.{◌≡◌, refl, sym, ap, ◌∙◌}
-use mathlib.Core.Bool.{Bool, true, false}
+use mathlib.Core.Path.{◌≡◌, refl, sym, ap, ◌∙◌, subst}
+use mathlib.Core.Bool.{Bool, true, false, cond}
 use mathlib.Core.Logic.{inl, inr}
 use mathlib.Core.List.{List}
 use lib.ListN.{length}
+use Rattle.grammar.specs.Limits.{record_words}
 use Rattle.grammar.proofs.Booleans.{clash}
 use Rattle.lines.proofs.TextLaws.{put-length}
-use Rattle.walker.proofs.SeeingLaws.{moved-below, stayed-end}
+use Rattle.walker.specs.Seeing.{place_after}
+use Rattle.walker.proofs.SeeingLaws.{after-whole, moved-below, stayed-end}
 use Rattle.trees.specs.Backwards.{before}
 use Rattle.trees.specs.TreeText.{line_at}
 use Rattle.trees.specs.Serving.Rooms.{line_room}
@@ -27,3 +29,14 @@ module _ (S T m ws : List ℕ) (from : Listing) (ends : List ℕ) {old ends' new
 
     pub shows-written : (good : Bool) → from.at + line_room ≤ length old → Shows S T m ws from ends old ends' new (record { next = next; around = around; at = 0; on = good; good = good })
     shows-written good h = record { at = at; one = o; kept = inr refl; goes = λ e. (moved-below ws from.next (λ f. n (o.moves ∙ f)), omega (arith, h, ap length o.puts.words, put-length from.at (line_at S T m ws (length ends) from.next (before ends from.around)) old)); stops = λ e f. clash f e }
+
+-- how many asks are left: the records, and that there is none; the variant
+abbrev pub asks_left : List ℕ → Listing → ℕ
+asks_left ws b = cond b.on (suc (length ws / record_words - b.next)) 0
+
+pub asks_fall : (ws : List ℕ) (b r : Listing) → b.on ≡ true → r.next ≡ place_after ws b.next → (r.on ≡ true → b.next < length ws / record_words) → asks_left ws r < asks_left ws b
+asks_fall ws b r e p h = subst (λ (o : Bool). asks_left ws r < cond o (suc (length ws / record_words - b.next)) 0) (sym e) (go r.on refl)
+  where
+    go : (o : Bool) → r.on ≡ o → cond o (suc (length ws / record_words - r.next)) 0 < suc (length ws / record_words - b.next)
+    go true f = omega (arith, h f, after-whole ws b.next (h f), p)
+    go false f = omega arith

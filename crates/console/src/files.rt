@@ -2,39 +2,45 @@
 ghost use Rattle.std.specs.Prelude.{length};
 ghost use Rattle.console.specs.Serving.Beginning.{Within};
 
+use std::rt::Files;
+use std::{fs, io};
+
 #[derive(Clone, Copy)]
 pub enum Read {
     Bytes(usize),
     Failed,
 }
 
-fn read_from(fd: i32, room: &mut [u8]) -> Read
+// What a reader gives until it ends or the room is full.
+fn read_from<F: io::Read>(file: &mut F, room: &mut [u8]) -> Read
     ensures { Within (length room.new) result }
 {
     let mut done = 0;
     while done < room.len() {
         let part = &mut room[done..];
-        let got = libc::read(fd, part);
-        if got < 0 {
-            return Read::Failed;
+        match file.read(part) {
+            Err(_) => {
+                return Read::Failed;
+            }
+            Ok(n) => {
+                if n == 0 {
+                    return Read::Bytes(done);
+                }
+                done += n;
+            }
         }
-        let n = io::count(got, part);
-        if n == 0 {
-            return Read::Bytes(done);
-        }
-        done += n;
     }
     Read::Bytes(done)
 }
 
-pub fn read_all(path: &[u8], room: &mut [u8]) -> Read
+pub fn read_all<R: Files>(rt: &R, path: &str, room: &mut [u8]) -> Read
     ensures { Within (length room.new) result }
 {
-    let fd = os::open_read(path);
-    if fd < 0 {
-        return Read::Failed;
+    match fs::open(rt, path) {
+        Err(_) => Read::Failed,
+        Ok(file) => {
+            let mut file = file;
+            read_from(&mut file, room)
+        }
     }
-    let r = read_from(fd, room);
-    libc::close(fd);
-    r
 }

@@ -5,7 +5,7 @@ ghost use Rattle.walker.specs.Seeing.{seen_at};
 ghost use Rattle.console.specs.Program.{record_count};
 ghost use Rattle.console.specs.Serving.Shows.{Shows};
 
-use libc::STDOUT_FILENO;
+use std::io::Print;
 use trees::tree::{LINE_ROOM, Progress, put_record};
 use walker::reader::{next, reader_at};
 use walker::records::Seen;
@@ -21,7 +21,8 @@ pub struct Listing {
 }
 
 // Puts the line of the record seen. What is put is written where there is no room for another line, and where no record is left.
-fn show_seen(
+fn show_seen<R: Print>(
+    rt: &R,
     schema: &[u8],
     table: &[u32],
     message: &[u8],
@@ -50,7 +51,7 @@ fn show_seen(
             around,
             at: 0,
             on: false,
-            good: io::write_all(STDOUT_FILENO, &out[0..at]),
+            good: rt.write_all(&out[0..at]).is_ok(),
         };
     }
     if LINE_ROOM <= out.len() - at {
@@ -62,7 +63,7 @@ fn show_seen(
             good: true,
         };
     }
-    let good = io::write_all(STDOUT_FILENO, &out[0..at]);
+    let good = rt.write_all(&out[0..at]).is_ok();
     Listing {
         next,
         around,
@@ -73,7 +74,8 @@ fn show_seen(
 }
 
 // Shows every record, one after another, until the reader has none left or standard output can't be written.
-pub fn show_records(
+pub fn show_records<R: Print>(
+    rt: &R,
     schema: &[u8],
     table: &[u32],
     message: &[u8],
@@ -94,6 +96,7 @@ pub fn show_records(
     while listing.on {
         let seen = next(&mut reader, records);
         listing = show_seen(
+            rt,
             schema,
             table,
             reader.message,

@@ -2,6 +2,7 @@
 use console::answers::Style;
 use console::run::run;
 
-fn main() {
-    run(Style::Numbers);
+fn main(rt: HostRuntime) {
+    let mut input = rt.stdin();
+    run(&rt, &mut input, Style::Numbers);
 }
