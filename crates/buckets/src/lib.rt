@@ -1,5 +1,7 @@
 // An index of numbered items by a hash that equal things share, over lent words: the items of a bucket are a chain, the latest first.
 // A word is 0 where no item follows, else the item and one.
+#![tactic(auto)]
+
 ghost use Rattle.std.specs.Prelude.{◌≡◌, ◌+◌, ◌^◌, ◌<◌, length, get_or};
 ghost use Rattle.buckets.specs.Buckets.{bucket_of, Added};
 

@@ -11,7 +11,7 @@ use lib.ListN.{get_or, get_or-eq_default}
 use borrow.Author.Tests.{leb-true, leb-false, eqb-true}
 use Rattle.grammar.specs.Notation.{all}
 use Rattle.grammar.specs.Tree.{Kind}
-use Rattle.grammar.specs.Tree.Kind.{object, array, string, number, boolean, null-kind}
+use Rattle.grammar.specs.Tree.Kind.{object, array, string, number, boolean, null_kind}
 use Rattle.rules.specs.Types.{first_row, any_type, built_in_kinds, column, grid, takes}
 use Rattle.rules.specs.Rows.{up_from}
 use Rattle.rules.proofs.Lists.{all_true, in_up_from}
@@ -23,7 +23,7 @@ column-small array = omega arith
 column-small string = omega arith
 column-small number = omega arith
 column-small boolean = omega arith
-column-small null-kind = omega arith
+column-small null_kind = omega arith
 
 -- of the n built-ins from a on, all of the column c
 pub kind-run : (a n c : ℕ) → all (λ b. eqb (kind_column (built_in_kind b)) c) (up_from a n) ≡ true → (b : ℕ) → a ≤ b → b < a + n → c ≡ kind_column (built_in_kind b)

@@ -1,4 +1,6 @@
 // The built-in types: their numbers here, their names, the JSON kinds that they take and the ranges of the integer types in the modules.
+#![tactic(auto)]
+
 pub mod json;
 pub mod kinds;
 pub mod names;

@@ -3,13 +3,11 @@ use Prim.Native.Nat.{ℕ, suc, ◌+◌, ◌-◌, ◌≤◌, ◌<◌}
 use native.Mathlib.Omega.{arith}
 use mathlib.Core.Path.{◌≡◌, refl, sym, ap, ◌∙◌, subst, subst₂}
 use mathlib.Core.Bool.{Bool, true, false, cond}
-use mathlib.Core.Logic.{◌⊎◌, inl, inr}
 use mathlib.Core.List.{List}
 use mathlib.Core.Option.{Option, none, some}
 use lib.Dec.{eqb}
 use borrow.Author.Tests.{ne_eqb}
 use lib.ListN.{length}
-use denote.Enum.Declared.{tag_of, declared}
 use Rattle.grammar.specs.Limits.{schema_bytes}
 use Rattle.grammar.specs.Tree.{Json, Items, Fields, start_of, end_of}
 use Rattle.grammar.specs.Tree.Scalar.{null, bool, num, str}
@@ -37,7 +35,6 @@ use Rattle.definitions.specs.declared.shapes.TypeRead.TheVariants as Types
 use Rattle.definitions.specs.declared.shapes.FlagRead.TheVariants as Flags
 use Rattle.definitions.specs.Places.{Held, Found, Named, NameWord, TextTold, ReadsList, ReadsType, TypeTold, ReturnTold, TakesType, TakesReturn, FlagTold, TakesFlag, Links, BaseFits}
 use Rattle.definitions.specs.Parts.{FieldsAt}
-use Rattle.definitions.specs.contracts.shapes.TypeText.{enum}
 use Rattle.definitions.proofs.NameLaws.{is_name, no_string, no_name}
 
 pub held-there : {s w : List ℕ} {j : Json} {k : ℕ} → Found s w (some j) k → Held s w j k

@@ -64,11 +64,11 @@ pub record ReadsType (w : List ℕ) (k : ℕ) (r : Text.TypeText) : Type 0 where
   pub told : (s : List ℕ) (j : Json) → Held s w j k → TextTold (as_type j) r
 
 -- a type, or one that may be absent, as two words of a row: what its name becomes, and 1 if it is a list
-pub record WordsTaken {A : Type 0} (name-word list-word : A → ℕ) (o : Option A) (p q : ℕ) : Type 0 where
+pub record WordsTaken {A : Type 0} (name_word list_word : A → ℕ) (o : Option A) (p q : ℕ) : Type 0 where
   pub type : A
   pub is : o ≡ some type
-  pub place : p ≡ name-word type
-  pub list : q ≡ list-word type
+  pub place : p ≡ name_word type
+  pub list : q ≡ list_word type
 
 abbrev pub WordsTold : {A : Type 0} → (A → ℕ) → (A → ℕ) → Option A → TypeRead → Type 0
 WordsTold f g o (Types.Taken p q) = WordsTaken f g o p q

@@ -1,4 +1,6 @@
 // The definitions of a schema out of its nodes, by the table of keys, as raw rows.
+#![tactic(auto)]
+
 pub mod bodies;
 pub mod definitions;
 pub mod lists;

@@ -1,4 +1,6 @@
 // The calls for programs in C and Rust, with the numbers of the reference (Schema answers, Message answers, Places).
+#![tactic(auto)]
+
 ghost use Rattle.std.specs.Prelude.{◌≡◌};
 ghost use Rattle.rules.specs.Sound.{sound};
 ghost use Rattle.gateway.specs.Calls.{fresh, said_number, said_bytes};

@@ -13,8 +13,8 @@ use Rattle.grammar.specs.Lexis.{blank}
 use Rattle.grammar.specs.MessageText.{hex_digit}
 use Rattle.grammar.specs.Serving.Machine.{CharStep.stay, CharStep.char}
 use Rattle.grammar.specs.Serving.Machine.Message.{message, Want, CharState, char_step, escape_of, stops}
-use Rattle.grammar.specs.Serving.Machine.Message.Want.{one, two, two-E0, two-ED, three, three-F0, three-F4}
-use Rattle.grammar.specs.Serving.Machine.Message.CharState.{escape, hex0, hex1, hex2, hex3, low-backslash, low-u, low0, low1, low2, low3, utf8}
+use Rattle.grammar.specs.Serving.Machine.Message.Want.{one, two, two_E0, two_ED, three, three_F0, three_F4}
+use Rattle.grammar.specs.Serving.Machine.Message.CharState.{escape, hex0, hex1, hex2, hex3, low_backslash, low_u, low0, low1, low2, low3, utf8}
 use Rattle.grammar.proofs.Booleans.{clash, either}
 use Rattle.grammar.proofs.TokenRuns.{Structural, CharRun, CharRun.char_whole, CharRun.char_on, Solid, CharEnds, TokensSound, TokensComplete, TokensCompletable}
 use Rattle.grammar.proofs.TokenRuns.Structural.{begin_array, begin_object, end_array, end_object, name_separator, value_separator}
@@ -88,11 +88,11 @@ hex3_rest v = code "0" ∷ cond (within 0xD800 0xDBFF (v * 16 + 0)) low_rest []
 abbrev utf8_rest : Want → List ℕ
 utf8_rest one = 0x80 ∷ []
 utf8_rest two = 0x80 ∷ 0x80 ∷ []
-utf8_rest two-E0 = 0xA0 ∷ 0x80 ∷ []
-utf8_rest two-ED = 0x80 ∷ 0x80 ∷ []
+utf8_rest two_E0 = 0xA0 ∷ 0x80 ∷ []
+utf8_rest two_ED = 0x80 ∷ 0x80 ∷ []
 utf8_rest three = 0x80 ∷ 0x80 ∷ 0x80 ∷ []
-utf8_rest three-F0 = 0x90 ∷ 0x80 ∷ 0x80 ∷ []
-utf8_rest three-F4 = 0x80 ∷ 0x80 ∷ 0x80 ∷ []
+utf8_rest three_F0 = 0x90 ∷ 0x80 ∷ 0x80 ∷ []
+utf8_rest three_F4 = 0x80 ∷ 0x80 ∷ 0x80 ∷ []
 
 abbrev char_rest : CharState → List ℕ
 char_rest escape = text "/"
@@ -100,8 +100,8 @@ char_rest hex0 = text "0000"
 char_rest (hex1 v) = code "0" ∷ code "0" ∷ hex3_rest ((v * 16 + 0) * 16 + 0)
 char_rest (hex2 v) = code "0" ∷ hex3_rest (v * 16 + 0)
 char_rest (hex3 v) = hex3_rest v
-char_rest (low-backslash h) = low_rest
-char_rest (low-u h) = text "udc00"
+char_rest (low_backslash h) = low_rest
+char_rest (low_u h) = text "udc00"
 char_rest (low0 h) = text "dc00"
 char_rest (low1 h) = text "c00"
 char_rest (low2 h v) = text "00"
@@ -115,7 +115,7 @@ ended-on : {s t : CharState} {p b : ℕ} {l r : List ℕ} → char_step s b ≡ 
 ended-on {s} {t} {p} {b} {l} {r} e z =
     record { place = z.place; code_point = z.code_point; run = let w : CharRun message (char_step s b) (suc p) l z.place r z.code_point = rw e z.run in char_on w }
 
-hex3_high : (v : ℕ) → within 0xD800 0xDBFF (v * 16 + 0) ≡ true → char_step (hex3 v) (code "0") ≡ stay (low-backslash (v * 16 + 0))
+hex3_high : (v : ℕ) → within 0xD800 0xDBFF (v * 16 + 0) ≡ true → char_step (hex3 v) (code "0") ≡ stay (low_backslash (v * 16 + 0))
 unfolding char_step hex_digit
 hex3_high v e = simp e
 
@@ -138,7 +138,7 @@ hex1_on : (v : ℕ) → char_step (hex1 v) (code "0") ≡ stay (hex2 (v * 16 + 0
 unfolding char_step hex_digit
 hex1_on v = simp (no_low-start v)
 
-low-ends : (h p : ℕ) (r : List ℕ) → CharEnds message (low-backslash h) p (low_rest ++ r) r
+low-ends : (h p : ℕ) (r : List ℕ) → CharEnds message (low_backslash h) p (low_rest ++ r) r
 unfolding char_step hex_digit
 low-ends h p r = ended (char_on (char_on (char_on (char_on (char_on (char_on char_whole))))))
 
@@ -153,11 +153,11 @@ utf8-ends : (n : Want) (v p : ℕ) (r : List ℕ) → CharEnds message (utf8 n v
 unfolding char_step
 utf8-ends one v p r = ended (char_on char_whole)
 utf8-ends two v p r = ended (char_on (char_on char_whole))
-utf8-ends two-E0 v p r = ended (char_on (char_on char_whole))
-utf8-ends two-ED v p r = ended (char_on (char_on char_whole))
+utf8-ends two_E0 v p r = ended (char_on (char_on char_whole))
+utf8-ends two_ED v p r = ended (char_on (char_on char_whole))
 utf8-ends three v p r = ended (char_on (char_on (char_on char_whole)))
-utf8-ends three-F0 v p r = ended (char_on (char_on (char_on char_whole)))
-utf8-ends three-F4 v p r = ended (char_on (char_on (char_on char_whole)))
+utf8-ends three_F0 v p r = ended (char_on (char_on (char_on char_whole)))
+utf8-ends three_F4 v p r = ended (char_on (char_on (char_on char_whole)))
 
 char_ends : (s : CharState) (p : ℕ) (r : List ℕ) → CharEnds message s p (char_rest s ++ r) r
 unfolding char_step hex_digit escape_of
@@ -166,8 +166,8 @@ char_ends hex0 p r = ended (char_on (char_on (char_on (char_on char_whole))))
 char_ends (hex1 v) p r = ended-on (hex1_on v) (ended-on (hex2_on (v * 16 + 0)) (hex3_ends ((v * 16 + 0) * 16 + 0) (suc (suc p)) r))
 char_ends (hex2 v) p r = ended-on (hex2_on v) (hex3_ends (v * 16 + 0) (suc p) r)
 char_ends (hex3 v) p r = hex3_ends v p r
-char_ends (low-backslash h) p r = low-ends h p r
-char_ends (low-u h) p r = ended (char_on (char_on (char_on (char_on (char_on char_whole)))))
+char_ends (low_backslash h) p r = low-ends h p r
+char_ends (low_u h) p r = ended (char_on (char_on (char_on (char_on (char_on char_whole)))))
 char_ends (low0 h) p r = ended (char_on (char_on (char_on (char_on char_whole))))
 char_ends (low1 h) p r = ended (char_on (char_on (char_on char_whole)))
 char_ends (low2 h v) p r = ended (char_on (char_on char_whole))

@@ -16,7 +16,7 @@ use Rattle.grammar.specs.MessageText.{letter_e, MessageUnquoted, MessageUnquoted
 use Rattle.grammar.specs.Serving.Machine.{TokenStep, TokenStep.on, TokenStep.past, TokenStep.off}
 use Rattle.grammar.specs.Serving.Machine.Message.{message, NumberState, number_step, number_end, TokenState, TokenState.word, number_start, token_start, number_on, token_step, numeral}
 use Rattle.grammar.specs.Serving.Machine.Message.{stops}
-use Rattle.grammar.specs.Serving.Machine.Message.NumberState.{begin, after_minus, after-zero, in-int, after-point, in-frac, after-e, after-sign, in-exp}
+use Rattle.grammar.specs.Serving.Machine.Message.NumberState.{begin, after_minus, after_zero, in_int, after_point, in_frac, after_e, after_sign, in_exp}
 use Rattle.grammar.proofs.Booleans.{by, none-not-some, within-true}
 use Rattle.grammar.proofs.TokenRuns.{TokenRun, TokenRun.token_finished, TokenRun.token_past, TokenRun.token_on, TokenStarts, TokenStarts.token_starts, First, Stopped}
 use Rattle.grammar.proofs.TokenRuns.{TokenEnds}
@@ -143,13 +143,13 @@ stopped : (s : NumberState) (i : Bool) (b : ℕ) → number_end s ≡ some i →
 unfolding number_step
 stopped begin i b e n = none-not-some e
 stopped after_minus i b e n = none-not-some e
-stopped after-zero i b e n = simp (n.no_point, n.no_e)
-stopped in-int i b e n = simp (n.no_digit, n.no_point, n.no_e)
-stopped after-point i b e n = none-not-some e
-stopped in-frac i b e n = simp (n.no_digit, n.no_e)
-stopped after-e i b e n = none-not-some e
-stopped after-sign i b e n = none-not-some e
-stopped in-exp i b e n = simp n.no_digit
+stopped after_zero i b e n = simp (n.no_point, n.no_e)
+stopped in_int i b e n = simp (n.no_digit, n.no_point, n.no_e)
+stopped after_point i b e n = none-not-some e
+stopped in_frac i b e n = simp (n.no_digit, n.no_e)
+stopped after_e i b e n = none-not-some e
+stopped after_sign i b e n = none-not-some e
+stopped in_exp i b e n = simp n.no_digit
 
 number-stops : (s : NumberState) (i : Bool) (acc : List ℕ) (p : ℕ) (r : List ℕ) → number_end s ≡ some i → Stopped message r
     → TokenRun message (on (TokenState.number s acc)) p r p r (num i (reverse acc))
@@ -206,25 +206,25 @@ token-complete (number n s) g = number-starts (number-accepted n) s g
 abbrev number_rest : NumberState → List ℕ
 number_rest begin = code "0" ∷ []
 number_rest after_minus = code "0" ∷ []
-number_rest after-zero = []
-number_rest in-int = []
-number_rest after-point = code "0" ∷ []
-number_rest in-frac = []
-number_rest after-e = code "0" ∷ []
-number_rest after-sign = code "0" ∷ []
-number_rest in-exp = []
+number_rest after_zero = []
+number_rest in_int = []
+number_rest after_point = code "0" ∷ []
+number_rest in_frac = []
+number_rest after_e = code "0" ∷ []
+number_rest after_sign = code "0" ∷ []
+number_rest in_exp = []
 
 rest-accepted : (s : NumberState) → (i : Bool) × Accepts s i (number_rest s)
 unfolding number_step
-rest-accepted begin = (true, steps refl (ends {s = after-zero} refl))
-rest-accepted after_minus = (true, steps refl (ends {s = after-zero} refl))
-rest-accepted after-zero = (true, ends refl)
-rest-accepted in-int = (true, ends refl)
-rest-accepted after-point = (false, steps refl (ends {s = in-frac} refl))
-rest-accepted in-frac = (false, ends refl)
-rest-accepted after-e = (false, steps refl (ends {s = in-exp} refl))
-rest-accepted after-sign = (false, steps refl (ends {s = in-exp} refl))
-rest-accepted in-exp = (false, ends refl)
+rest-accepted begin = (true, steps refl (ends {s = after_zero} refl))
+rest-accepted after_minus = (true, steps refl (ends {s = after_zero} refl))
+rest-accepted after_zero = (true, ends refl)
+rest-accepted in_int = (true, ends refl)
+rest-accepted after_point = (false, steps refl (ends {s = in_frac} refl))
+rest-accepted in_frac = (false, ends refl)
+rest-accepted after_e = (false, steps refl (ends {s = in_exp} refl))
+rest-accepted after_sign = (false, steps refl (ends {s = in_exp} refl))
+rest-accepted in_exp = (false, ends refl)
 
 abbrev pub token_rest : TokenState → List ℕ
 token_rest (word w ws v) = w ∷ ws

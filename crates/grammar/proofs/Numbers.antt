@@ -13,7 +13,7 @@ use Rattle.grammar.specs.Notation.{within, all, digit}
 use Rattle.grammar.specs.MessageText.{letter_e, sign, Digits, Digits.digits, Int, Int.zero, Int.nonzero, Frac, Frac.frac, Exp, Exp.unsigned, Exp.signed, Optional}
 use Rattle.grammar.specs.MessageText.{Optional.absent, Optional.present, Number, Number.parts}
 use Rattle.grammar.specs.Serving.Machine.Message.{NumberState, number_step, number_end}
-use Rattle.grammar.specs.Serving.Machine.Message.NumberState.{begin, after_minus, after-zero, in-int, after-point, in-frac, after-e, after-sign, in-exp}
+use Rattle.grammar.specs.Serving.Machine.Message.NumberState.{begin, after_minus, after_zero, in_int, after_point, in_frac, after_e, after_sign, in_exp}
 use Rattle.grammar.proofs.Booleans.{by, either, both, none-not-some, within-true}
 
 -- from a state, over all the bytes, to one where a number may end
@@ -32,35 +32,35 @@ digit-no_sign : (b : ℕ) → digit b ≡ true → sign b ≡ false
 digit-no_sign b t = let h = within-true (code "0") (code "9") b t in simp (ne_eqb b (code "-") (omega arith), ne_eqb b (code "+") (omega arith))
 
 -- the steps
-int-digit : (b : ℕ) → digit b ≡ true → number_step in-int b ≡ some in-int
+int-digit : (b : ℕ) → digit b ≡ true → number_step in_int b ≡ some in_int
 unfolding number_step
 int-digit b t = simp t
 
-point-digit : (b : ℕ) → digit b ≡ true → number_step after-point b ≡ some in-frac
+point-digit : (b : ℕ) → digit b ≡ true → number_step after_point b ≡ some in_frac
 unfolding number_step
 point-digit b t = simp t
 
-frac-digit : (b : ℕ) → digit b ≡ true → number_step in-frac b ≡ some in-frac
+frac-digit : (b : ℕ) → digit b ≡ true → number_step in_frac b ≡ some in_frac
 unfolding number_step
 frac-digit b t = simp t
 
-frac_e : (b : ℕ) → letter_e b ≡ true → number_step in-frac b ≡ some after-e
+frac_e : (b : ℕ) → letter_e b ≡ true → number_step in_frac b ≡ some after_e
 unfolding number_step
 frac_e b t = simp (e_no_digit b t, t)
 
-pub e_sign : (b : ℕ) → sign b ≡ true → number_step after-e b ≡ some after-sign
+pub e_sign : (b : ℕ) → sign b ≡ true → number_step after_e b ≡ some after_sign
 unfolding number_step
 e_sign b t = simp t
 
-e_digit : (b : ℕ) → digit b ≡ true → number_step after-e b ≡ some in-exp
+e_digit : (b : ℕ) → digit b ≡ true → number_step after_e b ≡ some in_exp
 unfolding number_step
 e_digit b t = simp (digit-no_sign b t, t)
 
-sign-digit : (b : ℕ) → digit b ≡ true → number_step after-sign b ≡ some in-exp
+sign-digit : (b : ℕ) → digit b ≡ true → number_step after_sign b ≡ some in_exp
 unfolding number_step
 sign-digit b t = simp t
 
-exp_digit : (b : ℕ) → digit b ≡ true → number_step in-exp b ≡ some in-exp
+exp_digit : (b : ℕ) → digit b ≡ true → number_step in_exp b ≡ some in_exp
 unfolding number_step
 exp_digit b t = simp t
 
@@ -70,29 +70,29 @@ loop : (s : NumberState) → ((b : ℕ) → digit b ≡ true → number_step s b
 loop s f [] t a = a
 loop s f (d ∷ ds) t a = let h = both (digit d) (all digit ds) t in steps (f d h.0) (loop s f ds h.1 a)
 
-exp_loop : (ds : List ℕ) → all digit ds ≡ true → Accepts in-exp false ds
+exp_loop : (ds : List ℕ) → all digit ds ≡ true → Accepts in_exp false ds
 exp_loop [] t = ends refl
 exp_loop (d ∷ ds) t = let h = both (digit d) (all digit ds) t in steps (exp_digit d h.0) (exp_loop ds h.1)
 
-exp_accepted : (s : NumberState) → ((b : ℕ) → letter_e b ≡ true → number_step s b ≡ some after-e) → {bs : List ℕ} → Exp bs → Accepts s false bs
+exp_accepted : (s : NumberState) → ((b : ℕ) → letter_e b ≡ true → number_step s b ≡ some after_e) → {bs : List ℕ} → Exp bs → Accepts s false bs
 exp_accepted s f (unsigned {b = b} t (digits {b = d} {bs = ds} u v)) = steps (f b t) (steps (e_digit d u) (exp_loop ds v))
 exp_accepted s f (signed {b = b} {s = c} t w (digits {b = d} {bs = ds} u v)) = steps (f b t) (steps (e_sign c w) (steps (sign-digit d u) (exp_loop ds v)))
 
-frac-accepted : {ds e : List ℕ} {c : Bool} → Digits ds → Optional Exp c e → Accepts after-point false (ds ++ e)
-frac-accepted (digits {b = d} {bs = ds} t u) absent = steps (point-digit d t) (loop in-frac frac-digit ds u (ends refl))
-frac-accepted (digits {b = d} {bs = ds} t u) (present e) = steps (point-digit d t) (loop in-frac frac-digit ds u (exp_accepted in-frac frac_e e))
+frac-accepted : {ds e : List ℕ} {c : Bool} → Digits ds → Optional Exp c e → Accepts after_point false (ds ++ e)
+frac-accepted (digits {b = d} {bs = ds} t u) absent = steps (point-digit d t) (loop in_frac frac-digit ds u (ends refl))
+frac-accepted (digits {b = d} {bs = ds} t u) (present e) = steps (point-digit d t) (loop in_frac frac-digit ds u (exp_accepted in_frac frac_e e))
 
 -- states where the integer part may end
 record IntEnd (s : NumberState) : Type 0 where
   end : number_end s ≡ some true
-  point : number_step s (code ".") ≡ some after-point
-  power : (b : ℕ) → letter_e b ≡ true → number_step s b ≡ some after-e
+  point : number_step s (code ".") ≡ some after_point
+  power : (b : ℕ) → letter_e b ≡ true → number_step s b ≡ some after_e
 
-zero-end : IntEnd after-zero
+zero-end : IntEnd after_zero
 unfolding number_step
 zero-end = record { end = refl; point = refl; power = λ b t. simp (e_no_point b t, t) }
 
-int_end : IntEnd in-int
+int_end : IntEnd in_int
 unfolding number_step
 int_end = record { end = refl; point = refl; power = λ b t. simp (e_no_digit b t, e_no_point b t, t) }
 
@@ -103,8 +103,8 @@ rest-accepted h (present (frac d)) o = steps h.point (frac-accepted d o)
 
 -- states where the integer part may begin
 record IntStart (s : NumberState) : Type 0 where
-  zero_first : number_step s (code "0") ≡ some after-zero
-  digit_first : (b : ℕ) → within (code "1") (code "9") b ≡ true → number_step s b ≡ some in-int
+  zero_first : number_step s (code "0") ≡ some after_zero
+  digit_first : (b : ℕ) → within (code "1") (code "9") b ≡ true → number_step s b ≡ some in_int
 
 minus_start : IntStart after_minus
 unfolding number_step
@@ -120,7 +120,7 @@ begin_start =
 
 int-accepted : {s : NumberState} {b c : Bool} {n f e : List ℕ} → IntStart s → Int n → Optional Frac b f → Optional Exp c e → Accepts s (not (b || c)) (n ++ (f ++ e))
 int-accepted h zero o p = steps h.zero_first (rest-accepted zero-end o p)
-int-accepted h (nonzero {b = d} {bs = ds} t u) o p = steps (h.digit_first d t) (loop in-int int-digit ds u (rest-accepted int_end o p))
+int-accepted h (nonzero {b = d} {bs = ds} t u) o p = steps (h.digit_first d t) (loop in_int int-digit ds u (rest-accepted int_end o p))
 
 pub number-accepted : {i : Bool} {bs : List ℕ} → Number i bs → Accepts begin i bs
 unfolding number_step
@@ -156,24 +156,24 @@ data ExpLeft : Bool → List ℕ → Type 0 where
 abbrev Left : NumberState → Bool → List ℕ → Type 0
 Left begin i bs = Number i bs
 Left after_minus i bs = Unsigned i bs
-Left after-zero i bs = Rest i bs
-Left in-int i bs = IntLeft i bs
-Left after-point i bs = FracDigits i bs
-Left in-frac i bs = FracLeft i bs
-Left after-e i bs = Power i bs
-Left after-sign i bs = ExpDigits i bs
-Left in-exp i bs = ExpLeft i bs
+Left after_zero i bs = Rest i bs
+Left in_int i bs = IntLeft i bs
+Left after_point i bs = FracDigits i bs
+Left in_frac i bs = FracLeft i bs
+Left after_e i bs = Power i bs
+Left after_sign i bs = ExpDigits i bs
+Left in_exp i bs = ExpLeft i bs
 
 at-end : (s : NumberState) (i : Bool) → number_end s ≡ some i → Left s i []
 at-end begin i h = none-not-some h
 at-end after_minus i h = none-not-some h
-at-end after-zero i h = let e : i ≡ true = cc in rw e (rest absent absent)
-at-end in-int i h = let e : i ≡ true = cc in rw e (int_left [] refl (rest absent absent))
-at-end after-point i h = none-not-some h
-at-end in-frac i h = let e : i ≡ false = cc in rw e (frac_left [] refl absent)
-at-end after-e i h = none-not-some h
-at-end after-sign i h = none-not-some h
-at-end in-exp i h = let e : i ≡ false = cc in rw e (exp_left {ds = []} refl)
+at-end after_zero i h = let e : i ≡ true = cc in rw e (rest absent absent)
+at-end in_int i h = let e : i ≡ true = cc in rw e (int_left [] refl (rest absent absent))
+at-end after_point i h = none-not-some h
+at-end in_frac i h = let e : i ≡ false = cc in rw e (frac_left [] refl absent)
+at-end after_e i h = none-not-some h
+at-end after_sign i h = none-not-some h
+at-end in_exp i h = let e : i ≡ false = cc in rw e (exp_left {ds = []} refl)
 
 -- one byte in front
 rest-point : {i : Bool} {bs : List ℕ} → FracDigits i bs → Rest i (code "." ∷ bs)
@@ -231,27 +231,27 @@ module _ (i : Bool) (b : ℕ) (bs : List ℕ) (t : NumberState) where
   unfolding number_step
   front begin =
       by (Front begin) (eqb b (code "-")) (λ u h w. rw (eqb-true b (code "-") u) (negative (came after_minus h w)))
-      (λ _. by (Front begin) (eqb b (code "0")) (λ u h w. rw (eqb-true b (code "0") u) (positive (int zero (came after-zero h w))))
-      (λ _. by (Front begin) (within (code "1") (code "9") b) (λ u h w. positive (int-first u (came in-int h w))) (λ _ h. none-not-some h)))
+      (λ _. by (Front begin) (eqb b (code "0")) (λ u h w. rw (eqb-true b (code "0") u) (positive (int zero (came after_zero h w))))
+      (λ _. by (Front begin) (within (code "1") (code "9") b) (λ u h w. positive (int-first u (came in_int h w))) (λ _ h. none-not-some h)))
   front after_minus =
-      by (Front after_minus) (eqb b (code "0")) (λ u h w. rw (eqb-true b (code "0") u) (int zero (came after-zero h w)))
-      (λ _. by (Front after_minus) (within (code "1") (code "9") b) (λ u h w. int-first u (came in-int h w)) (λ _ h. none-not-some h))
-  front after-zero =
-      by (Front after-zero) (eqb b (code ".")) (λ u h w. rw (eqb-true b (code ".") u) (rest-point (came after-point h w)))
-      (λ _. by (Front after-zero) (letter_e b) (λ u h w. rest-power u (came after-e h w)) (λ _ h. none-not-some h))
-  front in-int =
-      by (Front in-int) (digit b) (λ u h w. int-more u (came in-int h w))
-      (λ _. by (Front in-int) (eqb b (code ".")) (λ u h w. rw (eqb-true b (code ".") u) (int_left [] refl (rest-point (came after-point h w))))
-      (λ _. by (Front in-int) (letter_e b) (λ u h w. int_left [] refl (rest-power u (came after-e h w))) (λ _ h. none-not-some h)))
-  front after-point = by (Front after-point) (digit b) (λ u h w. frac-first u (came in-frac h w)) (λ _ h. none-not-some h)
-  front in-frac =
-      by (Front in-frac) (digit b) (λ u h w. frac-more u (came in-frac h w))
-      (λ _. by (Front in-frac) (letter_e b) (λ u h w. frac-power u (came after-e h w)) (λ _ h. none-not-some h))
-  front after-e =
-      by (Front after-e) (sign b) (λ u h w. power-sign u (came after-sign h w))
-      (λ _. by (Front after-e) (digit b) (λ u h w. power-digits u (came in-exp h w)) (λ _ h. none-not-some h))
-  front after-sign = by (Front after-sign) (digit b) (λ u h w. exp_first u (came in-exp h w)) (λ _ h. none-not-some h)
-  front in-exp = by (Front in-exp) (digit b) (λ u h w. exp_more u (came in-exp h w)) (λ _ h. none-not-some h)
+      by (Front after_minus) (eqb b (code "0")) (λ u h w. rw (eqb-true b (code "0") u) (int zero (came after_zero h w)))
+      (λ _. by (Front after_minus) (within (code "1") (code "9") b) (λ u h w. int-first u (came in_int h w)) (λ _ h. none-not-some h))
+  front after_zero =
+      by (Front after_zero) (eqb b (code ".")) (λ u h w. rw (eqb-true b (code ".") u) (rest-point (came after_point h w)))
+      (λ _. by (Front after_zero) (letter_e b) (λ u h w. rest-power u (came after_e h w)) (λ _ h. none-not-some h))
+  front in_int =
+      by (Front in_int) (digit b) (λ u h w. int-more u (came in_int h w))
+      (λ _. by (Front in_int) (eqb b (code ".")) (λ u h w. rw (eqb-true b (code ".") u) (int_left [] refl (rest-point (came after_point h w))))
+      (λ _. by (Front in_int) (letter_e b) (λ u h w. int_left [] refl (rest-power u (came after_e h w))) (λ _ h. none-not-some h)))
+  front after_point = by (Front after_point) (digit b) (λ u h w. frac-first u (came in_frac h w)) (λ _ h. none-not-some h)
+  front in_frac =
+      by (Front in_frac) (digit b) (λ u h w. frac-more u (came in_frac h w))
+      (λ _. by (Front in_frac) (letter_e b) (λ u h w. frac-power u (came after_e h w)) (λ _ h. none-not-some h))
+  front after_e =
+      by (Front after_e) (sign b) (λ u h w. power-sign u (came after_sign h w))
+      (λ _. by (Front after_e) (digit b) (λ u h w. power-digits u (came in_exp h w)) (λ _ h. none-not-some h))
+  front after_sign = by (Front after_sign) (digit b) (λ u h w. exp_first u (came in_exp h w)) (λ _ h. none-not-some h)
+  front in_exp = by (Front in_exp) (digit b) (λ u h w. exp_more u (came in_exp h w)) (λ _ h. none-not-some h)
 
 left : {s : NumberState} {i : Bool} {bs : List ℕ} → Accepts s i bs → Left s i bs
 left {s} {i} (ends h) = at-end s i h

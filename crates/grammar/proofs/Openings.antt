@@ -23,9 +23,9 @@ use Rattle.grammar.specs.Serving.Machine.{Out, Out.whole, Out.fault, Out.deep, S
 use Rattle.grammar.specs.Serving.Machine.{depth, opens, spell, follow, in_char, in_token, step, finish, scan, read}
 use Rattle.grammar.specs.Serving.Machine.Control.{AtObject, AtValue, AtElement, After, AtFirstKey, AtKey, AtColon, InString, InChar, InToken, InComment}
 use Rattle.grammar.specs.Serving.Machine.Message.{message, read_message, CharState, Want, NumberState, TokenState, char_start, char_step, escape_of, token_step, number_step, lowest, highest, wanted}
-use Rattle.grammar.specs.Serving.Machine.Message.CharState.{escape, hex0, hex1, hex2, hex3, low-backslash, low-u, low0, low1, low2, low3, utf8}
-use Rattle.grammar.specs.Serving.Machine.Message.Want.{one, two, two-E0, two-ED, three, three-F0, three-F4}
-use Rattle.grammar.specs.Serving.Machine.Message.NumberState.{begin, after_minus, after-zero, in-int, after-point, in-frac, after-e, after-sign, in-exp}
+use Rattle.grammar.specs.Serving.Machine.Message.CharState.{escape, hex0, hex1, hex2, hex3, low_backslash, low_u, low0, low1, low2, low3, utf8}
+use Rattle.grammar.specs.Serving.Machine.Message.Want.{one, two, two_E0, two_ED, three, three_F0, three_F4}
+use Rattle.grammar.specs.Serving.Machine.Message.NumberState.{begin, after_minus, after_zero, in_int, after_point, in_frac, after_e, after_sign, in_exp}
 use Rattle.grammar.specs.Serving.Machine.Message.TokenState.{word, number as in_number}
 use Rattle.grammar.proofs.Booleans.{clash}
 use Rattle.grammar.proofs.Rest.{level}
@@ -107,11 +107,11 @@ no_follow b e f g v (in_object a fs s i cs k) p h = rw (e, g) at h
 no_tail : (n : Want) → within (lowest n) (highest n) (code "0") ≡ false
 no_tail one = refl
 no_tail two = refl
-no_tail two-E0 = refl
-no_tail two-ED = refl
+no_tail two_E0 = refl
+no_tail two_ED = refl
 no_tail three = refl
-no_tail three-F0 = refl
-no_tail three-F4 = refl
+no_tail three_F0 = refl
+no_tail three_F4 = refl
 
 module _ (d : StringRole) (acc : List ℕ) (k : Stack) where
   no_char : (s : CharState) → Live (in_char message (char_step s (code "0")) d acc k) → Live (in_char message (char_step s (code "t")) d acc k) → ⊥
@@ -121,8 +121,8 @@ module _ (d : StringRole) (acc : List ℕ) (k : Stack) where
   no_char (hex1 v) z t = t
   no_char (hex2 v) z t = t
   no_char (hex3 v) z t = t
-  no_char (low-backslash h) z t = z
-  no_char (low-u h) z t = z
+  no_char (low_backslash h) z t = z
+  no_char (low_u h) z t = z
   no_char (low0 h) z t = t
   no_char (low1 h) z t = t
   no_char (low2 h v) z t = t
@@ -134,13 +134,13 @@ module _ (a : ℕ) (k : Stack) (p : ℕ) where
   unfolding blank token_step number_step
   no_number begin acc t = t
   no_number after_minus acc t = t
-  no_number after-zero acc t = no_follow (code "t") refl refl refl _ k p t
-  no_number in-int acc t = no_follow (code "t") refl refl refl _ k p t
-  no_number after-point acc t = t
-  no_number in-frac acc t = no_follow (code "t") refl refl refl _ k p t
-  no_number after-e acc t = t
-  no_number after-sign acc t = t
-  no_number in-exp acc t = no_follow (code "t") refl refl refl _ k p t
+  no_number after_zero acc t = no_follow (code "t") refl refl refl _ k p t
+  no_number in_int acc t = no_follow (code "t") refl refl refl _ k p t
+  no_number after_point acc t = t
+  no_number in_frac acc t = no_follow (code "t") refl refl refl _ k p t
+  no_number after_e acc t = t
+  no_number after_sign acc t = t
+  no_number in_exp acc t = no_follow (code "t") refl refl refl _ k p t
 
   no_token : (s : TokenState) → Live (in_token message (token_step s (code "0")) lim a k p (code "0")) → Live (in_token message (token_step s (code "t")) lim a k p (code "t")) → ⊥
   unfolding token_step

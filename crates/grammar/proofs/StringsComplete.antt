@@ -14,8 +14,8 @@ use Rattle.grammar.specs.Notation.{within}
 use Rattle.grammar.specs.MessageText.{join, Utf8, Utf8.one, Utf8.two, Utf8.three, Utf8.four, Escape, hex_digit, Hex4, Hex4.hex4, MessageChar, MessageChar.plain, MessageChar.escape, MessageChar.hex}
 use Rattle.grammar.specs.MessageText.{MessageChar.hex_pair}
 use Rattle.grammar.specs.Serving.Machine.{CharStep, CharStep.stay, CharStep.char}
-use Rattle.grammar.specs.Serving.Machine.Message.{message, Want, Want.two-E0, Want.two-ED, Want.three-F0, Want.three-F4, lowest, highest, wanted, CharState, char_start, char_step}
-use Rattle.grammar.specs.Serving.Machine.Message.CharState.{hex0, hex1, hex2, hex3, low-backslash, low-u, low0, low1, low2, low3, utf8}
+use Rattle.grammar.specs.Serving.Machine.Message.{message, Want, Want.two_E0, Want.two_ED, Want.three_F0, Want.three_F4, lowest, highest, wanted, CharState, char_start, char_step}
+use Rattle.grammar.specs.Serving.Machine.Message.CharState.{hex0, hex1, hex2, hex3, low_backslash, low_u, low0, low1, low2, low3, utf8}
 use Rattle.grammar.proofs.Booleans.{within-true, within-is, within-below, within-above, within-false, Outside, Outside.below, Outside.above}
 use Rattle.grammar.proofs.TokenRuns.{CharRun, CharRun.char_whole, CharRun.char_on, CharStarts, CharStarts.char_starts}
 use Rattle.grammar.proofs.Strings.{Unescaped, unescaped-true, escape-is, escape_no_u, hex-low}
@@ -45,7 +45,7 @@ module _ (b : ℕ) {x : ℕ} (e : hex_digit b ≡ some x) where
   unfolding char_step
   step_hex3_char v t = simp (e, t)
 
-  step_hex3_high : (v : ℕ) → within 0xD800 0xDBFF (v * 16 + x) ≡ true → char_step (hex3 v) b ≡ stay (low-backslash (v * 16 + x))
+  step_hex3_high : (v : ℕ) → within 0xD800 0xDBFF (v * 16 + x) ≡ true → char_step (hex3 v) b ≡ stay (low_backslash (v * 16 + x))
   unfolding char_step
   step_hex3_high v t = simp (e, t)
 
@@ -65,11 +65,11 @@ step_low0 : (b : ℕ) → hex_digit b ≡ some 13 → (h : ℕ) → char_step (l
 unfolding char_step
 step_low0 b e h = simp e
 
-pub step-low-backslash : (h : ℕ) → char_step (low-backslash h) (code "\\") ≡ stay (low-u h)
+pub step-low-backslash : (h : ℕ) → char_step (low_backslash h) (code "\\") ≡ stay (low_u h)
 unfolding char_step
 step-low-backslash h = refl
 
-pub step-low_u : (h : ℕ) → char_step (low-u h) (code "u") ≡ stay (low0 h)
+pub step-low_u : (h : ℕ) → char_step (low_u h) (code "u") ≡ stay (low0 h)
 unfolding char_step
 step-low_u h = refl
 
@@ -112,12 +112,12 @@ low-start x y z w a b c d e = let h = within-true 0xDC00 0xDFFF (((x * 16 + y) *
 
 -- the runs of `\u`
 low_run : {h o q w : ℕ} {m r : List ℕ} → Hex4 (suc (suc o)) m q r w → within 0xDC00 0xDFFF w ≡ true
-    → CharRun message (stay (low-backslash h)) o (code "\\" ∷ code "u" ∷ m) q r (0x10000 + (h - 0xD800) * 0x400 + (w - 0xDC00))
+    → CharRun message (stay (low_backslash h)) o (code "\\" ∷ code "u" ∷ m) q r (0x10000 + (h - 0xD800) * 0x400 + (w - 0xDC00))
 low_run {h} (hex4 {a = a} {b = b} {c = c} {d = d} {x = x} {y = y} {z = z} {w = w} ea eb ec ed) t =
     let f = low-start x y z w (hex-low a x ea) (hex-low b y eb) (hex-low c z ec) (hex-low d w ed) t in go x f.0 f.1 ea
   where
     go : {o : ℕ} {r : List ℕ} (x : ℕ) → x ≡ 13 → 12 ≤ y → hex_digit a ≡ some x
-        → CharRun message (stay (low-backslash h)) o (code "\\" ∷ code "u" ∷ a ∷ b ∷ c ∷ d ∷ r) (suc (suc (suc (suc (suc (suc o)))))) r
+        → CharRun message (stay (low_backslash h)) o (code "\\" ∷ code "u" ∷ a ∷ b ∷ c ∷ d ∷ r) (suc (suc (suc (suc (suc (suc o)))))) r
         (0x10000 + (h - 0xD800) * 0x400 + ((((x * 16 + y) * 16 + z) * 16 + w) - 0xDC00))
     go x e g ea =
         rw e (turn (step-low-backslash h) (turn (step-low_u h) (turn (step_low0 a (ea ∙ ap (λ (n : ℕ). some n) e) h)
@@ -128,7 +128,7 @@ hex-run (hex4 {a = a} {b = b} {c = c} {d = d} {x = x} {y = y} {z = z} {w = w} ea
     turn step_u (turn (step-hex0 a ea) (turn (step_hex1 b eb x (not-low-start x y z w (hex-low a x ea) (hex-low b y eb) (hex-low c z ec) (hex-low d w ed) t))
     (turn (step_hex2 c ec (x * 16 + y)) (turn (step_hex3_char d ed ((x * 16 + y) * 16 + z) (not-high (((x * 16 + y) * 16 + z) * 16 + w) t)) char_whole))))
 
-pair-run : {p o q h v : ℕ} {l m r : List ℕ} → Hex4 (suc (suc p)) l o m h → within 0xD800 0xDBFF h ≡ true → CharRun message (stay (low-backslash h)) o m q r v
+pair-run : {p o q h v : ℕ} {l m r : List ℕ} → Hex4 (suc (suc p)) l o m h → within 0xD800 0xDBFF h ≡ true → CharRun message (stay (low_backslash h)) o m q r v
     → CharRun message (stay CharState.escape) (suc p) (code "u" ∷ l) q r v
 pair-run (hex4 {a = a} {b = b} {c = c} {d = d} {x = x} {y = y} {z = z} {w = w} ea eb ec ed) t k =
     turn step_u (turn (step-hex0 a ea) (turn (step_hex1 b eb x (high-start x y z w (hex-low a x ea) (hex-low b y eb) (hex-low c z ec) (hex-low d w ed) t))
@@ -169,19 +169,19 @@ lead-four a h g =
       within-is 0xF1 0xF3 a h g,
     )
 
-pub lead_E0 : char_start 0xE0 ≡ stay (utf8 two-E0 0)
+pub lead_E0 : char_start 0xE0 ≡ stay (utf8 two_E0 0)
 unfolding char_start
 lead_E0 = refl
 
-pub lead_ED : char_start 0xED ≡ stay (utf8 two-ED 13)
+pub lead_ED : char_start 0xED ≡ stay (utf8 two_ED 13)
 unfolding char_start
 lead_ED = refl
 
-pub lead_F0 : char_start 0xF0 ≡ stay (utf8 three-F0 0)
+pub lead_F0 : char_start 0xF0 ≡ stay (utf8 three_F0 0)
 unfolding char_start
 lead_F0 = refl
 
-pub lead_F4 : char_start 0xF4 ≡ stay (utf8 three-F4 4)
+pub lead_F4 : char_start 0xF4 ≡ stay (utf8 three_F4 4)
 unfolding char_start
 lead_F4 = refl
 
@@ -212,7 +212,7 @@ three-run {p} {r} a b c ha hb hc hv o = go (eqb a 0xE0) refl
     below_A0 (above h) e = absurd (omega (arith, hb.upto, hc.upto))
 
     go2 : (y : Bool) → eqb a 0xED ≡ y → a ≢ 0xE0 → CharStarts message p (a ∷ b ∷ c ∷ r) (suc (suc (suc p))) r (join (join (a - 0xE0) b) c)
-    go2 true e n = let i : b ≤ 0x9F = below_A0 o (eqb-true a 0xED e) in rw (eqb-true a 0xED e) (first refl lead_ED (turn (step-utf8 two-ED 13 b hb.from i) (last (join 13 b))))
+    go2 true e n = let i : b ≤ 0x9F = below_A0 o (eqb-true a 0xED e) in rw (eqb-true a 0xED e) (first refl lead_ED (turn (step-utf8 two_ED 13 b hb.from i) (last (join 13 b))))
     go2 false e n =
         let h = ha.from in
         first (ne_eqb a (code "\"") (omega arith)) (lead-three a (omega arith) ha.upto (eqb-false a 0xED e))
@@ -222,7 +222,7 @@ three-run {p} {r} a b c ha hb hc hv o = go (eqb a 0xE0) refl
     go true e =
         let d = eqb-true a 0xE0 e in
         let i : 0xA0 ≤ b = omega (arith, hv.from, hb.from, hc.upto) in
-        rw d (first refl lead_E0 (turn (step-utf8 two-E0 0 b i hb.upto) (last (join 0 b))))
+        rw d (first refl lead_E0 (turn (step-utf8 two_E0 0 b i hb.upto) (last (join 0 b))))
     go false e = go2 (eqb a 0xED) refl (eqb-false a 0xE0 e)
 
 four-run : {p : ℕ} {r : List ℕ} (a b c d : ℕ) → In 0xF0 0xF7 a → In 0x80 0xBF b → In 0x80 0xBF c → In 0x80 0xBF d → In 0x10000 0x10FFFF (join (join (join (a - 0xF0) b) c) d)
@@ -236,7 +236,7 @@ four-run {p} {r} a b c d ha hb hc hd hv = go (eqb a 0xF0) refl
     go2 true e n =
         let m = eqb-true a 0xF4 e in
         let i : b ≤ 0x8F = omega (arith, hv.upto, hb.from, hc.from, hd.from) in
-        rw m (first refl lead_F4 (turn (step-utf8 three-F4 4 b hb.from i) (last (join 4 b))))
+        rw m (first refl lead_F4 (turn (step-utf8 three_F4 4 b hb.from i) (last (join 4 b))))
     go2 false e n =
         let m = eqb-false a 0xF4 e in
         let h = ha.from in
@@ -247,7 +247,7 @@ four-run {p} {r} a b c d ha hb hc hd hv = go (eqb a 0xF0) refl
     go true e =
         let m = eqb-true a 0xF0 e in
         let i : 0x90 ≤ b = omega (arith, hv.from, hb.from, hc.upto, hd.upto) in
-        rw m (first refl lead_F0 (turn (step-utf8 three-F0 0 b i hb.upto) (last (join 0 b))))
+        rw m (first refl lead_F0 (turn (step-utf8 three_F0 0 b i hb.upto) (last (join 0 b))))
     go false e = go2 (eqb a 0xF4) refl (eqb-false a 0xF0 e)
 
 plain-run : {p q c : ℕ} {l r : List ℕ} → Utf8 p l q r c → Unescaped c → CharStarts message p l q r c

@@ -14,9 +14,9 @@ use Rattle.grammar.specs.Notation.{within}
 use Rattle.grammar.specs.MessageText.{tail, join, Utf8, Utf8.one, Utf8.two, Utf8.three, Utf8.four, hex_digit, Hex4, Hex4.hex4, MessageChar, MessageChar.plain, MessageChar.escape, MessageChar.hex}
 use Rattle.grammar.specs.MessageText.{MessageChar.hex_pair}
 use Rattle.grammar.specs.Serving.Machine.{CharStep, CharStep.stay, CharStep.char, CharStep.bad}
-use Rattle.grammar.specs.Serving.Machine.Message.{message, Want, Want.two-E0, Want.two-ED, Want.three-F0, Want.three-F4, lowest, highest, wanted, CharState, char_start, char_step}
+use Rattle.grammar.specs.Serving.Machine.Message.{message, Want, Want.two_E0, Want.two_ED, Want.three_F0, Want.three_F4, lowest, highest, wanted, CharState, char_start, char_step}
 use Rattle.grammar.specs.Serving.Machine.Message.{escape_of, with_hex, escaped, unit}
-use Rattle.grammar.specs.Serving.Machine.Message.CharState.{hex0, hex1, hex2, hex3, low-backslash, low-u, low0, low1, low2, low3, utf8}
+use Rattle.grammar.specs.Serving.Machine.Message.CharState.{hex0, hex1, hex2, hex3, low_backslash, low_u, low0, low1, low2, low3, utf8}
 use Rattle.grammar.proofs.Booleans.{by, within-true, within-is, within-below, within-above, within-false, Outside, Outside.below, Outside.above}
 use Rattle.grammar.proofs.TokenRuns.{CharRun, CharRun.char_whole, CharRun.char_on}
 use Rattle.grammar.proofs.Strings.{unescaped-is, escape_of_lem, hex-low}
@@ -80,13 +80,13 @@ from_low0 {o} {q} {h} {c} (char_on {b = a} {l = l} {r = r} w) =
     by (λ y. CharRun message y (suc (suc (suc o))) l q r c → Low h o (code "\\" ∷ code "u" ∷ a ∷ l) q r c) (eqb x.value 0xD)
     (λ t u. from_low1 (x.hex ∙ ap (λ (n : ℕ). some n) (eqb-true x.value 0xD t)) u) (λ _ u. bad-run u) x.run
 
-from-low_u : {o q h c : ℕ} {l r : List ℕ} → CharRun message (stay (low-u h)) (suc o) l q r c → Low h o (code "\\" ∷ l) q r c
+from-low_u : {o q h c : ℕ} {l r : List ℕ} → CharRun message (stay (low_u h)) (suc o) l q r c → Low h o (code "\\" ∷ l) q r c
 unfolding char_step
 from-low_u {o} {q} {h} {c} (char_on {b = a} {l = l} {r = r} w) =
     by (λ y. CharRun message y (suc (suc o)) l q r c → Low h o (code "\\" ∷ a ∷ l) q r c) (eqb a (code "u"))
     (λ t u. rw (eqb-true a (code "u") t) (from_low0 u)) (λ _ u. bad-run u) w
 
-from-low-backslash : {o q h c : ℕ} {l r : List ℕ} → CharRun message (stay (low-backslash h)) o l q r c → Low h o l q r c
+from-low-backslash : {o q h c : ℕ} {l r : List ℕ} → CharRun message (stay (low_backslash h)) o l q r c → Low h o l q r c
 unfolding char_step
 from-low-backslash {o} {q} {h} {c} (char_on {b = a} {l = l} {r = r} w) =
     by (λ y. CharRun message y (suc o) l q r c → Low h o (a ∷ l) q r c) (eqb a (code "\\")) (λ t u. rw (eqb-true a (code "\\") t) (from-low_u u)) (λ _ u. bad-run u) w
@@ -207,14 +207,14 @@ four-char a b v t u e h g (last_two {b = c} {c = d} w x) =
     high-char (four t u w x (ap (λ (v : ℕ). join (join v c) d) e) (within-is 0x10000 0x10FFFF (join (join v c) d) (omega arith) (omega arith))) (omega arith) (omega arith)
 
 -- characters of three and four bytes, by the lead byte
-lead_E0 : {p q c : ℕ} {l r : List ℕ} → CharRun message (stay (utf8 two-E0 0)) (suc p) l q r c → MessageChar p (0xE0 ∷ l) q r c
+lead_E0 : {p q c : ℕ} {l r : List ℕ} → CharRun message (stay (utf8 two_E0 0)) (suc p) l q r c → MessageChar p (0xE0 ∷ l) q r c
 lead_E0 (char_on {b = b} w) =
-    let x = wanted-run two-E0 0 w in let h = x.from in let g = x.upto in
+    let x = wanted-run two_E0 0 w in let h = x.from in let g = x.upto in
     three-char 0xE0 b (join 0 b) refl (within-is 0x80 0xBF b (omega arith) g) refl (omega arith) (omega arith) (below (omega arith)) (from_one x.run)
 
-lead_ED : {p q c : ℕ} {l r : List ℕ} → CharRun message (stay (utf8 two-ED 13)) (suc p) l q r c → MessageChar p (0xED ∷ l) q r c
+lead_ED : {p q c : ℕ} {l r : List ℕ} → CharRun message (stay (utf8 two_ED 13)) (suc p) l q r c → MessageChar p (0xED ∷ l) q r c
 lead_ED (char_on {b = b} w) =
-    let x = wanted-run two-ED 13 w in let h = x.from in let g = x.upto in
+    let x = wanted-run two_ED 13 w in let h = x.from in let g = x.upto in
     three-char 0xED b (join 13 b) refl (within-is 0x80 0xBF b h (omega arith)) refl (omega arith) (omega arith) (below (omega arith)) (from_one x.run)
 
 lead_E : {p q c : ℕ} {l r : List ℕ} (a : ℕ) → 0xE1 ≤ a → a ≤ 0xEF → a ≢ 0xED → CharRun message (stay (utf8 Want.two (a - 0xE0))) (suc p) l q r c → MessageChar p (a ∷ l) q r c
@@ -230,14 +230,14 @@ lead_E a h g n (char_on {b = b} w) = go (wanted-run Want.two (a - 0xE0) w)
         three-char a b (join (a - 0xE0) b) (within-is 0xE0 0xEF a (omega arith) g) (within-is 0x80 0xBF b i j) refl (omega arith) (omega arith)
         (side i j (leb 0xEE a) refl) (from_one x.run)
 
-lead_F0 : {p q c : ℕ} {l r : List ℕ} → CharRun message (stay (utf8 three-F0 0)) (suc p) l q r c → MessageChar p (0xF0 ∷ l) q r c
+lead_F0 : {p q c : ℕ} {l r : List ℕ} → CharRun message (stay (utf8 three_F0 0)) (suc p) l q r c → MessageChar p (0xF0 ∷ l) q r c
 lead_F0 (char_on {b = b} w) =
-    let x = wanted-run three-F0 0 w in let h = x.from in let g = x.upto in
+    let x = wanted-run three_F0 0 w in let h = x.from in let g = x.upto in
     four-char 0xF0 b (join 0 b) refl (within-is 0x80 0xBF b (omega arith) g) refl (omega arith) (omega arith) (from-two x.run)
 
-lead_F4 : {p q c : ℕ} {l r : List ℕ} → CharRun message (stay (utf8 three-F4 4)) (suc p) l q r c → MessageChar p (0xF4 ∷ l) q r c
+lead_F4 : {p q c : ℕ} {l r : List ℕ} → CharRun message (stay (utf8 three_F4 4)) (suc p) l q r c → MessageChar p (0xF4 ∷ l) q r c
 lead_F4 (char_on {b = b} w) =
-    let x = wanted-run three-F4 4 w in let h = x.from in let g = x.upto in
+    let x = wanted-run three_F4 4 w in let h = x.from in let g = x.upto in
     four-char 0xF4 b (join 4 b) refl (within-is 0x80 0xBF b h (omega arith)) refl (omega arith) (omega arith) (from-two x.run)
 
 lead_F : {p q c : ℕ} {l r : List ℕ} (a : ℕ) → 0xF1 ≤ a → a ≤ 0xF3 → CharRun message (stay (utf8 Want.three (a - 0xF0))) (suc p) l q r c → MessageChar p (a ∷ l) q r c

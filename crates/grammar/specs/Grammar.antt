@@ -52,13 +52,13 @@ module _ (G : Lexis) where
       some_members : {n p o q : ℕ} {l m r : List ℕ} {fs : Fields} → Blanks p l o m → Members n o m q r fs → ObjectBody n p l q r fs
 
     -- A member, which is a key, a colon and a value, and those after it; the tree has the key's start and end. Its places, and what is left of the text at each:
-    --     start       key-end    colon         value        value-end    end
-    --     "in-key     after-key  :after-colon  at_value     more         rest
+    --     start       key_end    colon         value        value_end    end
+    --     "in_key     after_key  :after_colon  at_value     more         rest
     pub data Members : ℕ → ℕ → List ℕ → ℕ → List ℕ → Fields → Type 0 where
-      member : {n start key-end colon value value-end end quote : ℕ} {in-key after_key after-colon at_value more rest cs : List ℕ} {j : Json} {fs : Fields}
-          → G.quote quote ≡ true → Chars (suc start) in-key key-end after_key cs → Blanks key-end after_key colon (code ":" ∷ after-colon)
-          → Blanks (suc colon) after-colon value at_value → Value n value at_value value-end more j → MoreMembers n value-end more end rest fs
-          → Members n start (quote ∷ in-key) end rest (field start key-end cs j fs)
+      member : {n start key_end colon value value_end end quote : ℕ} {in_key after_key after_colon at_value more rest cs : List ℕ} {j : Json} {fs : Fields}
+          → G.quote quote ≡ true → Chars (suc start) in_key key_end after_key cs → Blanks key_end after_key colon (code ":" ∷ after_colon)
+          → Blanks (suc colon) after_colon value at_value → Value n value at_value value_end more j → MoreMembers n value_end more end rest fs
+          → Members n start (quote ∷ in_key) end rest (field start key_end cs j fs)
 
     -- after a member: the closing brace, or a comma and another member
     pub data MoreMembers : ℕ → ℕ → List ℕ → ℕ → List ℕ → Fields → Type 0 where

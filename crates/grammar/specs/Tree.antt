@@ -36,10 +36,10 @@ end_of (obj a e fs) = e
 
 -- Reference, Trees: the six JSON kinds
 pub data Kind : Type 0 where
-  object array string number boolean null-kind : Kind
+  object array string number boolean null_kind : Kind
 
 abbrev pub scalar_kind : Scalar → Kind
-scalar_kind null = null-kind
+scalar_kind null = null_kind
 scalar_kind (bool b) = boolean
 scalar_kind (num i t) = number
 scalar_kind (str cs) = string

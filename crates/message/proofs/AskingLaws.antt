@@ -34,7 +34,6 @@ use Rattle.message.specs.declared.commands.Command.TheVariants.{Row, Unknown}
 use Rattle.message.specs.declared.envelope.Envelope as E
 use Rattle.message.specs.declared.envelope.Envelope.TheVariants.{Call, Improper}
 use Rattle.message.specs.declared.asked.Asked.{Asked}
-use Rattle.message.specs.declared.asked.Asking.{Asking}
 use Rattle.message.specs.declared.asked.Asking.TheVariants.{Asks, Refuses}
 use Rattle.message.specs.Commands.{as_command, FindsCommand}
 use Rattle.message.specs.Envelopes.{SaidAt, EnvelopeTold, ReadsEnvelope}

@@ -1,4 +1,6 @@
 // The numbers of the answers (Reference, Schema answers, Message answers and Places).
+#![tactic(auto)]
+
 ghost use Rattle.std.specs.Prelude.{◌≡◌};
 ghost use Rattle.rules.specs.SchemaAnswers as Schemas;
 ghost use Rattle.rules.specs.MessageAnswers as Messages;

@@ -1,4 +1,6 @@
 // What tests and benchmarks in other languages call of the inner layers. The gateway itself does not use it.
+#![tactic(auto)]
+
 ghost use Rattle.std.specs.Prelude.{◌≡◌, cond, ◌-◌, leb, take, drop};
 ghost use Rattle.grammar.specs.Integers.{negative, unsigned_part, decimal};
 ghost use Rattle.strings.specs.Strings.{grammar_of};

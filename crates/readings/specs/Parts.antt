@@ -4,7 +4,7 @@ use Rattle.std.proofs.Math.Option.{Option, none, some}
 use Rattle.grammar.specs.Tree.{Scalar, Json, Items, Fields, Kind, kind_of}
 use Rattle.grammar.specs.Tree.Scalar.{num}
 use Rattle.grammar.specs.Tree.Json.{leaf, arr, obj}
-use Rattle.grammar.specs.Tree.Kind.{object, array, string, number, boolean, null-kind}
+use Rattle.grammar.specs.Tree.Kind.{object, array, string, number, boolean, null_kind}
 use Rattle.grammar.specs.Keys.{keys_once}
 use Rattle.grammar.specs.Serving.Machine.Message.{message}
 use Rattle.rules.specs.Types.{is_built_in, column, ranges, number_fits, built_in_takes}
@@ -24,7 +24,7 @@ use Rattle.readings.specs.declared.contents.Content.TheVariants.{Alone, Elements
 -- the JSON kind of a node's kind, by number, and its column
 abbrev pub node_kinds : List (Option Kind)
 node_kinds =
-    none ∷ some null-kind ∷ some boolean ∷ some boolean ∷ some number ∷ some number ∷ some string ∷ some string
+    none ∷ some null_kind ∷ some boolean ∷ some boolean ∷ some number ∷ some number ∷ some string ∷ some string
     ∷ some array ∷ some object ∷ []
 
 abbrev pub column_of : ℕ → ℕ

@@ -61,7 +61,7 @@ fn put_node_record(nodes: &[u32], k: usize, t: u32, array: u32, records: &mut [u
 }
 
 // The value at a node, at a type.
-#[cycle(read_fields_read_items_read_plain_read_value)]
+#[cycle(readers)]
 fn read_value(
     schema: &[u8],
     rows: &[u32],
@@ -102,7 +102,7 @@ fn read_value(
 }
 
 // The value at a node, at a type that is no alternate.
-#[cycle(read_fields_read_items_read_plain_read_value)]
+#[cycle(readers)]
 fn read_plain(
     schema: &[u8],
     rows: &[u32],
@@ -159,7 +159,7 @@ fn read_plain(
 }
 
 // The elements of the array at a node, each at the type alone.
-#[cycle(read_fields_read_items_read_plain_read_value)]
+#[cycle(readers)]
 fn read_items(
     schema: &[u8],
     rows: &[u32],
@@ -205,7 +205,7 @@ fn read_items(
 }
 
 // The fields of the object at a node, each a member of one of two structs, and every mandatory member among them.
-#[cycle(read_fields_read_items_read_plain_read_value)]
+#[cycle(readers)]
 fn read_fields(
     schema: &[u8],
     rows: &[u32],

@@ -1,4 +1,6 @@
 // The resolver: raw rows, in which names that refer are words that name them, become the table of the schema, in place.
+#![tactic(auto)]
+
 pub mod discriminators;
 pub mod find;
 pub mod slots;

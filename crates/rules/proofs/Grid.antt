@@ -13,13 +13,13 @@ use Rattle.grammar.specs.Notation.{all}
 use Rattle.grammar.specs.Tree.{Json, Kind, kind_of}
 use Rattle.grammar.specs.Tree.Scalar.{null, bool, num, str}
 use Rattle.grammar.specs.Tree.Json.{leaf, arr, obj}
-use Rattle.grammar.specs.Tree.Kind.{object, array, string, number, boolean, null-kind}
+use Rattle.grammar.specs.Tree.Kind.{object, array, string, number, boolean, null_kind}
 use Rattle.rules.specs.Types.{first_row, built_in_kinds, column, same_kind, takes_kind, grid, takes, any_type, is_built_in, value_in_range, built_in_takes}
 use Rattle.rules.specs.Rows.{up_from, is_enum, is_struct, is_union, type_kind}
 use Rattle.rules.proofs.Lists.{clash, and_left, or_implies, all_true, in_up_from}
 
 abbrev kinds : List Kind
-kinds = object ∷ array ∷ string ∷ number ∷ boolean ∷ null-kind ∷ []
+kinds = object ∷ array ∷ string ∷ number ∷ boolean ∷ null_kind ∷ []
 
 every-kind : (k : Kind) → Memᴰ k kinds
 every-kind object = Memᴰ.head refl
@@ -27,7 +27,7 @@ every-kind array = Memᴰ.tail (Memᴰ.head refl)
 every-kind string = Memᴰ.tail (Memᴰ.tail (Memᴰ.head refl))
 every-kind number = Memᴰ.tail (Memᴰ.tail (Memᴰ.tail (Memᴰ.head refl)))
 every-kind boolean = Memᴰ.tail (Memᴰ.tail (Memᴰ.tail (Memᴰ.tail (Memᴰ.head refl))))
-every-kind null-kind = Memᴰ.tail (Memᴰ.tail (Memᴰ.tail (Memᴰ.tail (Memᴰ.tail (Memᴰ.head refl)))))
+every-kind null_kind = Memᴰ.tail (Memᴰ.tail (Memᴰ.tail (Memᴰ.tail (Memᴰ.tail (Memᴰ.head refl)))))
 
 kind-back : (k : Kind) → get_or kinds (column k) object ≡ k
 kind-back object = refl
@@ -35,7 +35,7 @@ kind-back array = refl
 kind-back string = refl
 kind-back number = refl
 kind-back boolean = refl
-kind-back null-kind = refl
+kind-back null_kind = refl
 
 pub same_kind_lem : (j k : Kind) → same_kind j k ≡ true → j ≡ k
 same_kind_lem j k e = sym (kind-back j) ∙ ap (λ n. get_or kinds n object) (eqb-true (column j) (column k) e) ∙ kind-back k

@@ -231,7 +231,7 @@ module _ (S T m : List ℕ) (room : ℕ) where
       go true e = here M.TooLong after_size k (ltb-true message_bytes (length m) e) refl
       go false e = let l = ltb-false message_bytes (length m) e in text ok l (past M.TooLong after_size k (λ (h : message_bytes < length m). omega arith))
 
-  -- The order of refusals decides every message: there is one outcome, the one that messageResult gives.
+  -- The order of refusals decides every message: there is one outcome, the one that `message_result` gives.
   pub message-outcome : Outcome (message_result S T m room)
   unfolding message_result
   message-outcome = go (sound S T) refl

@@ -13,7 +13,7 @@ use Rattle.grammar.specs.Notation.{within}
 use Rattle.grammar.specs.Tree.{Json, Items, Fields, Kind, kind_of}
 use Rattle.grammar.specs.Tree.Scalar.{str}
 use Rattle.grammar.specs.Tree.Json.{leaf, arr, obj}
-use Rattle.grammar.specs.Tree.Kind.{object, array, string, number, boolean, null-kind}
+use Rattle.grammar.specs.Tree.Kind.{object, array, string, number, boolean, null_kind}
 use Rattle.rules.specs.Kinds.{enum_kind}
 use Rattle.rules.specs.Types.{first_row, takes}
 use Rattle.rules.specs.Rows.{kind}
@@ -32,7 +32,7 @@ crossed t array = false
 crossed t string = within 2 12 t
 crossed t number = eqb t 1
 crossed t boolean = false
-crossed t null-kind = false
+crossed t null_kind = false
 
 -- tested over the whole grid at once
 grid-keeps-apart : (t : ℕ) (k : Kind) → takes t k ≡ true → crossed t k ≡ true → ⊥

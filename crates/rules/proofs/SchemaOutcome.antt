@@ -262,7 +262,7 @@ module _ (S : List ℕ) (room : ℕ) where
       let i = schema_place-only S x l (placed x (first-has (λ y. SchemaApplies y S room) schema_order h)) in
       rw e (p ∙ ap (Refused x) i, q)
 
-  -- The reference's table of schema answers: for every schema and room there is one outcome, the one that schemaResult gives.
+  -- The reference's table of schema answers: for every schema and room there is one outcome, the one that `schema_result` gives.
   pub schema-outcome : SchemaOutcome S room (schema_result S room).answer (schema_result S room).words
   schema-outcome = rw result_is allowed
 

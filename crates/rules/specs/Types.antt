@@ -5,7 +5,7 @@ use Rattle.grammar.specs.Notation.{text}
 use Rattle.grammar.specs.Tree.{Scalar, Json, Kind, kind_of}
 use Rattle.grammar.specs.Tree.Scalar.{null, bool, num, str}
 use Rattle.grammar.specs.Tree.Json.{leaf, arr, obj}
-use Rattle.grammar.specs.Tree.Kind.{object, array, string, number, boolean, null-kind}
+use Rattle.grammar.specs.Tree.Kind.{object, array, string, number, boolean, null_kind}
 use Rattle.grammar.specs.Integers.{negative, unsigned_part, decimal}
 
 -- the built-ins' names, by number from 1 on
@@ -32,7 +32,7 @@ any_type = length built_ins
 abbrev pub built_in_kinds : List (Option Kind)
 built_in_kinds =
     some string ∷ some number ∷ some number ∷ some number ∷ some number ∷ some number ∷ some number ∷ some number
-    ∷ some number ∷ some number ∷ some number ∷ some number ∷ some boolean ∷ some null-kind ∷ none ∷ []
+    ∷ some number ∷ some number ∷ some number ∷ some number ∷ some boolean ∷ some null_kind ∷ none ∷ []
 
 -- the grid's columns
 abbrev pub column : Kind → ℕ
@@ -41,7 +41,7 @@ column array = 1
 column string = 2
 column number = 3
 column boolean = 4
-column null-kind = 5
+column null_kind = 5
 
 abbrev pub same_kind : Kind → Kind → Bool
 same_kind j k = eqb (column j) (column k)
@@ -52,7 +52,7 @@ takes_kind (some j) k = same_kind j k
 
 -- the grid: a row for each built-in, of 6 JSON kinds
 abbrev pub grid : List (List Bool)
-grid = map (λ (k : Option Kind). map (takes_kind k) (object ∷ array ∷ string ∷ number ∷ boolean ∷ null-kind ∷ [])) built_in_kinds
+grid = map (λ (k : Option Kind). map (takes_kind k) (object ∷ array ∷ string ∷ number ∷ boolean ∷ null_kind ∷ [])) built_in_kinds
 
 -- built-in number b takes the JSON kind k; no other number takes any
 unfoldable pub takes : ℕ → Kind → Bool

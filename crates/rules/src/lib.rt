@@ -1,4 +1,6 @@
 // The answers, the words of rows and the limits as values with names; their meaning stands in specs/. It has no code of its own.
+#![tactic(auto)]
+
 pub mod kind;
 pub mod row;
 

@@ -12,8 +12,8 @@ use Rattle.grammar.specs.Notation.{within}
 use Rattle.grammar.specs.MessageText.{hex_digit, join}
 use Rattle.grammar.specs.Serving.Machine.{CharStep, CharStep.stay, CharStep.char, CharStep.bad}
 use Rattle.grammar.specs.Serving.Machine.Message.{char_start, char_step, escape_of, with_hex, wanted, escaped, lowest, highest, CharState, Want}
-use Rattle.grammar.specs.Serving.Machine.Message.CharState.{escape, hex0, hex1, hex2, hex3, low-backslash, low-u, low0, low1, low2, low3, utf8}
-use Rattle.grammar.specs.Serving.Machine.Message.Want.{one, two, two-E0, two-ED, three, three-F0, three-F4}
+use Rattle.grammar.specs.Serving.Machine.Message.CharState.{escape, hex0, hex1, hex2, hex3, low_backslash, low_u, low0, low1, low2, low3, utf8}
+use Rattle.grammar.specs.Serving.Machine.Message.Want.{one, two, two_E0, two_ED, three, three_F0, three_F4}
 use Rattle.grammar.proofs.Strings.{hex-low}
 use Rattle.grammar.proofs.Booleans.{within-true, within-is, within-below, within-above, within-false, Outside, Outside.below, Outside.above}
 use Rattle.stream.specs.Serving.Modes.{DigitMode, CharMode, CharTurn, begin_char, char_turn, with_digit, want_turn, escape_turn}
@@ -25,8 +25,8 @@ forget_char hex0 = CharMode.digit DigitMode.hex0
 forget_char (hex1 v) = CharMode.digit (DigitMode.hex1 (eqb v 0xD))
 forget_char (hex2 v) = CharMode.digit (DigitMode.hex2 (within 0xD8 0xDB v))
 forget_char (hex3 v) = CharMode.digit (DigitMode.hex3 (within 0xD80 0xDBF v))
-forget_char (low-backslash h) = CharMode.low-backslash
-forget_char (low-u h) = CharMode.low-u
+forget_char (low_backslash h) = CharMode.low_backslash
+forget_char (low_u h) = CharMode.low_u
 forget_char (low0 h) = CharMode.digit DigitMode.low0
 forget_char (low1 h) = CharMode.digit DigitMode.low1
 forget_char (low2 h v) = CharMode.digit DigitMode.low2
@@ -96,11 +96,11 @@ digit_turns {f} {g} b h = go (hex_digit b) refl
 want_turns : (w : Want) (v : ℕ) → Chars (wanted w v) (want_turn w)
 want_turns one v = completes
 want_turns two v = stays refl
-want_turns two-E0 v = stays refl
-want_turns two-ED v = stays refl
+want_turns two_E0 v = stays refl
+want_turns two_ED v = stays refl
 want_turns three v = stays refl
-want_turns three-F0 v = stays refl
-want_turns three-F4 v = stays refl
+want_turns three_F0 v = stays refl
+want_turns three_F4 v = stays refl
 
 hex1_turns : (v d : ℕ) → d ≤ 15
     → Chars (cond (within 0xDC 0xDF (v * 16 + d)) bad (stay (hex2 (v * 16 + d))))
@@ -110,8 +110,8 @@ hex1_turns v d h =
     (tests (eqb v 0xD && within 0xC 0xF d) fails (stays (ap (λ (z : Bool). CharMode.digit (DigitMode.hex2 z)) (within-two 8 0xB v d h (omega arith)))))
 
 hex3_turns : (v d : ℕ) → d ≤ 15
-    → Chars (cond (within 0xD800 0xDBFF (v * 16 + d)) (stay (low-backslash (v * 16 + d))) (char (v * 16 + d)))
-    (cond (within 0xD80 0xDBF v) (CharTurn.stay CharMode.low-backslash) CharTurn.char)
+    → Chars (cond (within 0xD800 0xDBFF (v * 16 + d)) (stay (low_backslash (v * 16 + d))) (char (v * 16 + d)))
+    (cond (within 0xD80 0xDBF v) (CharTurn.stay CharMode.low_backslash) CharTurn.char)
 hex3_turns v d h = rw (within-digit 0xD80 0xDBF v d h) (tests (within 0xD80 0xDBF v) (stays refl) completes)
 
 escape_turns : (y : Option ℕ) → Chars (escaped y) (escape_turn y)
@@ -125,8 +125,8 @@ char_turns hex0 b = digit_turns b (λ d h. stays refl)
 char_turns (hex1 v) b = digit_turns b (λ d h. hex1_turns v d h)
 char_turns (hex2 v) b = digit_turns b (λ d h. stays (ap (λ (z : Bool). CharMode.digit (DigitMode.hex3 z)) (within-digit 0xD8 0xDB v d h)))
 char_turns (hex3 v) b = digit_turns b (λ d h. hex3_turns v d h)
-char_turns (low-backslash h) b = tests (eqb b (code "\\")) (stays refl) fails
-char_turns (low-u h) b = tests (eqb b (code "u")) (stays refl) fails
+char_turns (low_backslash h) b = tests (eqb b (code "\\")) (stays refl) fails
+char_turns (low_u h) b = tests (eqb b (code "u")) (stays refl) fails
 char_turns (low0 h) b = digit_turns b (λ d g. tests (eqb d 0xD) (stays refl) fails)
 char_turns (low1 h) b = digit_turns b (λ d g. tests (leb 0xC d) (stays refl) fails)
 char_turns (low2 h v) b = digit_turns b (λ d g. stays refl)

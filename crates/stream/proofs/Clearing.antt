@@ -148,17 +148,17 @@ module _ (b : ℕ) (c : clears b ≡ true) where
   unfolding turn
   utf8_stuck Want.one d fs = tested (λ b. turn (Mode.inside_char d (CharMode.utf8 Want.one)) fs b) refl b c
   utf8_stuck Want.two d fs = tested (λ b. turn (Mode.inside_char d (CharMode.utf8 Want.two)) fs b) refl b c
-  utf8_stuck Want.two-E0 d fs = tested (λ b. turn (Mode.inside_char d (CharMode.utf8 Want.two-E0)) fs b) refl b c
-  utf8_stuck Want.two-ED d fs = tested (λ b. turn (Mode.inside_char d (CharMode.utf8 Want.two-ED)) fs b) refl b c
+  utf8_stuck Want.two_E0 d fs = tested (λ b. turn (Mode.inside_char d (CharMode.utf8 Want.two_E0)) fs b) refl b c
+  utf8_stuck Want.two_ED d fs = tested (λ b. turn (Mode.inside_char d (CharMode.utf8 Want.two_ED)) fs b) refl b c
   utf8_stuck Want.three d fs = tested (λ b. turn (Mode.inside_char d (CharMode.utf8 Want.three)) fs b) refl b c
-  utf8_stuck Want.three-F0 d fs = tested (λ b. turn (Mode.inside_char d (CharMode.utf8 Want.three-F0)) fs b) refl b c
-  utf8_stuck Want.three-F4 d fs = tested (λ b. turn (Mode.inside_char d (CharMode.utf8 Want.three-F4)) fs b) refl b c
+  utf8_stuck Want.three_F0 d fs = tested (λ b. turn (Mode.inside_char d (CharMode.utf8 Want.three_F0)) fs b) refl b c
+  utf8_stuck Want.three_F4 d fs = tested (λ b. turn (Mode.inside_char d (CharMode.utf8 Want.three_F4)) fs b) refl b c
 
   char_stuck : (s : CharMode) (d : Bool) (fs : List Bool) → turn (Mode.inside_char d s) fs b ≡ Turn.stuck
   unfolding turn
   char_stuck CharMode.escape d fs = tested (λ b. turn (Mode.inside_char d CharMode.escape) fs b) refl b c
-  char_stuck CharMode.low-backslash d fs = tested (λ b. turn (Mode.inside_char d CharMode.low-backslash) fs b) refl b c
-  char_stuck CharMode.low-u d fs = tested (λ b. turn (Mode.inside_char d CharMode.low-u) fs b) refl b c
+  char_stuck CharMode.low_backslash d fs = tested (λ b. turn (Mode.inside_char d CharMode.low_backslash) fs b) refl b c
+  char_stuck CharMode.low_u d fs = tested (λ b. turn (Mode.inside_char d CharMode.low_u) fs b) refl b c
   char_stuck (CharMode.digit s) d fs = tested (λ b. turn (Mode.inside_char d (CharMode.digit s)) fs b) refl b c
   char_stuck (CharMode.utf8 w) d fs = utf8_stuck w d fs
 
@@ -171,13 +171,13 @@ module _ (b : ℕ) (c : clears b ≡ true) where
   unfolding blank number_step
   number-off NumberState.begin = tested (λ b. off (number_step NumberState.begin b)) refl b c
   number-off NumberState.after_minus = tested (λ b. off (number_step NumberState.after_minus b)) refl b c
-  number-off NumberState.after-zero = tested (λ b. off (number_step NumberState.after-zero b)) refl b c
-  number-off NumberState.in-int = tested (λ b. off (number_step NumberState.in-int b)) refl b c
-  number-off NumberState.after-point = tested (λ b. off (number_step NumberState.after-point b)) refl b c
-  number-off NumberState.in-frac = tested (λ b. off (number_step NumberState.in-frac b)) refl b c
-  number-off NumberState.after-e = tested (λ b. off (number_step NumberState.after-e b)) refl b c
-  number-off NumberState.after-sign = tested (λ b. off (number_step NumberState.after-sign b)) refl b c
-  number-off NumberState.in-exp = tested (λ b. off (number_step NumberState.in-exp b)) refl b c
+  number-off NumberState.after_zero = tested (λ b. off (number_step NumberState.after_zero b)) refl b c
+  number-off NumberState.in_int = tested (λ b. off (number_step NumberState.in_int b)) refl b c
+  number-off NumberState.after_point = tested (λ b. off (number_step NumberState.after_point b)) refl b c
+  number-off NumberState.in_frac = tested (λ b. off (number_step NumberState.in_frac b)) refl b c
+  number-off NumberState.after_e = tested (λ b. off (number_step NumberState.after_e b)) refl b c
+  number-off NumberState.after_sign = tested (λ b. off (number_step NumberState.after_sign b)) refl b c
+  number-off NumberState.in_exp = tested (λ b. off (number_step NumberState.in_exp b)) refl b c
 
   number_stuck : (s : Option NumberState) (i : Option Bool) (fs : List Bool) → off s ≡ Turn.stuck → number_turn s i fs b ≡ Turn.stuck
   number_stuck (some s) i fs h = let z : ◌≡◌ {A = ℕ} 0 1 = cc in absurd (omega arith)

@@ -9,7 +9,7 @@ use mathlib.Core.List.{List, [], ◌∷◌}
 use lib.ListN.{length}
 use lib.Dec.{eqb, leb}
 use borrow.Author.Tests.{eqb-true, eqb-false, leb-true, leb-false}
-use Rattle.grammar.specs.Serving.Machine.Message.{Want, Want.one, Want.two, Want.two-E0, Want.two-ED, Want.three, Want.three-F0, Want.three-F4, NumberState}
+use Rattle.grammar.specs.Serving.Machine.Message.{Want, Want.one, Want.two, Want.two_E0, Want.two_ED, Want.three, Want.three_F0, Want.three_F4, NumberState}
 use Rattle.stream.specs.Serving.Modes.{DigitMode, CharMode, Point, Mode}
 use Rattle.stream.specs.Serving.Feeding.{Standing}
 use Rattle.stream.specs.Serving.States.{first_point, first_string, key_string, first_char, first_key_char, mode_end, mode_at, bits, brackets_of, Known, Nest, stands_for, Normal}
@@ -31,16 +31,16 @@ digit_number DigitMode.low3 = 13
 abbrev want_number : Want → ℕ
 want_number one = 14
 want_number two = 15
-want_number two-E0 = 16
-want_number two-ED = 17
+want_number two_E0 = 16
+want_number two_ED = 17
 want_number three = 18
-want_number three-F0 = 19
-want_number three-F4 = 20
+want_number three_F0 = 19
+want_number three_F4 = 20
 
 abbrev char_number : CharMode → ℕ
 char_number CharMode.escape = 0
-char_number CharMode.low-backslash = 1
-char_number CharMode.low-u = 2
+char_number CharMode.low_backslash = 1
+char_number CharMode.low_u = 2
 char_number (CharMode.digit s) = digit_number s
 char_number (CharMode.utf8 w) = want_number w
 
@@ -55,13 +55,13 @@ point_number Point.colon = 7
 abbrev number_number : NumberState → ℕ
 number_number NumberState.begin = 0
 number_number NumberState.after_minus = 10
-number_number NumberState.after-zero = 11
-number_number NumberState.in-int = 12
-number_number NumberState.after-point = 13
-number_number NumberState.in-frac = 14
-number_number NumberState.after-e = 15
-number_number NumberState.after-sign = 16
-number_number NumberState.in-exp = 17
+number_number NumberState.after_zero = 11
+number_number NumberState.in_int = 12
+number_number NumberState.after_point = 13
+number_number NumberState.in_frac = 14
+number_number NumberState.after_e = 15
+number_number NumberState.after_sign = 16
+number_number NumberState.in_exp = 17
 
 -- by the byte wanted and how many come after it
 abbrev word_number : ℕ → ℕ → ℕ

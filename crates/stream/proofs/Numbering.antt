@@ -28,13 +28,13 @@ pub digit-last : (c : ℕ) → 13 ≤ c → digit_at c ≡ DigitMode.low3
 unfolding digit_at
 digit-last c h = get_or-eq_default digits DigitMode.low3 {n = c - first_digit} (omega arith)
 
-pub want_last : (c : ℕ) → 20 ≤ c → want_at c ≡ Want.three-F4
+pub want_last : (c : ℕ) → 20 ≤ c → want_at c ≡ Want.three_F4
 unfolding want_at
-want_last c h = get_or-eq_default wants Want.three-F4 {n = c - first_tail} (omega arith)
+want_last c h = get_or-eq_default wants Want.three_F4 {n = c - first_tail} (omega arith)
 
-pub number-last : (m : ℕ) → 17 ≤ m → number_at m ≡ NumberState.in-exp
+pub number-last : (m : ℕ) → 17 ≤ m → number_at m ≡ NumberState.in_exp
 unfolding number_at
-number-last m h = get_or-eq_default numbers NumberState.in-exp {n = m - first_number} (omega arith)
+number-last m h = get_or-eq_default numbers NumberState.in_exp {n = m - first_number} (omega arith)
 
 pub word-last : (m : ℕ) → 26 ≤ m → word_at m ≡ text "e"
 unfolding word_at
@@ -64,11 +64,11 @@ point-first m r = go (ltb m 3) refl
     go false t = get_or-eq_default points Point.value {n = m - first_point} (omega (arith, past 3 5 m (ltb-false m 3 t) r))
 
 -- Characters
-two : char_at 2 ≡ CharMode.low-u
+two : char_at 2 ≡ CharMode.low_u
 unfolding char_at
 two = refl
 
-pub low-mode : (c : ℕ) → 2 ≤ c → c < first_digit → char_at c ≡ CharMode.low-u
+pub low-mode : (c : ℕ) → 2 ≤ c → c < first_digit → char_at c ≡ CharMode.low_u
 low-mode c h g = let e : c ≡ 2 = omega arith in ap char_at e ∙ two
 
 pub digit-mode : (c : ℕ) → first_digit ≤ c → c < first_tail → char_at c ≡ digit (digit_at c)

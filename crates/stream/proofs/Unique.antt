@@ -10,14 +10,12 @@ use lib.ListN.{length, take, set, length-set, length-append, replicate, length-r
 use lib.Dec.{eqb}
 use Rattle.grammar.specs.Limits.{message_levels}
 use Rattle.grammar.specs.Tree.{Json.arr, Json.obj, Items, Items.no_items, Items.item, Fields}
-use Rattle.grammar.specs.Lexis.{blank}
 use Rattle.grammar.specs.Grammar.{Blanks, Value, Text}
 use Rattle.grammar.specs.MessageText.{message_lexis}
 use Rattle.grammar.specs.Starts.{Valid, Viable}
 use Rattle.grammar.proofs.Booleans.{clash}
 use Rattle.rules.specs.declared.MessageRefusal.{MessageRefusal}
 use Rattle.rules.specs.declared.MessageRefusal.TheVariants.{NotText, TooDeep}
-use Rattle.stream.specs.declared.pieces.Said.TheVariants.{Message}
 use Rattle.stream.specs.Stream as stream
 use Rattle.stream.specs.Stream.{clears, opened, Begun, Belongs.first, Belongs.later, Refuses, Refuses.stray, Refuses.fault, Refuses.deep, Refuses.long}
 use Rattle.stream.specs.Stream.{Output, Output.message, Output.refused, End, Stream, Skips}

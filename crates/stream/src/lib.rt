@@ -1,4 +1,6 @@
 // Messages in pieces: a reader that takes the bytes of a stream as they come, in pieces of any size, and hands out whole messages.
+#![tactic(auto)]
+
 pub mod chars;
 pub mod literals;
 pub mod mode;

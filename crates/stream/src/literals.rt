@@ -3,7 +3,7 @@ ghost use Rattle.std.specs.Prelude.{◌≡◌, ◌≤◌};
 ghost use Rattle.grammar.specs.Notation.{digit};
 ghost use Rattle.grammar.specs.MessageText.{letter_e, sign};
 ghost use Rattle.grammar.specs.Serving.Machine.Message.{number_step, number_end};
-ghost use Rattle.grammar.specs.Serving.Machine.Message.NumberState.{begin, after_minus, after-zero, in-exp};
+ghost use Rattle.grammar.specs.Serving.Machine.Message.NumberState.{begin, after_minus, after_zero, in_exp};
 ghost use Rattle.stream.specs.Serving.States.{number_at, word_at, first_number, first_word};
 ghost use Rattle.stream.specs.Serving.Contracts.{NumberGoes, is_some, wanted_byte, wanted_rest, WordGoes};
 
@@ -60,7 +60,7 @@ pub fn begin_number(b: u8) -> NumberTurn
 
 // After the integer part.
 fn after_integer(b: u8) -> NumberTurn
-    ensures { NumberGoes result (number_step after-zero b) }
+    ensures { NumberGoes result (number_step after_zero b) }
 {
     if b == b'.' {
         return NumberTurn::On(mode::AFTER_POINT);
@@ -73,7 +73,7 @@ fn after_integer(b: u8) -> NumberTurn
 
 // A digit of the exponent.
 fn exponent_digit(b: u8) -> NumberTurn
-    ensures { NumberGoes result (number_step in-exp b) }
+    ensures { NumberGoes result (number_step in_exp b) }
 {
     if is_digit(b) {
         return NumberTurn::On(mode::IN_EXPONENT);

@@ -1,6 +1,6 @@
 -- Bytes as the digits of a number: numbers of as many digits are equal exactly if their digits are.
 -- By induction on how many digits there are.
-use Prim.Native.Nat.{ℕ, zero, suc, ◌+◌, ◌*◌, ◌^◌, ◌≤◌, ◌<◌}
+use Prim.Native.Nat.{ℕ, zero, suc, ◌+◌, ◌*◌, ◌^◌, ◌<◌}
 use native.Mathlib.Nat.{zero-add, add-zero, suc-add, one-mul, mul_assoc, mul_comm, pow-zero, pow-suc}
 use native.Mathlib.Omega.{arith}
 use mathlib.Core.Path.{◌≡◌, refl, sym, ap, ap₂, ◌∙◌}

@@ -71,10 +71,10 @@ module _ {s : List ℕ} {a e : ℕ} {plain : Bool} {name : List ℕ} {r : Bool} 
   name-coded D w = record { told = λ cs m p. w.told e cs m }
 
 -- two strings
-module _ {s : List ℕ} {a e b f : ℕ} {plain-a plain-b r : Bool} where
-  pub strings_plain : (d : Dialects.Dialect) → plain-a ≡ true → plain-b ≡ true → BytesSame s a e b f r → MeansSame (grammar_of d) s a e plain-a b f plain-b r
+module _ {s : List ℕ} {a e b f : ℕ} {plain_a plain_b r : Bool} where
+  pub strings_plain : (d : Dialects.Dialect) → plain_a ≡ true → plain_b ≡ true → BytesSame s a e b f r → MeansSame (grammar_of d) s a e plain_a b f plain_b r
   strings_plain d t u w =
       record { told = λ cs ds m n p q. w.told (spans m) (spans n) ∙ ap₂ (λ (x y : List ℕ). same x y) (sym (plain-means d m (p t))) (sym (plain-means d n (q u))) }
 
-  pub strings_coded : (D : Dialect) → CodesSame D s a b r → MeansSame D s a e plain-a b f plain-b r
+  pub strings_coded : (D : Dialect) → CodesSame D s a b r → MeansSame D s a e plain_a b f plain_b r
   strings_coded D w = record { told = λ cs ds m n p q. w.told e f cs ds m n }

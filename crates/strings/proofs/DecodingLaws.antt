@@ -14,7 +14,7 @@ use Rattle.strings.specs.declared.decoded.Decoded.TheVariants.{Whole, Other}
 use Rattle.strings.specs.Chars.{char_at}
 use Rattle.strings.specs.Strings.{grammar_of}
 use Rattle.strings.specs.Bytes.{Bytes}
-use Rattle.strings.specs.Decoding.{NoBytes, DecodedAs, Decodes}
+use Rattle.strings.specs.Decoding.{Decodes}
 use Rattle.strings.proofs.Codes.{Left, no_more, one_more, none-past}
 use Rattle.strings.proofs.StringReads.{agrees}
 

@@ -16,7 +16,7 @@ use Rattle.grammar.specs.MessageText.{hex_digit, Escape}
 use Rattle.grammar.specs.Serving.Machine.{CharStep}
 use Rattle.grammar.specs.Serving.Machine.CharStep.{stay, char, bad}
 use Rattle.grammar.specs.Serving.Machine.Message.{message, CharState, char_start, char_step, escape_of, with_hex, unit, Want, lowest, highest}
-use Rattle.grammar.specs.Serving.Machine.Message.CharState.{hex0, hex1, hex2, hex3, low-backslash, low-u, low0, low1, low2, low3, utf8}
+use Rattle.grammar.specs.Serving.Machine.Message.CharState.{hex0, hex1, hex2, hex3, low_backslash, low_u, low0, low1, low2, low3, utf8}
 use Rattle.grammar.proofs.Booleans.{within-is, within-below, within-above, within_out, Outside, Outside.below, Outside.above}
 use Rattle.grammar.proofs.Strings.{hex-low}
 use Rattle.grammar.proofs.StringsComplete.{step-low-backslash, step-low_u, step-backslash, step_u, step-escape, lead-one}
@@ -191,11 +191,11 @@ module _ {s : List ℕ} {i v e : ℕ} {r : Char} (d : TwoDigits s i 0 r) (f : r 
 
 -- the last two
 module _ {s : List ℕ} {i v w e : ℕ} {r : Char} (d : TwoDigits s i v r) (f : r ≡ Code w e) {t : Bool} (g : t ≡ within 0xD800 0xDBFF w) where
-  pub high : t ≡ true → rest_at message (low-backslash w) s e ≡ rest_at message (hex2 v) s i
-  high h = stay-past d (low-backslash w) f ∙ choice (stay (low-backslash w)) (char w) s (i + 1) (sym g ∙ h) ∙ taken d (leads-last v) f
+  pub high : t ≡ true → rest_at message (low_backslash w) s e ≡ rest_at message (hex2 v) s i
+  high h = stay-past d (low_backslash w) f ∙ choice (stay (low_backslash w)) (char w) s (i + 1) (sym g ∙ h) ∙ taken d (leads-last v) f
 
   pub alone : t ≡ false → Code w e ≡ rest_at message (hex2 v) s i
-  alone h = char-past d f ∙ choice (stay (low-backslash w)) (char w) s (i + 1) (sym g ∙ h) ∙ taken d (leads-last v) f
+  alone h = char-past d f ∙ choice (stay (low_backslash w)) (char w) s (i + 1) (sym g ∙ h) ∙ taken d (leads-last v) f
 
 -- the last two of a low surrogate
 pub paired : {s : List ℕ} {i v w e : ℕ} {r : Char} → TwoDigits s i v r → r ≡ Code w e
@@ -237,25 +237,25 @@ module _ (s : List ℕ) (i h : ℕ) {a : ℕ} (ea : a ≡ hex_at s i) where
 
 -- the escape before its digits
 module _ (s : List ℕ) (i h : ℕ) (g : i < length s) where
-  pub backslash-other : (get_or s i 0 ≡ code "\\" → ⊥) → Fault i ≡ rest_at message (low-backslash h) s i
+  pub backslash-other : (get_or s i 0 ≡ code "\\" → ⊥) → Fault i ≡ rest_at message (low_backslash h) s i
   unfolding char_step
-  backslash-other n = at-bad message (low-backslash h) s i g (simp (ne_eqb _ _ n))
+  backslash-other n = at-bad message (low_backslash h) s i g (simp (ne_eqb _ _ n))
 
   module _ (e : get_or s i 0 ≡ code "\\") where
-    low-backslash_u : rest_at message (low-u h) s (i + 1) ≡ rest_at message (low-backslash h) s i
-    low-backslash_u = at-stay message (low-backslash h) s i (low-u h) g (rw e (step-low-backslash h))
+    low-backslash_u : rest_at message (low_u h) s (i + 1) ≡ rest_at message (low_backslash h) s i
+    low-backslash_u = at-stay message (low_backslash h) s i (low_u h) g (rw e (step-low-backslash h))
 
-    pub backslash-end : length s ≤ i + 1 → Fault (i + 1) ≡ rest_at message (low-backslash h) s i
-    backslash-end k = at-end message (low-u h) s (i + 1) k ∙ low-backslash_u
+    pub backslash-end : length s ≤ i + 1 → Fault (i + 1) ≡ rest_at message (low_backslash h) s i
+    backslash-end k = at-end message (low_u h) s (i + 1) k ∙ low-backslash_u
 
-    pub no_letter_u : i + 1 < length s → (get_or s (i + 1) 0 ≡ code "u" → ⊥) → Fault (i + 1) ≡ rest_at message (low-backslash h) s i
+    pub no_letter_u : i + 1 < length s → (get_or s (i + 1) 0 ≡ code "u" → ⊥) → Fault (i + 1) ≡ rest_at message (low_backslash h) s i
     unfolding char_step
-    no_letter_u k n = at-bad message (low-u h) s (i + 1) k (simp (ne_eqb _ _ n)) ∙ low-backslash_u
+    no_letter_u k n = at-bad message (low_u h) s (i + 1) k (simp (ne_eqb _ _ n)) ∙ low-backslash_u
 
-    pub letter_u : i + 1 < length s → get_or s (i + 1) 0 ≡ code "u" → rest_at message (low0 h) s (i + 2) ≡ rest_at message (low-backslash h) s i
+    pub letter_u : i + 1 < length s → get_or s (i + 1) 0 ≡ code "u" → rest_at message (low0 h) s (i + 2) ≡ rest_at message (low_backslash h) s i
     letter_u k f =
         let q : i + 2 ≡ i + 1 + 1 = omega arith in
-        ap (λ (n : ℕ). rest_at message (low0 h) s n) q ∙ at-stay message (low-u h) s (i + 1) (low0 h) k (rw f (step-low_u h)) ∙ low-backslash_u
+        ap (λ (n : ℕ). rest_at message (low0 h) s n) q ∙ at-stay message (low_u h) s (i + 1) (low0 h) k (rw f (step-low_u h)) ∙ low-backslash_u
 
 -- what follows a backslash
 module _ (s : List ℕ) (i : ℕ) (g : i < length s) where

@@ -13,7 +13,7 @@ use Rattle.grammar.specs.MessageText.{join}
 use Rattle.grammar.specs.Serving.Machine.CharStep.{bad}
 use Rattle.grammar.specs.Serving.Machine.Message.{message, Want, lowest, highest, wanted, char_step}
 use Rattle.grammar.specs.Serving.Machine.Message.CharState.{utf8}
-use Rattle.grammar.specs.Serving.Machine.Message.Want.{one, two, two-E0, two-ED, three, three-F0, three-F4}
+use Rattle.grammar.specs.Serving.Machine.Message.Want.{one, two, two_E0, two_ED, three, three_F0, three_F4}
 use Rattle.grammar.proofs.Booleans.{within-true, within-is, within-below, within-above}
 use Rattle.strings.specs.declared.chars.Char.{Char}
 use Rattle.strings.specs.declared.chars.Char.TheVariants.{Code, Fault}
@@ -24,11 +24,11 @@ use Rattle.strings.proofs.CharRuns.{rest_cons}
 abbrev pub more : Want → ℕ
 more one = 0
 more two = 1
-more two-E0 = 1
-more two-ED = 1
+more two_E0 = 1
+more two_ED = 1
 more three = 2
-more three-F0 = 2
-more three-F4 = 2
+more three_F0 = 2
+more three_F4 = 2
 
 wanted-next : (n : Want) (v p : ℕ) (l : List ℕ)
     → ((m : Want) → char_rest message (utf8 m v) (suc p) l ≡ utf8_rest (suc (more m)) (lowest m) (highest m) v (suc p) l)
@@ -36,11 +36,11 @@ wanted-next : (n : Want) (v p : ℕ) (l : List ℕ)
 unfolding utf8_rest
 wanted-next one v p l ih = refl
 wanted-next two v p l ih = ih one
-wanted-next two-E0 v p l ih = ih one
-wanted-next two-ED v p l ih = ih one
+wanted-next two_E0 v p l ih = ih one
+wanted-next two_ED v p l ih = ih one
 wanted-next three v p l ih = ih two
-wanted-next three-F0 v p l ih = ih two
-wanted-next three-F4 v p l ih = ih two
+wanted-next three_F0 v p l ih = ih two
+wanted-next three_F4 v p l ih = ih two
 
 utf8_rest_lem : (l : List ℕ) (n : Want) (v p : ℕ) → char_rest message (utf8 n v) p l ≡ utf8_rest (suc (more n)) (lowest n) (highest n) v p l
 unfolding char_rest char_step utf8_rest

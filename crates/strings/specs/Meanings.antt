@@ -36,5 +36,5 @@ pub record MeansName (D : Dialect) (s : List ℕ) (a e : ℕ) (plain : Bool) (na
   pub told : (cs : List ℕ) → Means D s a e cs → Told plain s a e → r ≡ same cs name
 
 -- the strings from place a to e and from b to f mean the same
-pub record MeansSame (D : Dialect) (s : List ℕ) (a e : ℕ) (plain-a : Bool) (b f : ℕ) (plain-b : Bool) (r : Bool) : Type 0 where
-  pub told : (cs ds : List ℕ) → Means D s a e cs → Means D s b f ds → Told plain-a s a e → Told plain-b s b f → r ≡ same cs ds
+pub record MeansSame (D : Dialect) (s : List ℕ) (a e : ℕ) (plain_a : Bool) (b f : ℕ) (plain_b : Bool) (r : Bool) : Type 0 where
+  pub told : (cs ds : List ℕ) → Means D s a e cs → Means D s b f ds → Told plain_a s a e → Told plain_b s b f → r ≡ same cs ds

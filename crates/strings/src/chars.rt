@@ -1,7 +1,7 @@
 // The characters of strings, of both dialects: a byte that stands for itself, an escape, or UTF-8. Any place may be asked.
 ghost use Rattle.std.specs.Prelude.{◌≡◌, ◌≤◌, ◌<◌, length};
 ghost use Rattle.grammar.specs.Notation.{within as between};
-ghost use Rattle.grammar.specs.Serving.Machine.Schema.{schema as schemaDialect};
+ghost use Rattle.grammar.specs.Serving.Machine.Schema.{schema as schema_dialect};
 ghost use Rattle.grammar.specs.Serving.Machine.Message.{message, char_start};
 ghost use Rattle.grammar.specs.Serving.Machine.Message.{CharState as State};
 ghost use Rattle.strings.specs.Chars.{rest_at, next_at, char_at, hex_at, TwoDigits, TailByte, utf8_at};
@@ -84,7 +84,7 @@ fn low_digits(s: &[u8], i: usize, h: u32) -> Char
 // The low surrogate at `i` that the high one h wants, as an escape.
 fn low_surrogate(s: &[u8], i: usize, h: u32) -> Char
     requires { (0xD800 ≤ h) × (h ≤ 0xDBFF) }
-    ensures { result ≡ rest_at message (State.low-backslash h) s.now i }
+    ensures { result ≡ rest_at message (State.low_backslash h) s.now i }
 {
     if s.len() <= i {
         return Char::Fault(i);
@@ -224,7 +224,7 @@ pub fn message_char(s: &[u8], i: usize) -> Char
 
 // The character at `i` of a schema string: two backslashes mean one.
 pub fn schema_char(s: &[u8], i: usize) -> Char
-    ensures { result ≡ char_at schemaDialect s.now i }
+    ensures { result ≡ char_at schema_dialect s.now i }
 {
     if s.len() <= i {
         return Char::Fault(i);

@@ -1,4 +1,6 @@
 // Strings in either dialect: classes of bytes, characters, whole strings, and what they mean.
+#![tactic(auto)]
+
 pub mod bytes;
 pub mod chars;
 pub mod class;

@@ -2,7 +2,7 @@
 ghost use Rattle.std.specs.Prelude.{◌≡◌, ◌<◌, length};
 ghost use Rattle.strings.specs.Classes.{class_of, tabulate};
 ghost use Rattle.strings.specs.Strings.{grammar_of, PlainEnd, ReadsString};
-ghost use Rattle.grammar.specs.Serving.Machine.Schema.{schema as schemaDialect};
+ghost use Rattle.grammar.specs.Serving.Machine.Schema.{schema as schema_dialect};
 ghost use Rattle.grammar.specs.Serving.Machine.Message.{message};
 
 use crate::chars::{Char, message_char, schema_char};
@@ -61,7 +61,7 @@ fn message_string(s: &[u8], classes: &[u8; 256], quote: usize) -> StringRead
 
 fn schema_string(s: &[u8], quote: usize) -> StringRead
     requires { quote < length s.now }
-    ensures { ReadsString schemaDialect s.now quote result }
+    ensures { ReadsString schema_dialect s.now quote result }
 {
     let mut i = quote + 1;
     let mut plain = true;

@@ -11,7 +11,7 @@ use Rattle.grammar.specs.Serving.Machine.{Dialect}
 use Rattle.grammar.proofs.Lists.{same_true, same_false}
 use Rattle.sorted.specs.declared.repeats.Found.{Found}
 use Rattle.sorted.specs.declared.repeats.Found.TheVariants.{Never, At}
-use Rattle.sorted.specs.Repeats.{Repeat, NoneTo}
+use Rattle.sorted.specs.Repeats.{NoneTo}
 use Rattle.sorted.proofs.RepeatLaws.{none-start, none_more, none_end}
 use Rattle.text.specs.Nodes.{next}
 use Rattle.text.specs.Fields.{SameKeys, node_of, Keys, IsNew, NewKey, FindsKey, is_given_up, FindsSurely}

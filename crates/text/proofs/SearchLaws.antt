@@ -12,9 +12,9 @@ use mathlib.Core.List.{List, [], ◌∷◌, Memᴰ}
 use mathlib.Core.Option.{Option, some, none}
 use lib.Dec.{ltb}
 use lib.ListN.{length}
-use borrow.Author.Tests.{ltb-true, ltb-false, not-true}
+use borrow.Author.Tests.{ltb-true, ltb-false}
 use Rattle.grammar.specs.Notation.{same, all}
-use Rattle.grammar.specs.Tree.{Scalar, Json, Items, Fields}
+use Rattle.grammar.specs.Tree.{Json, Items, Fields}
 use Rattle.grammar.specs.Tree.Json.{leaf, arr, obj}
 use Rattle.grammar.specs.Tree.Items.{no_items, item}
 use Rattle.grammar.specs.Tree.Fields.{no_fields, field}
@@ -25,10 +25,9 @@ use Rattle.grammar.proofs.Booleans.{clash, by}
 use Rattle.grammar.proofs.Lists.{same-is, different, all_true, all_of}
 use Rattle.sorted.specs.declared.repeats.Found.{Found}
 use Rattle.sorted.specs.declared.repeats.Found.TheVariants.{Never, At, GivenUp}
-use Rattle.sorted.specs.Repeats.{Repeat, NoneTo}
+use Rattle.sorted.specs.Repeats.{Repeat}
 use Rattle.tokens.specs.NodeKinds.{object_node}
 use Rattle.text.specs.declared.keys.Repeated.{Repeated}
-use Rattle.text.specs.declared.keys.Repeated.TheVariants as Repeated
 use Rattle.text.specs.declared.keys.Progress.{Progress}
 use Rattle.text.specs.Nodes.{next, Holds, HoldsItems, HoldsFields, node_kind, node_start}
 use Rattle.text.specs.Fields.{node_of, Keys, RepeatAt, TellsKey, FindsKey, is_given_up}

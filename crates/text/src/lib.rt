@@ -1,4 +1,6 @@
 // The reader of a whole text, in either dialect, into nodes.
+#![tactic(auto)]
+
 pub mod comparisons;
 pub mod containers;
 pub mod fields;

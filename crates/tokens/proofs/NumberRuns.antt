@@ -11,7 +11,7 @@ use Rattle.grammar.specs.Notation.{digit}
 use Rattle.grammar.proofs.Numbers.{e_sign}
 use Rattle.grammar.specs.MessageText.{letter_e, sign}
 use Rattle.grammar.specs.Serving.Machine.Message.{NumberState}
-use Rattle.grammar.specs.Serving.Machine.Message.NumberState.{begin, after_minus, after-zero, in-int, after-point, in-frac, after-e, after-sign, in-exp}
+use Rattle.grammar.specs.Serving.Machine.Message.NumberState.{begin, after_minus, after_zero, in_int, after_point, in_frac, after_e, after_sign, in_exp}
 use Rattle.tokens.specs.declared.literals.TokenRead.{TokenRead}
 use Rattle.tokens.specs.declared.literals.TokenRead.TheVariants as Tokens
 use Rattle.tokens.specs.declared.literals.NumberRead.{NumberRead}
@@ -61,8 +61,8 @@ module _ {s : List ℕ} {p i : ℕ} (w : DigitsPassed s p i) where
   pub digits-all : NoDigit s i → DigitsRun s p i
   digits-all n = record { on = w.on; within = w.within; ends = n; runs = w.runs }
 
-exp_ends : {s : List ℕ} {e : ℕ} → NoDigit s e → NumberEnds s in-exp e e false
-exp_ends {s} {e} n = ends-here s in-exp e refl (exp_stops s e n)
+exp_ends : {s : List ℕ} {e : ℕ} → NoDigit s e → NumberEnds s in_exp e e false
+exp_ends {s} {e} n = ends-here s in_exp e refl (exp_stops s e n)
 
 module _ {s : List ℕ} {i : ℕ} where
   -- one digit or more
@@ -84,30 +84,30 @@ module _ {s : List ℕ} {i : ℕ} where
 
   -- the integer part
   pub zero-int : i < length s → get_or s i 0 ≡ code "0" → ReadsInt s i (Tokens.Past (i + 1))
-  zero-int h e = record { told = λ f b. (after-zero, one_byte s f i h (rw e b.zero), zero-before-point s (i + 1)) }
+  zero-int h e = record { told = λ f b. (after_zero, one_byte s f i h (rw e b.zero), zero-before-point s (i + 1)) }
 
   pub digits-int : {r : TokenRead} → (i < length s → get_or s i 0 ≡ code "0" → ⊥) → ReadsDigits s i r → ReadsInt s i r
-  digits-int {r} z w = record { told = λ f b. go f r (w.told f in-int (b.other z)) }
+  digits-int {r} z w = record { told = λ f b. go f r (w.told f in_int (b.other z)) }
     where
-      go : (f : NumberState) (r : TokenRead) → DigitsTold s f i in-int r → IntTold s f i r
-      go f (Tokens.Past e) t = (in-int, t.0, int-before-point s e t.1)
+      go : (f : NumberState) (r : TokenRead) → DigitsTold s f i in_int r → IntTold s f i r
+      go f (Tokens.Past e) t = (in_int, t.0, int-before-point s e t.1)
       go f (Tokens.Fault e) t = t
 
   -- the exponent after its e
   pub power-plain : {r : TokenRead} → (i < length s → sign (get_or s i 0) ≡ false) → ReadsDigits s i r → ReadsPower s i r
-  power-plain {r} u w = record { told = go r (w.told after-e in-exp (e_leads s i u)) }
+  power-plain {r} u w = record { told = go r (w.told after_e in_exp (e_leads s i u)) }
     where
-      go : (r : TokenRead) → DigitsTold s after-e i in-exp r → PowerTold s i r
+      go : (r : TokenRead) → DigitsTold s after_e i in_exp r → PowerTold s i r
       go (Tokens.Past e) t = then-ends t.0 (exp_ends t.1)
       go (Tokens.Fault e) t = t
 
   pub power-signed : {r : TokenRead} → i < length s → sign (get_or s i 0) ≡ true → ReadsDigits s (i + 1) r → ReadsPower s i r
-  power-signed {r} h u w = record { told = go r (w.told after-sign in-exp (sign-leads s (i + 1))) }
+  power-signed {r} h u w = record { told = go r (w.told after_sign in_exp (sign-leads s (i + 1))) }
     where
-      past-sign : NumberRuns s after-e i after-sign (i + 1)
-      past-sign = one_byte s after-e i h (e_sign _ u)
+      past-sign : NumberRuns s after_e i after_sign (i + 1)
+      past-sign = one_byte s after_e i h (e_sign _ u)
 
-      go : (r : TokenRead) → DigitsTold s after-sign (i + 1) in-exp r → PowerTold s i r
+      go : (r : TokenRead) → DigitsTold s after_sign (i + 1) in_exp r → PowerTold s i r
       go (Tokens.Past e) t = then-ends past-sign (then-ends t.0 (exp_ends t.1))
       go (Tokens.Fault e) t = then-stops past-sign t
 
@@ -131,13 +131,13 @@ module _ {s : List ℕ} {i : ℕ} where
   pub fraction-past : {d : TokenRead} {r : NumberRead} {e : ℕ} → i < length s → get_or s i 0 ≡ code "." → ReadsDigits s (i + 1) d → d ≡ Tokens.Past e
       → ReadsRest s e (BeforePower s e false) r → ReadsRest s i (BeforePoint s i) r
   fraction-past {d} {r} {e} h u w q n =
-      let v : DigitsTold s after-point (i + 1) in-frac (Tokens.Past e) = rw q at (w.told after-point in-frac (point-leads s (i + 1))) in
-      record { told = λ f b. then-told (then_runs (one_byte s f i h (rw u b.point)) v.0) r (n.told in-frac (frac-before-power s e v.1)) }
+      let v : DigitsTold s after_point (i + 1) in_frac (Tokens.Past e) = rw q at (w.told after_point in_frac (point-leads s (i + 1))) in
+      record { told = λ f b. then-told (then_runs (one_byte s f i h (rw u b.point)) v.0) r (n.told in_frac (frac-before-power s e v.1)) }
 
   pub fraction-fault : {d : TokenRead} {e : ℕ} → i < length s → get_or s i 0 ≡ code "." → ReadsDigits s (i + 1) d → d ≡ Tokens.Fault e
       → ReadsRest s i (BeforePoint s i) (Numbers.Fault e)
   fraction-fault {d} {e} h u w q =
-      let v : DigitsTold s after-point (i + 1) in-frac (Tokens.Fault e) = rw q at (w.told after-point in-frac (point-leads s (i + 1))) in
+      let v : DigitsTold s after_point (i + 1) in_frac (Tokens.Fault e) = rw q at (w.told after_point in_frac (point-leads s (i + 1))) in
       record { told = λ f b. then-stops (one_byte s f i h (rw u b.point)) v }
 
   pub no_fraction : {r : NumberRead} → (i < length s → get_or s i 0 ≡ code "." → ⊥) → ReadsRest s i (BeforePower s i true) r → ReadsRest s i (BeforePoint s i) r

@@ -14,7 +14,7 @@ use borrow.Author.Tests.{eqb-false, eq-eqb, ne_eqb}
 use Rattle.grammar.specs.Notation.{within, digit}
 use Rattle.grammar.specs.MessageText.{sign}
 use Rattle.grammar.specs.Serving.Machine.Message.{NumberState, number_step}
-use Rattle.grammar.specs.Serving.Machine.Message.NumberState.{begin, after_minus, after-zero, in-int, after-point, in-frac, after-e, after-sign, in-exp}
+use Rattle.grammar.specs.Serving.Machine.Message.NumberState.{begin, after_minus, after_zero, in_int, after_point, in_frac, after_e, after_sign, in_exp}
 use Rattle.grammar.proofs.Booleans.{within-true, within-false, within-is, Outside, Outside.below, Outside.above, within-below, within-above}
 use Rattle.tokens.specs.Numbers.{NoDigit, Loops, Leads, BeforePower, BeforePoint, BeforeInt}
 
@@ -48,8 +48,8 @@ begins b (inl e) = (after_minus, rw e refl)
 begins b (inr h) = go (eqb b (code "0")) refl
   where
     go : (x : Bool) → eqb b (code "0") ≡ x → (t : NumberState) × (number_step begin b ≡ some t)
-    go true z = (after-zero, simp (ne_eqb b (code "-") (omega arith), z))
-    go false z = let n = eqb-false b (code "0") z in (in-int, simp (ne_eqb b (code "-") (omega arith), z, within-is (code "1") (code "9") b (omega arith) h.1))
+    go true z = (after_zero, simp (ne_eqb b (code "-") (omega arith), z))
+    go false z = let n = eqb-false b (code "0") z in (in_int, simp (ne_eqb b (code "-") (omega arith), z, within-is (code "1") (code "9") b (omega arith) h.1))
 
 pub begins-none : (b : ℕ) → (b ≡ code "-" → ⊥) → Outside (code "0") (code "9") b → number_step begin b ≡ none
 unfolding number_step
@@ -57,15 +57,15 @@ begins-none b m (below h) = simp (ne_eqb b (code "-") m, ne_eqb b (code "0") (om
 begins-none b m (above h) = simp (ne_eqb b (code "-") m, ne_eqb b (code "0") (omega arith), within-above (code "1") (code "9") b h)
 
 -- states in which digits go on
-int-loops : Loops in-int
+int-loops : Loops in_int
 unfolding number_step
 int-loops b t = simp t
 
-frac-loops : Loops in-frac
+frac-loops : Loops in_frac
 unfolding number_step
 frac-loops b t = simp t
 
-exp_loops : Loops in-exp
+exp_loops : Loops in_exp
 unfolding number_step
 exp_loops b t = simp t
 
@@ -76,15 +76,15 @@ begin_minus = refl
 
 module _ (s : List ℕ) (i : ℕ) where
   -- where digits must come
-  pub point-leads : Leads s i after-point in-frac
+  pub point-leads : Leads s i after_point in_frac
   unfolding number_step
   point-leads = record { first = λ _ t. simp t; other = λ n h. simp (n h); unended = refl; more = frac-loops }
 
-  pub sign-leads : Leads s i after-sign in-exp
+  pub sign-leads : Leads s i after_sign in_exp
   unfolding number_step
   sign-leads = record { first = λ _ t. simp t; other = λ n h. simp (n h); unended = refl; more = exp_loops }
 
-  pub e_leads : (i < length s → sign (get_or s i 0) ≡ false) → Leads s i after-e in-exp
+  pub e_leads : (i < length s → sign (get_or s i 0) ≡ false) → Leads s i after_e in_exp
   unfolding number_step
   e_leads u = record { first = λ h t. simp (u h, t); other = λ n h. simp (u h, n h); unended = refl; more = exp_loops }
 
@@ -118,7 +118,7 @@ module _ (s : List ℕ) (i : ℕ) where
       }
 
   -- where it may end
-  pub zero-before-point : BeforePoint s i after-zero
+  pub zero-before-point : BeforePoint s i after_zero
   unfolding number_step
   zero-before-point =
       record {
@@ -126,7 +126,7 @@ module _ (s : List ℕ) (i : ℕ) where
         other = λ m. record { ends = refl; power = λ h t. simp (ne_eqb _ _ (m h), t); other = λ h t. simp (ne_eqb _ _ (m h), t) };
       }
 
-  pub int-before-point : NoDigit s i → BeforePoint s i in-int
+  pub int-before-point : NoDigit s i → BeforePoint s i in_int
   unfolding number_step
   int-before-point n =
       record {
@@ -134,10 +134,10 @@ module _ (s : List ℕ) (i : ℕ) where
         other = λ m. record { ends = refl; power = λ h t. simp (n h, ne_eqb _ _ (m h), t); other = λ h t. simp (n h, ne_eqb _ _ (m h), t) };
       }
 
-  pub frac-before-power : NoDigit s i → BeforePower s i false in-frac
+  pub frac-before-power : NoDigit s i → BeforePower s i false in_frac
   unfolding number_step
   frac-before-power n = record { ends = refl; power = λ h t. simp (n h, t); other = λ h t. simp (n h, t) }
 
-  pub exp_stops : NoDigit s i → i < length s → number_step in-exp (get_or s i 0) ≡ none
+  pub exp_stops : NoDigit s i → i < length s → number_step in_exp (get_or s i 0) ≡ none
   unfolding number_step
   exp_stops n h = simp (n h)

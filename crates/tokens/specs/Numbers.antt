@@ -10,7 +10,7 @@ use Rattle.grammar.specs.Serving.Machine.{Stack, Control, scan}
 use Rattle.grammar.specs.Serving.Machine.Control.{After, InToken}
 use Rattle.grammar.specs.Serving.Machine.Out.{fault}
 use Rattle.grammar.specs.Serving.Machine.Message.{message, NumberState, number_step, number_end}
-use Rattle.grammar.specs.Serving.Machine.Message.NumberState.{begin, after-zero, in-int, after-point, after-e}
+use Rattle.grammar.specs.Serving.Machine.Message.NumberState.{begin, after_zero, in_int, after_point, after_e}
 use Rattle.grammar.specs.Serving.Machine.Message.TokenState.{number}
 use Rattle.tokens.specs.declared.literals.TokenRead.{TokenRead}
 use Rattle.tokens.specs.declared.literals.TokenRead.TheVariants as Tokens
@@ -83,18 +83,18 @@ module _ (s : List ℕ) where
   -- at place i the number may end in state f, or an exponent may follow
   pub record BeforePower (i : ℕ) (integer : Bool) (f : NumberState) : Type 0 where
     pub ends : number_end f ≡ some integer
-    pub power : i < length s → letter_e (get_or s i 0) ≡ true → number_step f (get_or s i 0) ≡ some after-e
+    pub power : i < length s → letter_e (get_or s i 0) ≡ true → number_step f (get_or s i 0) ≡ some after_e
     pub other : i < length s → letter_e (get_or s i 0) ≡ false → number_step f (get_or s i 0) ≡ none
 
   -- at place i the integer part may end in state f
   pub record BeforePoint (i : ℕ) (f : NumberState) : Type 0 where
-    pub point : number_step f (code ".") ≡ some after-point
+    pub point : number_step f (code ".") ≡ some after_point
     pub other : (i < length s → get_or s i 0 ≡ code "." → ⊥) → BeforePower i true f
 
   -- at place i the integer part begins in state f
   pub record BeforeInt (i : ℕ) (f : NumberState) : Type 0 where
-    pub zero : number_step f (code "0") ≡ some after-zero
-    pub other : (i < length s → get_or s i 0 ≡ code "0" → ⊥) → Leads i f in-int
+    pub zero : number_step f (code "0") ≡ some after_zero
+    pub other : (i < length s → get_or s i 0 ≡ code "0" → ⊥) → Leads i f in_int
 
   -- the integer part from place i to e
   abbrev pub IntTold : NumberState → ℕ → TokenRead → Type 0
@@ -103,8 +103,8 @@ module _ (s : List ℕ) where
 
   -- the exponent after its e
   abbrev pub PowerTold : ℕ → TokenRead → Type 0
-  PowerTold i (Tokens.Past e) = NumberEnds after-e i e false
-  PowerTold i (Tokens.Fault e) = NumberStops after-e i e
+  PowerTold i (Tokens.Past e) = NumberEnds after_e i e false
+  PowerTold i (Tokens.Fault e) = NumberStops after_e i e
 
 -- what each reader answers at place i
 pub record ReadsDigits (s : List ℕ) (i : ℕ) (r : TokenRead) : Type 0 where

@@ -1,4 +1,6 @@
 // Blanks, numbers, words, keys and what stands between values.
+#![tactic(auto)]
+
 pub mod blanks;
 pub mod integers;
 pub mod literals;

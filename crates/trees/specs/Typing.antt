@@ -1,5 +1,5 @@
 -- Reference, Viewer: a type by name: a built-in's, or the row's in the schema. Any words, any bytes.
-use Rattle.std.specs.Prelude.{ℕ, zero, suc, ◌+◌, ◌-◌, Bool, true, false, cond, List, [], ◌∷◌, ◌++◌, ltb, get_or}
+use Rattle.std.specs.Prelude.{ℕ, zero, suc, ◌-◌, Bool, true, false, cond, List, [], ◌∷◌, ◌++◌, ltb, get_or}
 use Rattle.grammar.specs.Notation.{text}
 use Rattle.rules.specs.Types.{first_row, built_ins}
 use Rattle.rules.specs.Rows.{is_struct, name_of}

@@ -1,4 +1,6 @@
 // Words that a caller lends: read and written in items of a width, copied into, and set to zero.
+#![tactic(auto)]
+
 ghost use Rattle.std.specs.Prelude.{◌≡◌, [], ◌∷◌, ◌++◌, ◌-◌, ◌≤◌, ◌<◌, length, get_or, set, take, drop, replicate};
 ghost use Rattle.grammar.specs.Notation.{word_of};
 ghost use Rattle.words.specs.Items.{put_item};

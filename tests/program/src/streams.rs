@@ -2,7 +2,6 @@
 
 use std::fs::File;
 use std::io::{self, Write};
-use std::os::unix::process::ExitStatusExt;
 use std::path::Path;
 use std::process::{Command, Stdio};
 use std::thread;
@@ -22,14 +21,12 @@ pub const CHECKS: Checks = &[
     ("standard input not open for reading: an error is the end", input_for_writing),
     ("standard output closed", |program| by_shell(program, "exec \"$0\" >&-", "")),
     ("standard output full", |program| by_shell(program, "exec \"$0\" >/dev/full", "")),
-    ("nobody reads the answers any more", |program| broken_pipe(program, "exec \"$0\"", Some(SIGPIPE))),
-    ("the same with the signal ignored", |program| broken_pipe(program, "trap '' PIPE; exec \"$0\"", None)),
+    ("nobody reads the answers any more", |program| broken_pipe(program, "exec \"$0\"")),
+    ("the same with the signal ignored", |program| broken_pipe(program, "trap '' PIPE; exec \"$0\"")),
     ("an answer before the next message", in_turns),
     ("answers wait for a slow reader", slow_reader),
     ("stopped and continued", stopped_and_continued),
 ];
-
-const SIGPIPE: i32 = 13;
 
 /// With one message on standard input where that is open.
 fn by_shell(program: &Path, line: &str, expected: &str) -> Check {
@@ -54,9 +51,9 @@ fn input_from(program: &Path, open: impl Fn(&Folder) -> io::Result<File>) -> Che
     Running::start(command)?.prints(STOP_LOT_ANSWER.as_bytes())
 }
 
-/// The reader goes after the schema's answer; messages come without end. The program must end, by a signal or with
-/// status 0.
-fn broken_pipe(program: &Path, line: &str, signal: Option<i32>) -> Check {
+/// The reader goes after the schema's answer; messages come without end. The program must end with status 0: it ignores
+/// SIGPIPE, and the write fails.
+fn broken_pipe(program: &Path, line: &str) -> Check {
     let folder = Folder::with_schema(STOP_LOT);
     let (mut reader, writer) = io::pipe().map_err(reason)?;
     let mut command = folder.shell(program, line);
@@ -68,7 +65,7 @@ fn broken_pipe(program: &Path, line: &str, signal: Option<i32>) -> Check {
     let mut input = running.input();
     thread::spawn(move || while writeln!(input, "{STOP}").is_ok() {});
     let status = running.end()?;
-    ensure(status.signal() == signal && (signal.is_some() || status.success()), || format!("it ends with {status}"))
+    ensure(status.success(), || format!("it ends with {status}"))
 }
 
 /// Each line is written when the answer of the one before has come.

@@ -3,7 +3,6 @@ use Prim.Native.Nat.{ℕ}
 use native.Mathlib.Numerals.{add-one}
 use mathlib.Core.Path.{ap, ap₂}
 use lib.ListN.{get_or, set}
-use borrow.Author.Rules.{rules}
 use Rattle.buckets.proofs.add.Goals as goal
 
 pub returns : goal.returns

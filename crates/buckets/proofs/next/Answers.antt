@@ -1,7 +1,6 @@
 -- `next` meets its contract: past the end a list's element is its default.
 use mathlib.Core.Path.{sym}
 use lib.ListN.{get_or-eq_default}
-use borrow.Author.Rules.{rules}
 use Rattle.buckets.proofs.next.Goals as goal
 
 pub returns-then-links-i : goal.returns-then-links-i

@@ -1,6 +1,5 @@
 -- `windosprio_check_message` meets its contract: the call, in numbers.
 use Rattle.gateway.proofs.Outcomes.{checked}
-use borrow.Author.Rules.{rules}
 use Rattle.gateway.proofs.windosprio_check_message.Goals as goal
 
 pub returns : goal.returns

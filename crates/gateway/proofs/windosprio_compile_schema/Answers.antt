@@ -1,6 +1,5 @@
 -- `windosprio_compile_schema` meets its contract: the call, in numbers.
 use Rattle.gateway.proofs.Outcomes.{compiled}
-use borrow.Author.Rules.{rules}
 use Rattle.gateway.proofs.windosprio_compile_schema.Goals as goal
 
 pub returns : goal.returns

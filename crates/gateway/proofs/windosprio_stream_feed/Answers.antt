@@ -1,6 +1,5 @@
 -- `windosprio_stream_feed` meets its contract: the call over words, in numbers.
 use Rattle.gateway.proofs.Outcomes.{streamed}
-use borrow.Author.Rules.{rules}
 use Rattle.gateway.proofs.windosprio_stream_feed.Goals as goal
 
 pub returns : goal.returns

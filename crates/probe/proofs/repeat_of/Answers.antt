@@ -1,7 +1,6 @@
 -- `repeat_of` meets its contract: by what was found.
 use mathlib.Core.Path.{sym, ap}
 use Rattle.probe.specs.Probe.{repeat_of}
-use borrow.Author.Rules.{rules}
 use Rattle.probe.proofs.repeat_of.Goals as goal
 
 pub returns-in-Never : goal.returns-in-Never

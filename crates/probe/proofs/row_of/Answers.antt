@@ -1,7 +1,6 @@
 -- `row_of` meets its contract: by what was found.
 use mathlib.Core.Path.{sym, ap}
 use Rattle.probe.specs.Probe.{row_of}
-use borrow.Author.Rules.{rules}
 use Rattle.probe.proofs.row_of.Goals as goal
 
 pub returns-in-Unknown : goal.returns-in-Unknown

@@ -1,6 +1,5 @@
 -- `windosprio_probe_command` meets its contract: the row is the one found.
 use Rattle.probe.proofs.Commands.{command_probed}
-use borrow.Author.Rules.{rules}
 use Rattle.probe.proofs.windosprio_probe_command.Goals as goal
 
 pub returns : goal.returns

@@ -1,6 +1,5 @@
 -- `windosprio_probe_keys` meets its contract: the place of a repeated key, in the dialect that the caller names.
 use Rattle.probe.proofs.Keys.{keys_probed}
-use borrow.Author.Rules.{rules}
 use Rattle.probe.proofs.windosprio_probe_keys.Goals as goal
 
 pub returns : goal.returns

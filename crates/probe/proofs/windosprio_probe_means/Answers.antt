@@ -1,5 +1,4 @@
 -- `windosprio_probe_means` meets its contract: what a string means, in the dialect that the caller names.
-use borrow.Author.Rules.{rules}
 use Rattle.probe.proofs.windosprio_probe_means.Goals as goal
 
 pub returns : goal.returns

@@ -1,5 +1,4 @@
 -- `windosprio_probe_same` meets its contract: whether two strings mean the same, in the dialect that the caller names.
-use borrow.Author.Rules.{rules}
 use Rattle.probe.proofs.windosprio_probe_same.Goals as goal
 
 pub returns : goal.returns

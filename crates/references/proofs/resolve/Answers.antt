@@ -1,7 +1,6 @@
 -- `references::resolve` puts what every word names, and then the discriminators.
 use native.Mathlib.Omega.{arith}
 use Rattle.references.proofs.Resolution.{resolves}
-use borrow.Author.Rules.{rules}
 use Rattle.references.proofs.resolve.Goals as goal
 
 pub returns : goal.returns

@@ -1,5 +1,5 @@
 -- Serves proofs: the rows of definitions as a list of entries, whatever words the names that refer become.
-use Rattle.std.specs.Prelude.{ℕ, suc, ◌+◌, Bool, true, false, cond, ◌&&◌, List, [], ◌∷◌, ◌++◌, map, length}
+use Rattle.std.specs.Prelude.{ℕ, suc, Bool, true, false, cond, ◌&&◌, List, [], ◌∷◌, ◌++◌, map, length}
 use Rattle.std.proofs.Math.Option.{Option, none, some}
 use Rattle.rules.specs.Kinds.{enum_kind, value_kind, struct_kind, member_kind, union_kind, branch_kind, alternate_kind, alternative_kind, command_kind}
 use Rattle.rules.specs.Names.{same_name}

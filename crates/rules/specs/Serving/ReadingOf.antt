@@ -1,5 +1,5 @@
 -- Serves proofs and evaluated cases: the reading as a function. Nobody has to believe it; proofs/ shows that in a sound table it gives what the rules allow.
-use Rattle.std.specs.Prelude.{ℕ, zero, suc, ◌+◌, ◌-◌, Bool, false, cond, not, ◌&&◌, ◌||◌, List, [], ◌∷◌, ◌++◌, eqb, ltb, leb}
+use Rattle.std.specs.Prelude.{ℕ, zero, suc, ◌-◌, Bool, false, cond, not, ◌&&◌, ◌||◌, List, [], ◌∷◌, ◌++◌, eqb, ltb, leb}
 use Rattle.std.proofs.Math.Option.{Option, none, some}
 use Rattle.grammar.specs.Limits.{chain_structs}
 use Rattle.grammar.specs.Notation.{same, all}

@@ -6,7 +6,7 @@ use Rattle.grammar.specs.Limits.{message_levels}
 use Rattle.grammar.specs.Notation.{text, within}
 use Rattle.grammar.specs.Lexis.{blank}
 use Rattle.grammar.specs.MessageText.{hex_digit}
-use Rattle.grammar.specs.Serving.Machine.Message.{Want, Want.one, Want.two, Want.two-E0, Want.two-ED, Want.three, Want.three-F0, Want.three-F4, lowest, highest, escape_of}
+use Rattle.grammar.specs.Serving.Machine.Message.{Want, Want.one, Want.two, Want.two_E0, Want.two_ED, Want.three, Want.three_F0, Want.three_F4, lowest, highest, escape_of}
 use Rattle.grammar.specs.Serving.Machine.Message.{NumberState, NumberState.begin, number_step, number_end}
 
 -- At a digit of `\u`. Of the digits before it is known whether they may make a surrogate: hex1, that the first is D; hex2 and hex3, that they make a high one. low0 to low3 are at those of its low one.
@@ -17,7 +17,7 @@ pub data DigitMode : Type 0 where
 
 -- inside a character: after a backslash; after a high surrogate, at the backslash or the u of its low one; at a digit; in UTF-8
 pub data CharMode : Type 0 where
-  escape low-backslash low-u : CharMode
+  escape low_backslash low_u : CharMode
   digit : DigitMode → CharMode
   utf8 : Want → CharMode
 
@@ -29,21 +29,21 @@ pub data CharTurn : Type 0 where
 abbrev pub want_turn : Want → CharTurn
 want_turn one = char
 want_turn two = stay (utf8 one)
-want_turn two-E0 = stay (utf8 one)
-want_turn two-ED = stay (utf8 one)
+want_turn two_E0 = stay (utf8 one)
+want_turn two_ED = stay (utf8 one)
 want_turn three = stay (utf8 two)
-want_turn three-F0 = stay (utf8 two)
-want_turn three-F4 = stay (utf8 two)
+want_turn three_F0 = stay (utf8 two)
+want_turn three_F4 = stay (utf8 two)
 
 abbrev pub lead_turn : ℕ → CharTurn
 lead_turn b =
     cond (within 0xC2 0xDF b) (stay (utf8 one))
-    (cond (eqb b 0xE0) (stay (utf8 two-E0))
-    (cond (eqb b 0xED) (stay (utf8 two-ED))
+    (cond (eqb b 0xE0) (stay (utf8 two_E0))
+    (cond (eqb b 0xED) (stay (utf8 two_ED))
     (cond (within 0xE1 0xEF b) (stay (utf8 two))
-    (cond (eqb b 0xF0) (stay (utf8 three-F0))
+    (cond (eqb b 0xF0) (stay (utf8 three_F0))
     (cond (within 0xF1 0xF3 b) (stay (utf8 three))
-    (cond (eqb b 0xF4) (stay (utf8 three-F4)) bad))))))
+    (cond (eqb b 0xF4) (stay (utf8 three_F4)) bad))))))
 
 -- where a character starts
 unfoldable pub begin_char : ℕ → CharTurn
@@ -61,7 +61,7 @@ abbrev pub digit_turn : DigitMode → ℕ → CharTurn
 digit_turn hex0 d = stay (digit (hex1 (eqb d 0xD)))
 digit_turn (hex1 h) d = cond (h && within 0xC 0xF d) bad (stay (digit (hex2 (h && within 8 0xB d))))
 digit_turn (hex2 h) d = stay (digit (hex3 h))
-digit_turn (hex3 h) d = cond h (stay low-backslash) char
+digit_turn (hex3 h) d = cond h (stay low_backslash) char
 digit_turn low0 d = cond (eqb d 0xD) (stay (digit low1)) bad
 digit_turn low1 d = cond (leb 0xC d) (stay (digit low2)) bad
 digit_turn low2 d = stay (digit low3)
@@ -77,8 +77,8 @@ tail_turn low high b t = cond (within low high b) t bad
 unfoldable pub char_turn : CharMode → ℕ → CharTurn
 unfolding hex_digit escape_of
 char_turn escape b = cond (eqb b (code "u")) (stay (digit hex0)) (escape_turn (escape_of b))
-char_turn low-backslash b = byte_turn (code "\\") b (stay low-u)
-char_turn low-u b = byte_turn (code "u") b (stay (digit low0))
+char_turn low_backslash b = byte_turn (code "\\") b (stay low_u)
+char_turn low_u b = byte_turn (code "u") b (stay (digit low0))
 char_turn (digit s) b = with_digit (hex_digit b) (λ d. digit_turn s d)
 char_turn (utf8 w) b = tail_turn (lowest w) (highest w) b (want_turn w)
 

@@ -2,11 +2,11 @@
 use Rattle.std.specs.Prelude.{ℕ, zero, suc, ◌-◌, ◌/◌, ◌%◌, ◌^◌, ◌≤◌, ◌<◌, Bool, true, false, cond, ◌&&◌, List, [], ◌∷◌, get_or, eqb, leb, ltb}
 use Rattle.grammar.specs.Limits.{message_levels}
 use Rattle.grammar.specs.Notation.{text}
-use Rattle.grammar.specs.Serving.Machine.Message.{Want, Want.one, Want.two, Want.two-E0, Want.two-ED, Want.three, Want.three-F0, Want.three-F4}
+use Rattle.grammar.specs.Serving.Machine.Message.{Want, Want.one, Want.two, Want.two_E0, Want.two_ED, Want.three, Want.three_F0, Want.three_F4}
 use Rattle.grammar.specs.Serving.Machine.Message.{NumberState}
 use Rattle.stream.specs.Serving.Modes.{DigitMode, CharMode, Point, Mode, spelled}
 use Rattle.stream.specs.Serving.Modes.DigitMode.{hex0, hex1, hex2, hex3, low0, low1, low2, low3}
-use Rattle.stream.specs.Serving.Modes.CharMode.{escape, low-backslash, low-u, digit, utf8}
+use Rattle.stream.specs.Serving.Modes.CharMode.{escape, low_backslash, low_u, digit, utf8}
 use Rattle.stream.specs.Serving.Modes.Point.{value, element, after, first_key, key, colon}
 use Rattle.stream.specs.Serving.Modes.Mode.{at, in_string, inside_char, in_number}
 use Rattle.stream.specs.Serving.Feeding.{Standing}
@@ -29,14 +29,14 @@ unfoldable pub digit_at : ℕ → DigitMode
 digit_at c = get_or digits (c - first_digit) low3
 
 abbrev pub wants : List Want
-wants = one ∷ two ∷ two-E0 ∷ two-ED ∷ three ∷ three-F0 ∷ []
+wants = one ∷ two ∷ two_E0 ∷ two_ED ∷ three ∷ three_F0 ∷ []
 
 unfoldable pub want_at : ℕ → Want
-want_at c = get_or wants (c - first_tail) three-F4
+want_at c = get_or wants (c - first_tail) three_F4
 
 unfoldable pub char_at : ℕ → CharMode
 unfolding digit_at want_at
-char_at c = cond (ltb c first_digit) (get_or (escape ∷ low-backslash ∷ []) c low-u) (cond (ltb c first_tail) (digit (digit_at c)) (utf8 (want_at c)))
+char_at c = cond (ltb c first_digit) (get_or (escape ∷ low_backslash ∷ []) c low_u) (cond (ltb c first_tail) (digit (digit_at c)) (utf8 (want_at c)))
 
 -- Modes by number, after the two numbers for between messages and for skipping: the points, two for strings, numbers, words, the characters of strings, those of keys
 abbrev pub first_point : ℕ
@@ -70,10 +70,10 @@ unfoldable pub point_at : ℕ → Point
 point_at m = get_or points (m - first_point) value
 
 abbrev pub numbers : List NumberState
-numbers = NumberState.after_minus ∷ NumberState.after-zero ∷ NumberState.in-int ∷ NumberState.after-point ∷ NumberState.in-frac ∷ NumberState.after-e ∷ NumberState.after-sign ∷ []
+numbers = NumberState.after_minus ∷ NumberState.after_zero ∷ NumberState.in_int ∷ NumberState.after_point ∷ NumberState.in_frac ∷ NumberState.after_e ∷ NumberState.after_sign ∷ []
 
 unfoldable pub number_at : ℕ → NumberState
-number_at m = get_or numbers (m - first_number) NumberState.in-exp
+number_at m = get_or numbers (m - first_number) NumberState.in_exp
 
 -- what is wanted of null, true and false
 abbrev pub words : List (List ℕ)

@@ -1,10 +1,8 @@
 -- `clear` meets its contract. The invariant: the words from the first on, up to i, are set to zero. The measure is the words left.
-use Prim.Native.Nat.{◌-◌, ◌≤◌}
 use native.Mathlib.Omega.{arith}
-use mathlib.Core.Path.{◌≡◌, refl, ◌∙◌}
-use lib.ListN.{length, length-set}
-use borrow.Author.Rules.{rules}
-use Rattle.words.proofs.WordLaws.{cleared, clear_begin, clear-on, clear-end}
+use mathlib.Core.Path.{refl, ◌∙◌}
+use lib.ListN.{length-set}
+use Rattle.words.proofs.WordLaws.{clear_begin, clear-on, clear-end}
 use Rattle.words.proofs.clear.Goals as goal
 
 pub loop-i-init : goal.loop-i-init

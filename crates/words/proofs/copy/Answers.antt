@@ -1,10 +1,7 @@
 -- `copy` meets its contract. The invariant: the first i words are copied. The measure is the words left.
-use Prim.Native.Nat.{◌-◌, ◌≤◌}
 use native.Mathlib.Omega.{arith}
-use mathlib.Core.Path.{◌≡◌, refl, ◌∙◌}
-use mathlib.Core.List.{◌++◌}
-use lib.ListN.{length, take, drop, length-set}
-use borrow.Author.Rules.{rules}
+use mathlib.Core.Path.{refl, ◌∙◌}
+use lib.ListN.{length-set}
 use Rattle.words.proofs.WordLaws.{copy-on, copy-end}
 use Rattle.words.proofs.copy.Goals as goal
 

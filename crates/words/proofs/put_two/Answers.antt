@@ -4,7 +4,6 @@ use native.Mathlib.Omega.{arith}
 use native.Mathlib.Numerals.{towards_suc}
 use lib.ListN.{length-set}
 use Rattle.words.proofs.WordLaws.{item_unwritten, item-written}
-use borrow.Author.Rules.{rules}
 use Rattle.words.proofs.put_two.Goals as goal
 
 pub returns-then-words-k : goal.returns-then-words-k

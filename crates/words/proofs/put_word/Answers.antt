@@ -1,7 +1,6 @@
 -- `put_word` meets its contract: a store past the end changes nothing.
 use mathlib.Core.Path.{sym}
 use lib.Seq.{set_out}
-use borrow.Author.Rules.{rules}
 use Rattle.words.proofs.put_word.Goals as goal
 
 pub returns-else-i-words : goal.returns-else-i-words

@@ -1,6 +1,5 @@
 -- `hashes::meaning_hash` meets its contract: the words of the node say where the token stands and whether it is plain.
 use Rattle.children.proofs.HashLaws.{token-hash}
-use borrow.Author.Rules.{rules}
 use Rattle.children.proofs.hashes.meaning_hash.Goals as goal
 
 pub returns : goal.returns

@@ -1,10 +1,8 @@
 -- `hashes::name_hash` gives the hash of a name.
 -- The invariant: what is left, from the hash so far, has the hash of the whole. The measure is the bytes left.
-use borrow.Author.Rules.{rules}
 use Prim.Native.Nat.{◌-◌}
-use native.Mathlib.Omega.{arith}
 use lib.ListN.{length}
-use Rattle.children.proofs.HashLaws.{BytesLeft, bytes-start, bytes-more, bytes-end}
+use Rattle.children.proofs.HashLaws.{BytesLeft}
 use Rattle.children.proofs.hashes.name_hash.Given as goal
 
 abbrev pub invariant-loop-i : goal.invariant-loop-i

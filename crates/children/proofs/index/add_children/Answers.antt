@@ -2,12 +2,10 @@
 use mathlib.Core.Path.{◌∙◌}
 use native.Mathlib.Omega.{arith}
 use Rattle.rules.proofs.TableRows.{past_children-above}
-use Rattle.rows.specs.Rows.{Room}
 use Rattle.rows.proofs.LoopLaws.{room_next}
 use Rattle.rows.proofs.ChildLaws.{children-room}
-use Rattle.children.proofs.FillLaws.{RunAdded, run-start, run-within, run_more, run_end}
+use Rattle.children.proofs.FillLaws.{run-start, run-within, run_more, run_end}
 use Rattle.children.proofs.PartLaws.{put-room}
-use borrow.Author.Rules.{rules}
 use Rattle.children.proofs.index.add_children.Goals as goal
 
 pub first_child-c-requires : goal.first_child-c-requires

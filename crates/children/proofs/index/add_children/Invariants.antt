@@ -1,13 +1,6 @@
 -- `index::add_children` meets its contract: the children before c are in the index.
-use mathlib.Core.Path.{◌∙◌}
-use native.Mathlib.Omega.{arith}
-use Rattle.rules.proofs.TableRows.{past_children-above}
 use Rattle.rows.specs.Rows.{Room}
-use Rattle.rows.proofs.LoopLaws.{room_next}
-use Rattle.rows.proofs.ChildLaws.{children-room}
-use Rattle.children.proofs.FillLaws.{RunAdded, run-start, run-within, run_more, run_end}
-use Rattle.children.proofs.PartLaws.{put-room}
-use borrow.Author.Rules.{rules}
+use Rattle.children.proofs.FillLaws.{RunAdded}
 use Rattle.children.proofs.index.add_children.Given as goal
 
 abbrev pub invariant-loop-left : goal.invariant-loop-left

@@ -2,7 +2,6 @@
 use native.Mathlib.Omega.{arith}
 use Rattle.rules.proofs.TableRows.{past_children-above}
 use Rattle.children.proofs.DefinitionLaws.{inline_fits_lem, inline-list, inline-none}
-use borrow.Author.Rules.{rules}
 use Rattle.children.proofs.index.add_inline.Goals as goal
 
 pub owns_struct-requires : goal.owns_struct-requires

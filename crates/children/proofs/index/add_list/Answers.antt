@@ -1,5 +1,4 @@
 -- `index::add_list` meets its contract: a long list comes in and is counted, a short one needs nothing.
-use borrow.Author.Rules.{rules}
 use Rattle.children.proofs.FillLaws.{list-long, list-short}
 use Rattle.children.proofs.index.add_list.Goals as goal
 

@@ -1,12 +1,9 @@
 -- `index::fill_index` meets its contract: the lists of the definitions before row r are in the index.
 -- The measure is the number of rows left.
-use Prim.Native.Nat.{◌-◌}
-use mathlib.Core.Path.{◌≡◌, refl, ◌∙◌}
+use mathlib.Core.Path.{refl, ◌∙◌}
 use native.Mathlib.Omega.{arith}
-use lib.ListN.{length}
 use Rattle.rules.proofs.TableRows.{past_children-above}
-use Rattle.children.proofs.DefinitionLaws.{Filling, filling_start, filling_fits, filling_on, filling_end}
-use borrow.Author.Rules.{rules}
+use Rattle.children.proofs.DefinitionLaws.{filling_start, filling_fits, filling_on, filling_end}
 use Rattle.children.proofs.index.fill_index.Goals as goal
 
 pub loop-r-init : goal.loop-r-init

@@ -1,12 +1,9 @@
 -- `index::fill_index` meets its contract: the lists of the definitions before row r are in the index.
 -- The measure is the number of rows left.
 use Prim.Native.Nat.{◌-◌}
-use mathlib.Core.Path.{◌≡◌, refl, ◌∙◌}
-use native.Mathlib.Omega.{arith}
+use mathlib.Core.Path.{◌≡◌}
 use lib.ListN.{length}
-use Rattle.rules.proofs.TableRows.{past_children-above}
-use Rattle.children.proofs.DefinitionLaws.{Filling, filling_start, filling_fits, filling_on, filling_end}
-use borrow.Author.Rules.{rules}
+use Rattle.children.proofs.DefinitionLaws.{Filling}
 use Rattle.children.proofs.index.fill_index.Given as goal
 
 abbrev pub invariant-loop-r : goal.invariant-loop-r

@@ -1,5 +1,4 @@
 -- `index::is_long` meets its contract: the test is that of the definition.
-use borrow.Author.Rules.{rules}
 use Rattle.children.specs.Index.{is_long}
 use Rattle.children.proofs.index.is_long.Goals as goal
 

@@ -5,7 +5,6 @@ use mathlib.Core.Path.{ap₂}
 use native.Mathlib.Numerals.{add-one}
 use Prim.Native.Nat.{ℕ, ◌+◌}
 use native.Mathlib.Omega.{arith}
-use borrow.Author.Rules.{rules}
 use Rattle.children.proofs.index.put_child.Goals as goal
 
 pub bounds-index-h-2 : goal.bounds-index-h-2

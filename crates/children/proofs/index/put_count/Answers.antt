@@ -1,5 +1,4 @@
 -- `index::put_count` meets its contract: a list has no more mandatory children than children, and the table few rows.
-use borrow.Author.Rules.{rules}
 use mathlib.Core.Path.{ap}
 use native.Mathlib.Omega.{arith}
 use lib.ListN.{set}

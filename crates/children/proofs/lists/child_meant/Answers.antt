@@ -1,5 +1,4 @@
 -- `lists::child_meant` meets its contract: a long list is looked up, a short one looked through.
-use borrow.Author.Rules.{rules}
 use mathlib.Core.Path.{sym, ◌∙◌}
 use Rattle.children.proofs.lists.child_meant.Goals as goal
 

@@ -1,7 +1,6 @@
 -- `lists::is_named` meets its contract: names of other sizes differ.
 use mathlib.Core.Path.{◌∙◌}
 use Rattle.children.proofs.NameSizes.{named_other, named-same}
-use borrow.Author.Rules.{rules}
 use Rattle.children.proofs.lists.is_named.Goals as goal
 
 pub returns-then-wide-name : goal.returns-then-wide-name

@@ -1,6 +1,5 @@
 -- `lists::mandatory_one` meets its contract.
 use Rattle.children.proofs.CountLaws.{one_mandatory, one-optional}
-use borrow.Author.Rules.{rules}
 use Rattle.children.proofs.lists.mandatory_one.Goals as goal
 
 pub returns-then-word-eq0 : goal.returns-then-word-eq0

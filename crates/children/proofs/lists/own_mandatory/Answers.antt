@@ -1,5 +1,4 @@
 -- `lists::own_mandatory` meets its contract: a long list is counted in the index, a short one looked through.
-use borrow.Author.Rules.{rules}
 use Rattle.children.proofs.CountLaws.{own_indexed, own_scanned}
 use Rattle.children.proofs.lists.own_mandatory.Goals as goal
 

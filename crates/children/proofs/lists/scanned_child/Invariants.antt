@@ -1,9 +1,6 @@
 -- `lists::scanned_child` meets its contract: of the children, those left to look at.
 use Rattle.rows.specs.Rows.{Room}
-use Rattle.rows.proofs.LoopLaws.{room_next}
-use Rattle.rows.proofs.ChildLaws.{children-room}
-use Rattle.children.proofs.ScanLaws.{ChildLeft, child-start, child_hit, child-on, child-end}
-use borrow.Author.Rules.{rules}
+use Rattle.children.proofs.ScanLaws.{ChildLeft}
 use Rattle.children.proofs.lists.scanned_child.Given as goal
 
 abbrev pub invariant-loop-left : goal.invariant-loop-left

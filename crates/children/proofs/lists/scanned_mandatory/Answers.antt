@@ -1,9 +1,7 @@
 -- `lists::scanned_mandatory` meets its contract: of the children, those left to look at.
-use Rattle.rows.specs.Rows.{Room}
 use Rattle.rows.proofs.LoopLaws.{room_next}
 use Rattle.rows.proofs.ChildLaws.{children-room}
-use Rattle.children.proofs.CountLaws.{CountLeft, count-start, count-on, count-end, count_fits}
-use borrow.Author.Rules.{rules}
+use Rattle.children.proofs.CountLaws.{count-start, count-on, count-end, count_fits}
 use Rattle.children.proofs.lists.scanned_mandatory.Goals as goal
 
 pub loop-left-init : goal.loop-left-init

@@ -1,9 +1,6 @@
 -- `lists::scanned_mandatory` meets its contract: of the children, those left to look at.
 use Rattle.rows.specs.Rows.{Room}
-use Rattle.rows.proofs.LoopLaws.{room_next}
-use Rattle.rows.proofs.ChildLaws.{children-room}
-use Rattle.children.proofs.CountLaws.{CountLeft, count-start, count-on, count-end, count_fits}
-use borrow.Author.Rules.{rules}
+use Rattle.children.proofs.CountLaws.{CountLeft}
 use Rattle.children.proofs.lists.scanned_mandatory.Given as goal
 
 abbrev pub invariant-loop-left : goal.invariant-loop-left

@@ -1,6 +1,5 @@
 -- `lists::short_child` meets its contract: a plain key or string means its bytes.
 use Rattle.children.proofs.ScanLaws.{scan-plain}
-use borrow.Author.Rules.{rules}
 use Rattle.children.proofs.lists.short_child.Goals as goal
 
 pub returns-then-plain_kind : goal.returns-then-plain_kind

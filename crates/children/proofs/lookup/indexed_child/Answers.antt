@@ -1,6 +1,5 @@
 -- `lookup::indexed_child` meets its contract: the chain of the bucket of what is meant.
 use Rattle.children.proofs.LookupLaws.{child_indexed}
-use borrow.Author.Rules.{rules}
 use Rattle.children.proofs.lookup.indexed_child.Goals as goal
 
 pub returns : goal.returns

@@ -1,6 +1,5 @@
 -- `lookup::is_meant` meets its contract: a row of another owner, or of this one, where the node is compared.
 use Rattle.children.proofs.LookupLaws.{meant_not, meant_own}
-use borrow.Author.Rules.{rules}
 use Rattle.children.proofs.lookup.is_meant.Goals as goal
 
 pub returns-then-number_at-r : goal.returns-then-number_at-r

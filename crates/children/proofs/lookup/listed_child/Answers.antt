@@ -2,7 +2,7 @@
 -- The measure is the count that falls.
 use borrow.Author.Rules.{rules}
 use Rattle.children.specs.Index.{links_of, owners_of}
-use Rattle.children.proofs.LookupLaws.{ChildWalk, child-walk, listed_hit, listed-on, listed-end, listed_out}
+use Rattle.children.proofs.LookupLaws.{child-walk, listed_hit, listed-on, listed-end, listed_out}
 use Rattle.children.proofs.lookup.listed_child.Goals as goal
 
 pub loop-left-init : goal.loop-left-init

@@ -1,8 +1,7 @@
 -- `lookup::listed_child` meets its contract: the rows left of the chain decide.
 -- The measure is the count that falls.
-use borrow.Author.Rules.{rules}
 use Rattle.children.specs.Index.{links_of, owners_of}
-use Rattle.children.proofs.LookupLaws.{ChildWalk, child-walk, listed_hit, listed-on, listed-end, listed_out}
+use Rattle.children.proofs.LookupLaws.{ChildWalk}
 use Rattle.children.proofs.lookup.listed_child.Given as goal
 
 abbrev pub invariant-loop-left : goal.invariant-loop-left

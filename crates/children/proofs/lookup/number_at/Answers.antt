@@ -1,7 +1,6 @@
 -- `lookup::number_at` meets its contract: past the end a list's element is its default.
 use lib.ListN.{get_or-eq_default}
 use mathlib.Core.Path.{sym}
-use borrow.Author.Rules.{rules}
 use Rattle.children.proofs.lookup.number_at.Goals as goal
 
 pub returns-then-words-i : goal.returns-then-words-i

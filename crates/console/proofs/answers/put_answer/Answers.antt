@@ -1,6 +1,5 @@
 -- `put_answer` meets its contract, style by style: the call, and its line.
 use Rattle.console.proofs.AnswerLaws.{says-numbers, says-tree}
-use borrow.Author.Rules.{rules}
 use Rattle.console.proofs.answers.put_answer.Goals as goal
 
 pub returns-in-Numbers : goal.returns-in-Numbers

@@ -1,6 +1,5 @@
 -- `put_numbers` meets its contract: four numbers and the words of the records counted.
 use Rattle.console.proofs.AnswerLaws.{puts-numbers}
-use borrow.Author.Rules.{rules}
 use Rattle.console.proofs.answers.put_numbers.Goals as goal
 
 pub returns : goal.returns

@@ -1,6 +1,5 @@
 -- `put_schema_answer` meets its contract, style by style.
 use Rattle.console.proofs.AnswerLaws.{schema_styled}
-use borrow.Author.Rules.{rules}
 use Rattle.console.proofs.answers.put_schema_answer.Goals as goal
 
 pub returns-in-Numbers : goal.returns-in-Numbers

@@ -1,6 +1,5 @@
 -- `put_schema_numbers` meets its contract: three numbers.
 use Rattle.console.proofs.AnswerLaws.{schema-numbers}
-use borrow.Author.Rules.{rules}
 use Rattle.console.proofs.answers.put_schema_numbers.Goals as goal
 
 pub returns : goal.returns

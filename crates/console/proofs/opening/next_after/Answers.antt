@@ -3,7 +3,6 @@ use mathlib.Core.Path.{sym, ap, ◌∙◌}
 use Rattle.rules.specs.declared.SchemaAnswer.{SchemaAnswer}
 use Rattle.console.specs.declared.opening.Next.TheVariants.{Messages}
 use Rattle.console.specs.Serving.Beginning.{next_after}
-use borrow.Author.Rules.{rules}
 use Rattle.console.proofs.opening.next_after.Goals as goal
 
 pub returns-in-Accepted : goal.returns-in-Accepted

@@ -1,6 +1,5 @@
 -- `open_schema` meets its contract: the call's outcome, its line, and what follows.
 use Rattle.console.proofs.BeginningLaws.{opens-schema}
-use borrow.Author.Rules.{rules}
 use Rattle.console.proofs.opening.open_schema.Goals as goal
 
 pub returns : goal.returns

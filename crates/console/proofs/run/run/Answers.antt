@@ -1,6 +1,5 @@
 -- `run` is safe, and messages are answered only by the table of an accepted schema.
 use Rattle.console.proofs.BeginningLaws.{bytes-lent, words-lent, table-lent}
-use borrow.Author.Rules.{rules}
 use Rattle.console.proofs.run.run.Goals as goal
 
 pub slice_bounds-take_input-end : goal.slice_bounds-take_input-end

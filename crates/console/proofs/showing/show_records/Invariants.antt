@@ -1,7 +1,6 @@
 -- The reader is at the record that the listing asks for next, and there is room for a line. The measure is the asks left.
 use Rattle.std.proofs.Common.{◌≡◌, true, ◌+◌, ◌≤◌, length}
 use Rattle.trees.specs.Serving.Rooms.{line_room}
-use Rattle.console.specs.Program.{record_count}
 use Rattle.console.proofs.ShowLaws.{asks_left}
 use Rattle.console.proofs.showing.show_records.Given as goal
 

@@ -1,6 +1,5 @@
 -- `show_seen` meets its contract: the record's line is put, and then it waits or is written.
 use Rattle.console.proofs.ShowLaws.{shows-none, shows-waits, shows-written}
-use borrow.Author.Rules.{rules}
 use Rattle.console.proofs.showing.show_seen.Goals as goal
 
 pub returns-then-next-n : goal.returns-then-next-n

@@ -3,7 +3,6 @@ use native.Mathlib.Omega.{arith}
 use lib.ListN.{length}
 use Rattle.console.proofs.JoinLaws.{line_in}
 use Rattle.console.proofs.StepLaws.{takes_line, takes-more}
-use borrow.Author.Rules.{rules}
 use Rattle.console.proofs.steps.take_line.Goals as goal
 
 pub slice_bounds-put_answer-end : goal.slice_bounds-put_answer-end

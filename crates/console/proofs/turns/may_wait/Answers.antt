@@ -1,7 +1,6 @@
 -- `may_wait` meets its contract.
 use mathlib.Core.Path.{refl}
 use Rattle.grammar.proofs.Booleans.{clash}
-use borrow.Author.Rules.{rules}
 use Rattle.console.proofs.turns.may_wait.Goals as goal
 
 pub returns-then-words-ne0 : goal.returns-then-words-ne0

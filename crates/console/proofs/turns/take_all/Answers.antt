@@ -1,9 +1,6 @@
 -- `take_all` is safe and ends. The invariant: what is kept is within its room. The measure is the turns left.
-use Prim.Native.Nat.{◌≤◌}
 use native.Mathlib.Omega.{arith}
-use mathlib.Core.Path.{◌≡◌, refl}
-use lib.ListN.{length}
-use Rattle.console.specs.Serving.Steps.{Room}
+use mathlib.Core.Path.{refl}
 use Rattle.console.proofs.StepLaws.{kept_in}
 use borrow.Author.Rules.{rules}
 use Rattle.console.proofs.turns.take_all.Goals as goal

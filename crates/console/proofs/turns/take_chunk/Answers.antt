@@ -1,9 +1,6 @@
 -- `take_chunk` is safe and ends. The invariant: the place and what is kept are within their rooms, and a line has room. The measure is what is left of the chunk.
-use Prim.Native.Nat.{◌+◌, ◌-◌, ◌≤◌}
 use native.Mathlib.Omega.{arith}
-use mathlib.Core.Path.{◌≡◌, refl}
-use lib.ListN.{length}
-use Rattle.console.specs.Serving.Steps.{longest_line, Room}
+use mathlib.Core.Path.{refl}
 use Rattle.console.proofs.StepLaws.{room_in}
 use borrow.Author.Rules.{rules}
 use Rattle.console.proofs.turns.take_chunk.Goals as goal

@@ -1,6 +1,5 @@
 -- `write_on` is safe, and leaves room for a line: what is put is written unless another line fits.
 use native.Mathlib.Omega.{arith}
-use borrow.Author.Rules.{rules}
 use Rattle.console.proofs.turns.write_on.Goals as goal
 
 pub returns-then-may_wait : goal.returns-then-may_wait

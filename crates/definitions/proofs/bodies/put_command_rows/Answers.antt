@@ -1,7 +1,6 @@
 -- `bodies::put_command_rows` meets its contract: the inline data, then the command's own row.
 use mathlib.Core.Path.{refl, ◌∙◌}
 use native.Mathlib.Omega.{arith}
-use borrow.Author.Rules.{rules}
 use Rattle.definitions.proofs.CommandLaws.{command-bad_data, command-put}
 use Rattle.definitions.proofs.Stores.{refused, bounds}
 use Rattle.definitions.proofs.bodies.put_command_rows.Goals as goal

@@ -1,5 +1,4 @@
 -- `bodies::put_list` meets its contract.
-use borrow.Author.Tests.{not-true, not-false}
 use mathlib.Core.Path.{refl}
 use native.Mathlib.Omega.{arith}
 use mathlib.Core.Logic.{⊎_elim}

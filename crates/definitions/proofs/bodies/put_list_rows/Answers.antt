@@ -2,7 +2,6 @@
 use native.Mathlib.Omega.{arith}
 use Rattle.definitions.proofs.BodyLaws.{list_counted}
 use Rattle.definitions.proofs.Stores.{handed}
-use borrow.Author.Rules.{rules}
 use Rattle.definitions.proofs.bodies.put_list_rows.Goals as goal
 
 pub returns : goal.returns

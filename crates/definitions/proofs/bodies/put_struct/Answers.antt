@@ -1,5 +1,4 @@
 -- `bodies::put_struct` meets its contract.
-use borrow.Author.Tests.{not-true, not-false}
 use mathlib.Core.Path.{refl}
 use native.Mathlib.Omega.{arith}
 use Rattle.rules.specs.Kinds.{struct_kind}
@@ -7,7 +6,6 @@ use Rattle.lookups.specs.Lookups.FindsEach.{nothing, ◌and◌}
 use Rattle.definitions.specs.Parts.{keys_of_kind}
 use Rattle.definitions.proofs.BodyLaws.{other_key, no_other-key, struct-list, struct-refused}
 use Rattle.definitions.proofs.Stores.{handed, refused}
-use borrow.Author.Rules.{rules}
 use Rattle.definitions.proofs.bodies.put_struct.Goals as goal
 
 pub returns-then-not-no_others : goal.returns-then-not-no_others

@@ -1,5 +1,4 @@
 -- `bodies::put_union` meets its contract.
-use borrow.Author.Tests.{not-true, not-false}
 use mathlib.Core.Path.{refl}
 use native.Mathlib.Omega.{arith}
 use Rattle.rules.specs.Kinds.{union_kind}
@@ -8,7 +7,6 @@ use Rattle.definitions.specs.Parts.{keys_of_kind}
 use Rattle.definitions.proofs.BodyLaws.{other_key, no_other-key}
 use Rattle.definitions.proofs.UnionLaws.{union_no_base, union_no_discriminator, union-bad-discriminator, union_handed}
 use Rattle.definitions.proofs.Stores.{handed, refused}
-use borrow.Author.Rules.{rules}
 use Rattle.definitions.proofs.bodies.put_union.Goals as goal
 
 pub returns-then-not-no_others : goal.returns-then-not-no_others

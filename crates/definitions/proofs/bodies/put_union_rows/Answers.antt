@@ -1,7 +1,6 @@
 -- `bodies::put_union_rows` meets its contract: the inline base, the branches, then the union's own row.
 use mathlib.Core.Path.{refl, ◌∙◌}
 use native.Mathlib.Omega.{arith}
-use borrow.Author.Rules.{rules}
 use Rattle.definitions.proofs.UnionLaws.{union-bad-base, union-bad-branches, union-put}
 use Rattle.definitions.proofs.Stores.{refused, bounds}
 use Rattle.definitions.proofs.bodies.put_union_rows.Goals as goal

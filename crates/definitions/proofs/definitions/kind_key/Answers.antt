@@ -1,5 +1,4 @@
 -- `definitions::kind_key` meets its contract: kind key by kind key.
-use borrow.Author.Rules.{rules}
 use Rattle.definitions.proofs.KindLaws.{kind-enum, kind-struct, kind-union, kind-alternate, kind-command, kind-none}
 use Rattle.definitions.proofs.definitions.kind_key.Goals as goal
 

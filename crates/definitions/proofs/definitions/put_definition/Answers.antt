@@ -1,7 +1,6 @@
 -- `definitions::put_definition` meets its contract.
 use mathlib.Core.Path.{refl}
 use native.Mathlib.Omega.{arith}
-use borrow.Author.Rules.{rules}
 use Rattle.definitions.proofs.KindLaws.{definition_no_object, definition_no_kind, definition_handed}
 use Rattle.definitions.proofs.Stores.{handed, refused}
 use Rattle.definitions.proofs.definitions.put_definition.Goals as goal

@@ -3,8 +3,7 @@
 use borrow.Author.Rules.{rules}
 use mathlib.Core.Path.{◌∙◌}
 use native.Mathlib.Omega.{arith}
-use Prim.Native.Nat.{◌-◌}
-use Rattle.definitions.proofs.TableLaws.{DefinitionsLeft, definitions_begin, definitions-on, definitions_fail, definitions_stuck, definitions-over, definitions-all}
+use Rattle.definitions.proofs.TableLaws.{definitions_begin, definitions-on, definitions_fail, definitions_stuck, definitions-over, definitions-all}
 use Rattle.definitions.proofs.definitions.put_definitions.Goals as goal
 
 pub loop-k-init : goal.loop-k-init

@@ -1,10 +1,7 @@
 -- `definitions::put_definitions` meets its contract: the definitions passed are put, those left decide the rest.
 -- The measure is the nodes left. Rows never outnumber the nodes passed.
-use borrow.Author.Rules.{rules}
-use mathlib.Core.Path.{◌∙◌}
-use native.Mathlib.Omega.{arith}
 use Prim.Native.Nat.{◌-◌}
-use Rattle.definitions.proofs.TableLaws.{DefinitionsLeft, definitions_begin, definitions-on, definitions_fail, definitions_stuck, definitions-over, definitions-all}
+use Rattle.definitions.proofs.TableLaws.{DefinitionsLeft}
 use Rattle.definitions.proofs.definitions.put_definitions.Given as goal
 
 abbrev pub invariant-loop-k : goal.invariant-loop-k

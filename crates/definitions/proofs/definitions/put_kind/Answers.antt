@@ -1,5 +1,4 @@
 -- `definitions::put_kind` meets its contract: a name, then kind by kind.
-use borrow.Author.Tests.{not-true, not-false}
 use mathlib.Core.Path.{refl, ap}
 use native.Mathlib.Omega.{arith}
 use mathlib.Core.Logic.{inl, inr}

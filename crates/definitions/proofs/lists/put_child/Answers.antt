@@ -1,5 +1,4 @@
 -- `lists::put_child` meets its contract: kind by kind.
-use borrow.Author.Rules.{rules}
 use Rattle.definitions.proofs.ChildLaws.{child-value, child-member, child-pair}
 use Rattle.definitions.proofs.lists.put_child.Goals as goal
 

@@ -3,8 +3,7 @@
 use borrow.Author.Rules.{rules}
 use mathlib.Core.Path.{refl, ◌∙◌}
 use native.Mathlib.Omega.{arith}
-use Prim.Native.Nat.{◌+◌, ◌-◌}
-use Rattle.definitions.proofs.ListLaws.{ChildrenLeft, children_begin, children-on, children_fail, children_stuck, children-all, children-other, children-list, list_stuck, list-absent}
+use Rattle.definitions.proofs.ListLaws.{children_begin, children-on, children_fail, children_stuck, children-all, children-other, children-list, list_stuck, list-absent}
 use Rattle.definitions.proofs.Stores.{refused}
 use Rattle.definitions.proofs.lists.put_children.Goals as goal
 

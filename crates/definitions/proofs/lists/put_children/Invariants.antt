@@ -1,11 +1,7 @@
 -- `lists::put_children` meets its contract: the children passed are put, those left decide the rest.
 -- The measure is the nodes left.
-use borrow.Author.Rules.{rules}
-use mathlib.Core.Path.{refl, ◌∙◌}
-use native.Mathlib.Omega.{arith}
 use Prim.Native.Nat.{◌+◌, ◌-◌}
-use Rattle.definitions.proofs.ListLaws.{ChildrenLeft, children_begin, children-on, children_fail, children_stuck, children-all, children-other, children-list, list_stuck, list-absent}
-use Rattle.definitions.proofs.Stores.{refused}
+use Rattle.definitions.proofs.ListLaws.{ChildrenLeft}
 use Rattle.definitions.proofs.lists.put_children.Given as goal
 
 abbrev pub invariant-loop-a : goal.invariant-loop-a

@@ -1,7 +1,6 @@
 -- `lists::put_counted` meets its contract: the children first, then the row that counts them.
 use mathlib.Core.Path.{refl, ◌∙◌}
 use native.Mathlib.Omega.{arith}
-use borrow.Author.Rules.{rules}
 use Rattle.definitions.proofs.CountLaws.{counted-refused, counted-put}
 use Rattle.definitions.proofs.Stores.{refused, bounds}
 use Rattle.definitions.proofs.lists.put_counted.Goals as goal

@@ -1,6 +1,5 @@
 -- `lists::put_inline` meets its contract.
 use native.Mathlib.Omega.{arith}
-use borrow.Author.Rules.{rules}
 use Rattle.definitions.proofs.CountLaws.{nothing_put, inline-absent, inline-name, inline_members_lem}
 use Rattle.definitions.proofs.Stores.{handed}
 use Rattle.definitions.proofs.lists.put_inline.Goals as goal

@@ -1,5 +1,4 @@
 -- `lists::put_member` meets its contract.
-use borrow.Author.Rules.{rules}
 use Rattle.definitions.proofs.ChildLaws.{member-refused, member-put}
 use Rattle.definitions.proofs.lists.put_member.Goals as goal
 

@@ -1,7 +1,5 @@
 -- `lists::put_pair` meets its contract.
 use mathlib.Core.Path.{refl}
-use borrow.Author.Tests.{not-true, not-false}
-use borrow.Author.Rules.{rules}
 use Rattle.definitions.proofs.ChildLaws.{pair-refused, pair_put}
 use Rattle.definitions.proofs.lists.put_pair.Goals as goal
 

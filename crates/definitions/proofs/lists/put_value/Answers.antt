@@ -1,6 +1,4 @@
 -- `lists::put_value` meets its contract.
-use borrow.Author.Tests.{not-true, not-false}
-use borrow.Author.Rules.{rules}
 use Rattle.definitions.proofs.ChildLaws.{value-refused, value-put}
 use Rattle.definitions.proofs.lists.put_value.Goals as goal
 

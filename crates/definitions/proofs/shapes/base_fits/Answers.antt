@@ -1,5 +1,4 @@
 -- `shapes::base_fits` meets its contract.
-use borrow.Author.Rules.{rules}
 use Rattle.definitions.proofs.ShapeLaws.{base-absent, base_there}
 use Rattle.definitions.proofs.shapes.base_fits.Goals as goal
 

@@ -1,5 +1,4 @@
 -- `shapes::data_link` meets its contract.
-use borrow.Author.Rules.{rules}
 use Rattle.definitions.proofs.ShapeLaws.{link-absent, link-name, link_row}
 use Rattle.definitions.proofs.shapes.data_link.Goals as goal
 

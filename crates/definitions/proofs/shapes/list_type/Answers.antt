@@ -1,7 +1,5 @@
 -- `shapes::list_type` meets its contract: an array of one node more, which is a string.
-use borrow.Author.Tests.{not-true, not-false}
 use native.Mathlib.Omega.{arith}
-use borrow.Author.Rules.{rules}
 use Rattle.definitions.proofs.ShapeLaws.{list-no_array, list_stuck, list_no_string, list-other, list-one}
 use Rattle.definitions.proofs.shapes.list_type.Goals as goal
 

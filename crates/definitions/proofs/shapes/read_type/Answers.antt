@@ -1,5 +1,4 @@
 -- `shapes::read_type` meets its contract.
-use borrow.Author.Rules.{rules}
 use Rattle.definitions.proofs.ShapeLaws.{type_name_lem, type-list}
 use Rattle.definitions.proofs.shapes.read_type.Goals as goal
 

@@ -1,5 +1,4 @@
 -- `shapes::take_flag` meets its contract: by the kind of the node.
-use borrow.Author.Rules.{rules}
 use Rattle.definitions.proofs.ShapeLaws.{flag-absent, flag-false, flag_true, flag-other}
 use Rattle.definitions.proofs.shapes.take_flag.Goals as goal
 

@@ -1,5 +1,4 @@
 -- `shapes::take_return` meets its contract.
-use borrow.Author.Rules.{rules}
 use Rattle.definitions.proofs.ShapeLaws.{return_absent, return_there}
 use Rattle.definitions.proofs.shapes.take_return.Goals as goal
 

@@ -1,5 +1,4 @@
 -- `shapes::take_type` meets its contract: what is neither a list of one name nor a name is refused.
-use borrow.Author.Rules.{rules}
 use Rattle.definitions.proofs.ShapeLaws.{take-list, take_none, take-one}
 use Rattle.definitions.proofs.shapes.take_type.Goals as goal
 

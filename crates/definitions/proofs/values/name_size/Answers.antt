@@ -1,6 +1,5 @@
 -- `values::name_size` meets its contract.
 use mathlib.Core.Path.{refl}
-use borrow.Author.Rules.{rules}
 use Rattle.definitions.proofs.NameLaws.{size_word}
 use native.Mathlib.Omega.{arith}
 use Rattle.definitions.proofs.values.name_size.Goals as goal

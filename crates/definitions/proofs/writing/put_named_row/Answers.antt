@@ -1,5 +1,4 @@
 -- `writing::put_named_row` meets its contract: the row with the name's words.
-use borrow.Author.Rules.{rules}
 use Rattle.definitions.proofs.NameLaws.{named-row}
 use Rattle.definitions.proofs.writing.put_named_row.Goals as goal
 

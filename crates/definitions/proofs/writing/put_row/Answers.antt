@@ -2,7 +2,6 @@
 use mathlib.Core.Path.{refl}
 use native.Mathlib.Omega.{arith}
 use Rattle.definitions.proofs.Stores.{put_halves}
-use borrow.Author.Rules.{rules}
 use Rattle.definitions.proofs.writing.put_row.Goals as goal
 
 pub returns-then-rows-n : goal.returns-then-rows-n

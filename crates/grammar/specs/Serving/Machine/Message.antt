@@ -12,52 +12,52 @@ use Rattle.grammar.specs.Serving.Machine.{spell}
 
 -- how many bytes of UTF-8 are wanted; after some lead bytes the next one is narrowed, against overlong forms, surrogates and what is above U+10FFFF
 pub data Want : Type 0 where
-  one two two-E0 two-ED three three-F0 three-F4 : Want
+  one two two_E0 two_ED three three_F0 three_F4 : Want
 
 abbrev pub lowest : Want → ℕ
 lowest one = 0x80
 lowest two = 0x80
-lowest two-E0 = 0xA0
-lowest two-ED = 0x80
+lowest two_E0 = 0xA0
+lowest two_ED = 0x80
 lowest three = 0x80
-lowest three-F0 = 0x90
-lowest three-F4 = 0x80
+lowest three_F0 = 0x90
+lowest three_F4 = 0x80
 
 abbrev pub highest : Want → ℕ
 highest one = 0xBF
 highest two = 0xBF
-highest two-E0 = 0xBF
-highest two-ED = 0x9F
+highest two_E0 = 0xBF
+highest two_ED = 0x9F
 highest three = 0xBF
-highest three-F0 = 0xBF
-highest three-F4 = 0x8F
+highest three_F0 = 0xBF
+highest three_F4 = 0x8F
 
 -- after a backslash; in the digits of `\u`; after a high surrogate, at the backslash, the u and the digits of its low one; in UTF-8. The numbers are what is read so far
 pub data CharState : Type 0 where
   escape hex0 : CharState
   hex1 hex2 hex3 : ℕ → CharState
-  low-backslash low-u low0 low1 : ℕ → CharState
+  low_backslash low_u low0 low1 : ℕ → CharState
   low2 low3 : ℕ → ℕ → CharState
   utf8 : Want → ℕ → CharState
 
 abbrev pub wanted : Want → ℕ → CharStep CharState
 wanted one v = char v
 wanted two v = stay (utf8 one v)
-wanted two-E0 v = stay (utf8 one v)
-wanted two-ED v = stay (utf8 one v)
+wanted two_E0 v = stay (utf8 one v)
+wanted two_ED v = stay (utf8 one v)
 wanted three v = stay (utf8 two v)
-wanted three-F0 v = stay (utf8 two v)
-wanted three-F4 v = stay (utf8 two v)
+wanted three_F0 v = stay (utf8 two v)
+wanted three_F4 v = stay (utf8 two v)
 
 abbrev pub lead : ℕ → CharStep CharState
 lead b =
     cond (within 0xC2 0xDF b) (stay (utf8 one (b - 0xC0)))
-    (cond (eqb b 0xE0) (stay (utf8 two-E0 0))
-    (cond (eqb b 0xED) (stay (utf8 two-ED 13))
+    (cond (eqb b 0xE0) (stay (utf8 two_E0 0))
+    (cond (eqb b 0xED) (stay (utf8 two_ED 13))
     (cond (within 0xE1 0xEF b) (stay (utf8 two (b - 0xE0)))
-    (cond (eqb b 0xF0) (stay (utf8 three-F0 0))
+    (cond (eqb b 0xF0) (stay (utf8 three_F0 0))
     (cond (within 0xF1 0xF3 b) (stay (utf8 three (b - 0xF0)))
-    (cond (eqb b 0xF4) (stay (utf8 three-F4 4)) bad))))))
+    (cond (eqb b 0xF4) (stay (utf8 three_F4 4)) bad))))))
 
 unfoldable pub char_start : ℕ → CharStep CharState
 char_start b = cond (eqb b (code "\\")) (stay escape) (cond (within 0x20 0x7F b) (char b) (lead b))
@@ -83,7 +83,7 @@ escaped none = bad
 
 -- four digits are read: a high surrogate waits for its low one
 abbrev pub unit : ℕ → CharStep CharState
-unit v = cond (within 0xD800 0xDBFF v) (stay (low-backslash v)) (char v)
+unit v = cond (within 0xD800 0xDBFF v) (stay (low_backslash v)) (char v)
 
 unfoldable pub char_step : CharState → ℕ → CharStep CharState
 unfolding hex_digit escape_of
@@ -92,8 +92,8 @@ char_step hex0 b = with_hex (hex_digit b) (λ d. stay (hex1 d))
 char_step (hex1 v) b = with_hex (hex_digit b) (λ d. cond (within 0xDC 0xDF (v * 16 + d)) bad (stay (hex2 (v * 16 + d))))
 char_step (hex2 v) b = with_hex (hex_digit b) (λ d. stay (hex3 (v * 16 + d)))
 char_step (hex3 v) b = with_hex (hex_digit b) (λ d. unit (v * 16 + d))
-char_step (low-backslash h) b = cond (eqb b (code "\\")) (stay (low-u h)) bad
-char_step (low-u h) b = cond (eqb b (code "u")) (stay (low0 h)) bad
+char_step (low_backslash h) b = cond (eqb b (code "\\")) (stay (low_u h)) bad
+char_step (low_u h) b = cond (eqb b (code "u")) (stay (low0 h)) bad
 char_step (low0 h) b = with_hex (hex_digit b) (λ d. cond (eqb d 0xD) (stay (low1 h)) bad)
 char_step (low1 h) b = with_hex (hex_digit b) (λ d. cond (leb 0xC d) (stay (low2 h (0xD0 + d))) bad)
 char_step (low2 h v) b = with_hex (hex_digit b) (λ d. stay (low3 h (v * 16 + d)))
@@ -102,30 +102,30 @@ char_step (utf8 n v) b = cond (within (lowest n) (highest n) b) (wanted n (join 
 
 -- before a number, after its minus, after its leading zero, in its integer part, after its point, in its fraction, after its e, after the sign of its exponent, in its exponent
 pub data NumberState : Type 0 where
-  begin after_minus after-zero in-int after-point in-frac after-e after-sign in-exp : NumberState
+  begin after_minus after_zero in_int after_point in_frac after_e after_sign in_exp : NumberState
 
 unfoldable pub number_step : NumberState → ℕ → Option NumberState
-number_step begin b = cond (eqb b (code "-")) (some after_minus) (cond (eqb b (code "0")) (some after-zero) (cond (within (code "1") (code "9") b) (some in-int) none))
-number_step after_minus b = cond (eqb b (code "0")) (some after-zero) (cond (within (code "1") (code "9") b) (some in-int) none)
-number_step after-zero b = cond (eqb b (code ".")) (some after-point) (cond (letter_e b) (some after-e) none)
-number_step in-int b = cond (digit b) (some in-int) (cond (eqb b (code ".")) (some after-point) (cond (letter_e b) (some after-e) none))
-number_step after-point b = cond (digit b) (some in-frac) none
-number_step in-frac b = cond (digit b) (some in-frac) (cond (letter_e b) (some after-e) none)
-number_step after-e b = cond (sign b) (some after-sign) (cond (digit b) (some in-exp) none)
-number_step after-sign b = cond (digit b) (some in-exp) none
-number_step in-exp b = cond (digit b) (some in-exp) none
+number_step begin b = cond (eqb b (code "-")) (some after_minus) (cond (eqb b (code "0")) (some after_zero) (cond (within (code "1") (code "9") b) (some in_int) none))
+number_step after_minus b = cond (eqb b (code "0")) (some after_zero) (cond (within (code "1") (code "9") b) (some in_int) none)
+number_step after_zero b = cond (eqb b (code ".")) (some after_point) (cond (letter_e b) (some after_e) none)
+number_step in_int b = cond (digit b) (some in_int) (cond (eqb b (code ".")) (some after_point) (cond (letter_e b) (some after_e) none))
+number_step after_point b = cond (digit b) (some in_frac) none
+number_step in_frac b = cond (digit b) (some in_frac) (cond (letter_e b) (some after_e) none)
+number_step after_e b = cond (sign b) (some after_sign) (cond (digit b) (some in_exp) none)
+number_step after_sign b = cond (digit b) (some in_exp) none
+number_step in_exp b = cond (digit b) (some in_exp) none
 
 -- whether a number may end here, and whether it is then an integer
 abbrev pub number_end : NumberState → Option Bool
 number_end begin = none
 number_end after_minus = none
-number_end after-zero = some true
-number_end in-int = some true
-number_end after-point = none
-number_end in-frac = some false
-number_end after-e = none
-number_end after-sign = none
-number_end in-exp = some false
+number_end after_zero = some true
+number_end in_int = some true
+number_end after_point = none
+number_end in_frac = some false
+number_end after_e = none
+number_end after_sign = none
+number_end in_exp = some false
 
 -- inside a word; inside a number, with its bytes so far in reverse
 pub data TokenState : Type 0 where

@@ -3,7 +3,6 @@ use native.Mathlib.Omega.{arith}
 use mathlib.Core.Path.{refl, ◌∙◌}
 use lib.ListN.{length-set}
 use Rattle.lines.proofs.TextLaws.{puts_spaced}
-use borrow.Author.Rules.{rules}
 use Rattle.lines.proofs.decimals.put_spaced.Goals as goal
 
 pub shape_of-out : goal.shape_of-out

@@ -1,7 +1,6 @@
 -- `put_triple` meets its contract: three numbers, and LF.
 use mathlib.Core.List.{[], ◌∷◌}
 use Rattle.lines.proofs.TextLaws.{puts_line}
-use borrow.Author.Rules.{rules}
 use Rattle.lines.proofs.decimals.put_triple.Goals as goal
 
 pub returns : goal.returns

@@ -1,12 +1,11 @@
 -- `put_words` meets its contract. The invariant: the first i words are put, and the others have room. The measure is the words left.
-use Prim.Native.Nat.{ℕ, ◌+◌, ◌*◌, ◌-◌, ◌^◌, ◌≤◌, ◌<◌}
+use Prim.Native.Nat.{ℕ, ◌^◌, ◌≤◌, ◌<◌}
 use native.Mathlib.Omega.{arith}
 use mathlib.Core.Path.{◌≡◌, refl, ◌∙◌}
 use mathlib.Core.List.{List, []}
-use lib.ListN.{length, take, get_or}
-use borrow.Author.Rules.{rules}
+use lib.ListN.{length, get_or}
 use Rattle.lines.specs.Text.{spaced_text}
-use Rattle.lines.specs.Serving.Puts.{word_room, Puts}
+use Rattle.lines.specs.Serving.Puts.{Puts}
 use Rattle.lines.proofs.TextLaws.{puts_none, puts_word, puts-words, word-length, spaced_length}
 use Rattle.lines.proofs.decimals.put_words.Goals as goal
 

@@ -1,13 +1,9 @@
 -- `put_words` meets its contract. The invariant: the first i words are put, and the others have room. The measure is the words left.
-use Prim.Native.Nat.{ℕ, ◌+◌, ◌*◌, ◌-◌, ◌^◌, ◌≤◌, ◌<◌}
-use native.Mathlib.Omega.{arith}
-use mathlib.Core.Path.{◌≡◌, refl, ◌∙◌}
-use mathlib.Core.List.{List, []}
-use lib.ListN.{length, take, get_or}
-use borrow.Author.Rules.{rules}
+use Prim.Native.Nat.{◌+◌, ◌*◌, ◌-◌, ◌≤◌}
+use mathlib.Core.Path.{◌≡◌}
+use lib.ListN.{length, take}
 use Rattle.lines.specs.Text.{spaced_text}
 use Rattle.lines.specs.Serving.Puts.{word_room, Puts}
-use Rattle.lines.proofs.TextLaws.{puts_none, puts_word, puts-words, word-length, spaced_length}
 use Rattle.lines.proofs.decimals.put_words.Given as goal
 
 abbrev pub invariant-loop-i : goal.invariant-loop-i

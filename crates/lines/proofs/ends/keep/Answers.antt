@@ -1,11 +1,9 @@
 -- `keep` meets its contract. The invariant: the first i bytes are put, and fit. The measure is the bytes left.
-use Prim.Native.Nat.{ℕ, ◌+◌, ◌-◌, ◌≤◌, ◌<◌, min}
+use Prim.Native.Nat.{ℕ, ◌+◌, ◌≤◌, ◌<◌, min}
 use native.Mathlib.Nat.{min-eq_left, min-eq_right}
 use native.Mathlib.Omega.{arith}
 use mathlib.Core.Path.{◌≡◌, refl, sym, ◌∙◌}
-use lib.ListN.{length, take, length-set}
-use borrow.Author.Rules.{rules}
-use Rattle.lines.specs.Serving.Puts.{put}
+use lib.ListN.{length, length-set}
 use Rattle.lines.proofs.TextLaws.{put-none}
 use Rattle.lines.proofs.LineLaws.{keep-on, keep-full, keep-end}
 use Rattle.lines.proofs.ends.keep.Goals as goal

@@ -1,10 +1,6 @@
 -- `line_end` meets its contract. The invariant: the end sought from i on is that sought from the start on. The measure is what is left of the bytes.
-use Prim.Native.Nat.{◌+◌, ◌-◌, ◌≤◌}
 use native.Mathlib.Omega.{arith}
-use mathlib.Core.Path.{◌≡◌, refl}
-use lib.ListN.{length, drop}
-use borrow.Author.Rules.{rules}
-use Rattle.lines.specs.Lines.{before_lf}
+use mathlib.Core.Path.{refl}
 use Rattle.lines.proofs.LineLaws.{lf_here, lf_on, lf_none}
 use Rattle.lines.proofs.ends.line_end.Goals as goal
 

@@ -1,9 +1,7 @@
 -- `counts::field_count` meets its contract: the fields passed are counted, the others are left.
 -- The measure is the nodes left.
 use Prim.Native.Nat.{suc, ◌-◌}
-use native.Mathlib.Omega.{arith}
-use borrow.Author.Rules.{rules}
-use Rattle.lookups.proofs.KeyCounts.{CountLeft, count_begin, count-on, count-end, count_stuck, count_none}
+use Rattle.lookups.proofs.KeyCounts.{CountLeft}
 use Rattle.lookups.proofs.counts.field_count.Given as goal
 
 abbrev pub invariant-loop-a : goal.invariant-loop-a

@@ -1,11 +1,8 @@
 -- `counts::found_count` meets its contract: the nodes passed are counted where they are somewhere, the others are left.
 -- The measure is the nodes left.
 use Prim.Native.Nat.{◌-◌}
-use native.Mathlib.Omega.{arith}
-use mathlib.Core.Logic.{⊎_elim}
 use lib.ListN.{length}
-use borrow.Author.Rules.{rules}
-use Rattle.lookups.proofs.KeyCounts.{FoundLeft, found_begin, found-one, found_none, found-end}
+use Rattle.lookups.proofs.KeyCounts.{FoundLeft}
 use Rattle.lookups.proofs.counts.found_count.Given as goal
 
 abbrev pub invariant-loop-i : goal.invariant-loop-i

@@ -1,6 +1,5 @@
 -- `meanings::decode_node` meets its contract: the words of the node say where the token stands.
 use Rattle.lookups.proofs.TokenLaws.{token_decodes}
-use borrow.Author.Rules.{rules}
 use Rattle.lookups.proofs.meanings.decode_node.Goals as goal
 
 pub returns : goal.returns

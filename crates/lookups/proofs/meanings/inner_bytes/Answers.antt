@@ -3,7 +3,6 @@ use Prim.Native.Nat.{◌+◌, ◌*◌}
 use mathlib.Core.Path.{refl}
 use native.Mathlib.Omega.{arith}
 use Rattle.lookups.proofs.TokenLaws.{token-bytes}
-use borrow.Author.Rules.{rules}
 use Rattle.text.specs.Nodes.{node_words}
 use Rattle.lookups.proofs.meanings.inner_bytes.Goals as goal
 

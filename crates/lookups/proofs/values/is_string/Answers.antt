@@ -1,6 +1,5 @@
 -- `values::is_string` meets its contract: the kind of the node tells.
 use mathlib.Core.Path.{◌∙◌, ap}
-use borrow.Author.Rules.{rules}
 use Rattle.lookups.specs.Lookups.{string_kind}
 use Rattle.lookups.proofs.values.is_string.Goals as goal
 

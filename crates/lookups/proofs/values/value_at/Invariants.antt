@@ -1,10 +1,9 @@
 -- `values::value_at` meets its contract: the fields left decide what all do.
 -- The measure is the nodes left.
 use Prim.Native.Nat.{suc, ◌-◌}
-use borrow.Author.Rules.{rules}
 use Rattle.rules.specs.Values.{value_at}
 use Rattle.strings.specs.Strings.{grammar_of}
-use Rattle.lookups.proofs.FieldLaws.{FieldsLeft, value_begin, value_hit, value_on, value_stuck, value-end, value_none}
+use Rattle.lookups.proofs.FieldLaws.{FieldsLeft}
 use Rattle.lookups.proofs.values.value_at.Given as goal
 
 abbrev pub invariant-loop-a : goal.invariant-loop-a

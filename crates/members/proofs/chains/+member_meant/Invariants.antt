@@ -1,8 +1,5 @@
 -- `chains::member_meant` meets its contract: a walk up the chain of bases, which asks each struct's own children last.
 -- The measure is the number of structs left.
-use borrow.Author.Rules.{rules}
-use Rattle.members.proofs.MemberLaws.{meant_none, meant_out, meant_inherited, meant_own}
-use Prim.Native.Nat.{ℕ, ◌<◌}
 use Rattle.members.proofs.chains.+member_meant.Given as goal
 
 abbrev pub decreases-member_meant : goal.decreases-member_meant

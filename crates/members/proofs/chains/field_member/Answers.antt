@@ -1,7 +1,6 @@
 -- `chains::field_member` meets its contract.
 -- The base's members come first.
 use Rattle.members.proofs.MemberLaws.{field-base, field-branch}
-use borrow.Author.Rules.{rules}
 use Rattle.members.proofs.chains.field_member.Goals as goal
 
 pub returns-then-x-ne0 : goal.returns-then-x-ne0

@@ -1,8 +1,6 @@
 -- `mandatory::mandatory_count` meets its contract: a walk up the chain of bases, which adds each struct's own children last.
 -- The measure is the number of structs left.
-use borrow.Author.Rules.{rules}
 use Rattle.members.proofs.MandatoryLaws.{count_none, count_out, count-own}
-use Prim.Native.Nat.{ℕ, ◌<◌}
 use Rattle.members.proofs.mandatory.+mandatory_count.Goals as goal
 
 pub returns-then-link-eq0 : goal.returns-then-link-eq0

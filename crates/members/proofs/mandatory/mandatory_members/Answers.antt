@@ -1,6 +1,5 @@
 -- `mandatory::mandatory_members` meets its contract: the counts of both structs together.
 use Rattle.members.proofs.MandatoryLaws.{count-both}
-use borrow.Author.Rules.{rules}
 use Rattle.members.proofs.mandatory.mandatory_members.Goals as goal
 
 pub returns : goal.returns

@@ -1,8 +1,6 @@
 -- `objects::branch_of` meets its contract.
 -- The discriminator's value is looked for in the whole object; where it is a string, the branch of that name is, too.
-use borrow.Author.Tests.{not-true, not-false}
 use Rattle.members.proofs.ObjectLaws.{branch-absent, branch-other, branch_unmeant, branch_meant}
-use borrow.Author.Rules.{rules}
 use Rattle.members.proofs.objects.branch_of.Goals as goal
 
 pub returns-then-v-eq0 : goal.returns-then-v-eq0

@@ -2,7 +2,6 @@
 -- By the kind of the type's row.
 use mathlib.Core.Path.{refl}
 use Rattle.members.proofs.ObjectLaws.{structs-none, structs-below, structs-struct, structs-union, structs-other}
-use borrow.Author.Rules.{rules}
 use Rattle.members.proofs.objects.structs_at.Goals as goal
 
 pub returns-then-t-eq-NO_TYPE : goal.returns-then-t-eq-NO_TYPE

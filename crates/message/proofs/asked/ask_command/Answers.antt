@@ -1,7 +1,5 @@
 use mathlib.Core.Path.{refl}
-use borrow.Author.Tests.{not-true, not-false}
 use Rattle.message.proofs.AskingLaws.{improper, unknown, not_allowed, allowed}
-use borrow.Author.Rules.{rules}
 use Rattle.message.proofs.asked.ask_command.Goals as goal
 
 -- src/asked.rt:61:9

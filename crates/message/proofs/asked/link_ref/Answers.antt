@@ -1,6 +1,5 @@
 use mathlib.Core.Path.{refl}
 use Rattle.message.proofs.AskingLaws.{no_link, a-link}
-use borrow.Author.Rules.{rules}
 use Rattle.message.proofs.asked.link_ref.Goals as goal
 
 -- src/asked.rt:37:9

@@ -1,6 +1,5 @@
 -- `asked::may_use` meets its contract: out of band wants the command's flag.
 use Rattle.message.proofs.AskingLaws.{out_of_band_use}
-use borrow.Author.Rules.{rules}
 use Rattle.message.proofs.asked.may_use.Goals as goal
 
 pub returns-then-oob : goal.returns-then-oob

@@ -1,5 +1,4 @@
 use mathlib.Core.Path.{refl, sym, ◌∙◌}
-use borrow.Author.Tests.{not-true, not-false}
 use Rattle.message.proofs.StageLaws.{unsound, is_sound}
 use borrow.Author.Rules.{rules}
 use Rattle.message.proofs.check.answer.Goals as goal

@@ -2,7 +2,6 @@ use mathlib.Core.Path.{refl}
 use lib.ListN.{length}
 use Rattle.message.proofs.AnswerLaws.{refused}
 use Rattle.message.proofs.StageLaws.{text-refused, value_read, refuses, asks_in}
-use borrow.Author.Rules.{rules}
 use Rattle.message.proofs.check.answer_in.Goals as goal
 
 -- src/check.rt:125:9

@@ -1,7 +1,6 @@
 use native.Mathlib.Omega.{arith}
 use mathlib.Core.Path.{refl}
 use Rattle.message.proofs.AnswerLaws.{fits, cleared}
-use borrow.Author.Rules.{rules}
 use Rattle.message.proofs.check.check_message.Goals as goal
 
 -- src/check.rt:210:28

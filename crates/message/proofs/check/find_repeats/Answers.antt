@@ -1,6 +1,5 @@
 -- `find_repeats` meets its contract: the earliest key that is repeated, or none.
 use Rattle.message.proofs.StageLaws.{repeated, unrepeated}
-use borrow.Author.Rules.{rules}
 use Rattle.message.proofs.check.find_repeats.Goals as goal
 
 pub returns-in-At : goal.returns-in-At

@@ -1,5 +1,4 @@
 use Rattle.message.proofs.StageLaws.{absent, present}
-use borrow.Author.Rules.{rules}
 use Rattle.message.proofs.check.read_asked.Goals as goal
 
 -- src/check.rt:106:9

@@ -1,6 +1,5 @@
 -- `read_text` meets its contract: no text, or the value in nodes that fit.
 use Rattle.message.proofs.StageLaws.{faulty, deeper, never, whole-text}
-use borrow.Author.Rules.{rules}
 use Rattle.message.proofs.check.read_text.Goals as goal
 
 pub find_repeats-requires : goal.find_repeats-requires

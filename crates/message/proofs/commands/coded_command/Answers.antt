@@ -1,7 +1,6 @@
 -- `commands::coded_command` meets its contract: the name is what it was decoded to, or one that is too long.
-use native.Mathlib.Omega.{arith}
 use mathlib.Core.Path.{refl}
-use Rattle.message.proofs.CommandLaws.{decoded_within, decoded_found, long-found}
+use Rattle.message.proofs.CommandLaws.{decoded_found, long-found}
 use borrow.Author.Rules.{rules}
 use Rattle.message.proofs.commands.coded_command.Goals as goal
 

@@ -1,6 +1,5 @@
 -- `commands::find_command` meets its contract: a plain name is its bytes, any other is decoded.
 use Rattle.message.proofs.CommandLaws.{plain-found}
-use borrow.Author.Rules.{rules}
 use Rattle.message.proofs.commands.find_command.Goals as goal
 
 pub returns-then-plain_kind : goal.returns-then-plain_kind

@@ -2,7 +2,6 @@
 use native.Mathlib.Omega.{arith}
 use mathlib.Core.Path.{◌∙◌}
 use Rattle.message.proofs.CommandLaws.{long_no_command, long-short, long-means}
-use borrow.Author.Rules.{rules}
 use Rattle.message.proofs.commands.is_long_named.Goals as goal
 
 pub returns-then-word_at-ne-COMMAND : goal.returns-then-word_at-ne-COMMAND

@@ -1,7 +1,6 @@
 -- `commands::is_named` meets its contract: the row's kind, the size of its name, then the name itself.
 use mathlib.Core.Path.{◌∙◌}
 use Rattle.message.proofs.CommandLaws.{no_command, short-name, whole-name}
-use borrow.Author.Rules.{rules}
 use Rattle.message.proofs.commands.is_named.Goals as goal
 
 pub returns-then-word_at-ne-COMMAND : goal.returns-then-word_at-ne-COMMAND

@@ -1,8 +1,5 @@
 -- `commands::long_command` meets its contract: the rows left decide what all do. The measure is the rows left.
-use Prim.Native.Nat.{◌-◌}
-use Rattle.rules.specs.Rows.{row_count}
-use borrow.Author.Rules.{rules}
-use Rattle.message.proofs.CommandLaws.{LongLeft, long_begin, long_hit, long-on, long-end}
+use Rattle.message.proofs.CommandLaws.{long_begin, long_hit, long-on, long-end}
 use Rattle.message.proofs.commands.long_command.Goals as goal
 
 pub loop-r-init : goal.loop-r-init

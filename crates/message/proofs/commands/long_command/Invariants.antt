@@ -1,8 +1,7 @@
 -- `commands::long_command` meets its contract: the rows left decide what all do. The measure is the rows left.
 use Prim.Native.Nat.{◌-◌}
 use Rattle.rules.specs.Rows.{row_count}
-use borrow.Author.Rules.{rules}
-use Rattle.message.proofs.CommandLaws.{LongLeft, long_begin, long_hit, long-on, long-end}
+use Rattle.message.proofs.CommandLaws.{LongLeft}
 use Rattle.message.proofs.commands.long_command.Given as goal
 
 abbrev pub invariant-loop-r : goal.invariant-loop-r

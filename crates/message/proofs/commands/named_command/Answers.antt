@@ -1,8 +1,5 @@
 -- `commands::named_command` meets its contract: the rows left decide what all do. The measure is the rows left.
-use Prim.Native.Nat.{◌-◌}
-use Rattle.rules.specs.Rows.{row_count}
-use borrow.Author.Rules.{rules}
-use Rattle.message.proofs.CommandLaws.{CommandLeft, command_begin, command_hit, command-on, command-end}
+use Rattle.message.proofs.CommandLaws.{command_begin, command_hit, command-on, command-end}
 use Rattle.message.proofs.commands.named_command.Goals as goal
 
 pub loop-r-init : goal.loop-r-init

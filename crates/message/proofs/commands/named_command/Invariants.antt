@@ -1,8 +1,7 @@
 -- `commands::named_command` meets its contract: the rows left decide what all do. The measure is the rows left.
 use Prim.Native.Nat.{◌-◌}
 use Rattle.rules.specs.Rows.{row_count}
-use borrow.Author.Rules.{rules}
-use Rattle.message.proofs.CommandLaws.{CommandLeft, command_begin, command_hit, command-on, command-end}
+use Rattle.message.proofs.CommandLaws.{CommandLeft}
 use Rattle.message.proofs.commands.named_command.Given as goal
 
 abbrev pub invariant-loop-r : goal.invariant-loop-r

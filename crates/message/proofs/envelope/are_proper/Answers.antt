@@ -1,6 +1,5 @@
 -- `envelope::are_proper` meets its contract: absent, or by the kind of the node.
 use Rattle.message.proofs.EnvelopeLaws.{absent, present}
-use borrow.Author.Rules.{rules}
 use Rattle.message.proofs.envelope.are_proper.Goals as goal
 
 pub returns-then-arguments-eq0 : goal.returns-then-arguments-eq0

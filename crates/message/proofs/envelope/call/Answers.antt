@@ -2,7 +2,6 @@
 use borrow.Author.Tests.{eq-eqb, ne_eqb}
 use Rattle.message.specs.Envelopes.{call_of}
 use Rattle.rows.proofs.Walks.{so}
-use borrow.Author.Rules.{rules}
 use Rattle.message.proofs.envelope.call.Goals as goal
 
 pub returns-then-name-eq0 : goal.returns-then-name-eq0

@@ -2,7 +2,6 @@
 use Rattle.rows.proofs.Walks.{so}
 use borrow.Author.Tests.{eq-eqb, ne_eqb}
 use Rattle.message.specs.Envelopes.{called_by}
-use borrow.Author.Rules.{rules}
 use Rattle.message.proofs.envelope.called.Goals as goal
 
 pub returns-then-not-are_proper : goal.returns-then-not-are_proper

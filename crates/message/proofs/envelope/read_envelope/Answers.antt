@@ -1,8 +1,6 @@
 -- `envelope::read_envelope` meets its contract: an object, no other key, and what its keys call.
 use mathlib.Core.Path.{◌∙◌, sym}
-use borrow.Author.Tests.{not-true, not-false}
 use Rattle.message.proofs.EnvelopeLaws.{not-object, other_key, envelope-read}
-use borrow.Author.Rules.{rules}
 use Rattle.message.proofs.envelope.read_envelope.Goals as goal
 
 pub returns-then-node_word-ne-OBJECT : goal.returns-then-node_word-ne-OBJECT

@@ -1,8 +1,6 @@
 -- `contents::content_at` meets its contract.
 -- At a built-in by grid and range, elsewhere by the kind of the node.
-use borrow.Author.Tests.{not-true, not-false}
 use Rattle.readings.proofs.ContentLaws.{built_in_misfits, built_in-alone, content_array, content_object, content_scalar}
-use borrow.Author.Rules.{rules}
 use Rattle.readings.proofs.contents.content_at.Goals as goal
 
 pub returns-then-not-built_in_takes : goal.returns-then-not-built_in_takes

@@ -1,8 +1,6 @@
 -- `contents::enum_has` meets its contract.
 -- Only a string at an enum's row, by the meaning of its values.
-use borrow.Author.Tests.{not-true, not-false}
 use Rattle.readings.proofs.ContentLaws.{below_enums, no_enum, no_string, of_enum}
-use borrow.Author.Rules.{rules}
 use Rattle.readings.proofs.contents.enum_has.Goals as goal
 
 pub returns-then-t-lt-FIRST_REFERENCE : goal.returns-then-t-lt-FIRST_REFERENCE

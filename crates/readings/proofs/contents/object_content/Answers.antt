@@ -1,7 +1,6 @@
 -- `contents::object_content` meets its contract.
 -- An object is no array; it is read by its members.
 use Rattle.readings.proofs.ContentLaws.{object-array, object-members, object_misfits}
-use borrow.Author.Rules.{rules}
 use Rattle.readings.proofs.contents.object_content.Goals as goal
 
 pub returns-then-array-ne0 : goal.returns-then-array-ne0

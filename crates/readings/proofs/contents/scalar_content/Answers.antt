@@ -1,8 +1,6 @@
 -- `contents::scalar_content` meets its contract.
 -- A scalar is no array.
-use borrow.Author.Tests.{not-true, not-false}
 use Rattle.readings.proofs.ContentLaws.{scalar-array, scalar_misfits, scalar-alone}
-use borrow.Author.Rules.{rules}
 use Rattle.readings.proofs.contents.scalar_content.Goals as goal
 
 pub returns-then-array-ne0 : goal.returns-then-array-ne0

@@ -1,8 +1,6 @@
 -- `kinds::built_in_takes` meets its contract.
 -- The grid first; of the values it lets through only numbers have a range.
-use borrow.Author.Tests.{not-true, not-false}
 use Rattle.readings.proofs.KindLaws.{not_taken, taken, number-taken}
-use borrow.Author.Rules.{rules}
 use Rattle.readings.proofs.kinds.built_in_takes.Goals as goal
 
 pub returns-then-not-takes : goal.returns-then-not-takes

@@ -1,7 +1,6 @@
 -- `kinds::json_kind` meets its contract.
 -- Kind by kind.
 use Rattle.readings.proofs.KindLaws.{column-rest}
-use borrow.Author.Rules.{rules}
 use Rattle.readings.proofs.kinds.json_kind.Goals as goal
 
 pub returns-in_default : goal.returns-in_default

@@ -1,7 +1,6 @@
 -- `kinds::number_fits` meets its contract.
 -- A type without a range takes any number; one with a range an integer within it.
 use Rattle.readings.proofs.KindLaws.{number-free, number-other, number-within}
-use borrow.Author.Rules.{rules}
 use Rattle.readings.proofs.kinds.number_fits.Goals as goal
 
 pub returns-in_default : goal.returns-in_default

@@ -1,6 +1,5 @@
 -- `readings::put_node_record` meets its contract.
 -- The node's start and end are read first.
-use borrow.Author.Rules.{rules}
 use Rattle.readings.proofs.readings.put_node_record.Goals as goal
 
 pub returns : goal.returns

@@ -1,9 +1,7 @@
 -- `types::alternative` meets its contract: of the alternatives, those left to look at.
-use Rattle.rows.specs.Rows.{Room}
 use Rattle.rows.proofs.LoopLaws.{room_next}
 use Rattle.rows.proofs.ChildLaws.{children-room}
-use Rattle.readings.proofs.TypeLaws.{AlternativesLeft, alternatives_start, alternatives_hit, alternatives_on, alternatives_end}
-use borrow.Author.Rules.{rules}
+use Rattle.readings.proofs.TypeLaws.{alternatives_start, alternatives_hit, alternatives_on, alternatives_end}
 use Rattle.readings.proofs.types.alternative.Goals as goal
 
 pub loop-left-init : goal.loop-left-init

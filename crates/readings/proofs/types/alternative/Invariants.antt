@@ -1,9 +1,6 @@
 -- `types::alternative` meets its contract: of the alternatives, those left to look at.
 use Rattle.rows.specs.Rows.{Room}
-use Rattle.rows.proofs.LoopLaws.{room_next}
-use Rattle.rows.proofs.ChildLaws.{children-room}
-use Rattle.readings.proofs.TypeLaws.{AlternativesLeft, alternatives_start, alternatives_hit, alternatives_on, alternatives_end}
-use borrow.Author.Rules.{rules}
+use Rattle.readings.proofs.TypeLaws.{AlternativesLeft}
 use Rattle.readings.proofs.types.alternative.Given as goal
 
 abbrev pub invariant-loop-left : goal.invariant-loop-left

@@ -1,7 +1,6 @@
 -- `types::type_for` meets its contract.
 -- Only an alternate that is no array is read by one of its alternatives.
 use Rattle.readings.proofs.TypeLaws.{direct_array, direct_below, direct_other, by-alternative}
-use borrow.Author.Rules.{rules}
 use Rattle.readings.proofs.types.type_for.Goals as goal
 
 pub returns-then-array-ne0 : goal.returns-then-array-ne0

@@ -1,11 +1,7 @@
 -- `references::discriminators::child_link` compares names child by child.
 -- The loop keeps what is left to look at.
-use Rattle.rules.specs.Rows.{children}
-use Rattle.rules.specs.SchemaTable.{member_in}
-use Rattle.rows.specs.Rows.{Room}
 use Rattle.rows.proofs.LoopLaws.{room_next}
-use Rattle.rows.proofs.ChildLaws.{children-room, LinkLeft, link-starts, link_hit, link_on, link-ends}
-use borrow.Author.Rules.{rules}
+use Rattle.rows.proofs.ChildLaws.{children-room, link-starts, link_hit, link_on, link-ends}
 use Rattle.references.proofs.discriminators.child_link.Goals as goal
 
 pub loop-left-init : goal.loop-left-init

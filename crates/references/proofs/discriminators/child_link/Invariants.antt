@@ -3,9 +3,7 @@
 use Rattle.rules.specs.Rows.{children}
 use Rattle.rules.specs.SchemaTable.{member_in}
 use Rattle.rows.specs.Rows.{Room}
-use Rattle.rows.proofs.LoopLaws.{room_next}
-use Rattle.rows.proofs.ChildLaws.{children-room, LinkLeft, link-starts, link_hit, link_on, link-ends}
-use borrow.Author.Rules.{rules}
+use Rattle.rows.proofs.ChildLaws.{LinkLeft}
 use Rattle.references.proofs.discriminators.child_link.Given as goal
 
 abbrev pub invariant-loop-left : goal.invariant-loop-left

@@ -2,7 +2,6 @@
 use mathlib.Core.Bool.{not}
 use mathlib.Core.Path.{ap}
 use mathlib.Core.Path.{◌∙◌}
-use borrow.Author.Rules.{rules}
 use Rattle.references.proofs.DiscriminatorLaws.{discriminator_endless, discriminator_found_lem}
 use Rattle.references.proofs.discriminators.discriminator_link.Goals as goal
 

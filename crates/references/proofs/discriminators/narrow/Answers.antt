@@ -1,6 +1,5 @@
 -- `references::discriminators::narrow` makes a link a word.
 use native.Mathlib.Omega.{arith}
-use borrow.Author.Rules.{rules}
 use Rattle.references.proofs.DiscriminatorLaws.{narrow-fits, narrow_out}
 use Rattle.references.proofs.discriminators.narrow.Goals as goal
 

@@ -1,5 +1,4 @@
 -- `references::discriminators::put_discriminator` puts the link of a union's discriminator.
-use borrow.Author.Rules.{rules}
 use Rattle.references.proofs.DiscriminatorLaws.{union-put, other-put}
 use Rattle.references.proofs.discriminators.put_discriminator.Goals as goal
 

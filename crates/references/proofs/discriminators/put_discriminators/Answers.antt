@@ -1,12 +1,9 @@
 -- `references::discriminators::put_discriminators` goes through the rows in order.
 -- The loop keeps that the discriminators below its row are put.
-use Prim.Native.Nat.{◌-◌, ◌≤◌}
 use mathlib.Core.Path.{◌≡◌, ap, ◌∙◌}
 use native.Mathlib.Omega.{arith}
 use lib.ListN.{length}
-use borrow.Author.Rules.{rules}
 use Rattle.rules.specs.Rows.{row_count}
-use Rattle.references.specs.Discriminators.{put_discriminators}
 use Rattle.references.proofs.DiscriminatorLaws.{length_discriminators, discriminators_start, discriminators_next}
 use Rattle.references.proofs.discriminators.put_discriminators.Goals as goal
 

@@ -1,8 +1,6 @@
 -- `references::find::find` finds the first definition that fits and has the name.
 -- The loop keeps what is left to look at; the measure is the count that falls.
-use native.Mathlib.Omega.{arith}
-use Rattle.references.proofs.FindLaws.{Left, left-start, left-small, left_hit, left-on, left_end, left_out}
-use borrow.Author.Rules.{rules}
+use Rattle.references.proofs.FindLaws.{Left}
 use Rattle.references.proofs.find.find.Given as goal
 
 abbrev pub invariant-loop-left : goal.invariant-loop-left

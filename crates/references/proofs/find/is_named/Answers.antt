@@ -2,7 +2,6 @@
 use mathlib.Core.Bool.{not}
 use mathlib.Core.Path.{ap}
 use Rattle.references.proofs.FindLaws.{named_unfit, named-same}
-use borrow.Author.Rules.{rules}
 use Rattle.references.proofs.find.is_named.Goals as goal
 
 pub returns-then-not-fits : goal.returns-then-not-fits

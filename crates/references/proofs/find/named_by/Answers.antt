@@ -1,6 +1,5 @@
 -- `references::find::named_by` takes the two numbers of a word.
 use mathlib.Core.Path.{◌∙◌}
-use borrow.Author.Rules.{rules}
 use Rattle.references.proofs.find.named_by.Goals as goal
 
 pub returns : goal.returns

@@ -1,5 +1,4 @@
 -- `references::find::referred` gives what a word names: nothing, a struct, a built-in, a type's row.
-use borrow.Author.Rules.{rules}
 use Rattle.references.proofs.FindLaws.{ref-none, ref-struct, ref-built_in, ref_missing, ref-row}
 use Rattle.references.proofs.find.referred.Goals as goal
 

@@ -1,6 +1,5 @@
 -- `references::slots::put` puts what word k names in its place.
 use mathlib.Core.Path.{refl}
-use borrow.Author.Rules.{rules}
 use Rattle.references.proofs.SlotLaws.{put-nothing, put_something}
 use Rattle.references.proofs.slots.put.Goals as goal
 

@@ -1,5 +1,4 @@
 -- `references::slots::put_command` puts the data and then the return.
-use borrow.Author.Rules.{rules}
 use Rattle.references.proofs.SlotLaws.{command-both}
 use Rattle.references.proofs.slots.put_command.Goals as goal
 

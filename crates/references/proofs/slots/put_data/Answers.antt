@@ -1,5 +1,4 @@
 -- `references::slots::put_data` leaves an inline struct's link, and puts what any other word names.
-use borrow.Author.Rules.{rules}
 use Rattle.references.proofs.SlotLaws.{data_inline, data_named}
 use Rattle.references.proofs.slots.put_data.Goals as goal
 

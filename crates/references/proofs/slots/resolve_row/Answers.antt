@@ -2,7 +2,6 @@
 use mathlib.Core.Path.{sym, ◌∙◌}
 use native.Mathlib.Omega.{arith}
 use Rattle.references.proofs.SlotLaws.{slot_inside, row_by, row_kept}
-use borrow.Author.Rules.{rules}
 use Rattle.references.proofs.slots.resolve_row.Goals as goal
 
 pub overflow_add-r : goal.overflow_add-r

@@ -1,13 +1,8 @@
 -- `references::slots::resolve_rows` goes through the rows in order.
 -- The loop keeps that the rows below its row are put, and what was found.
 use Prim.Native.Nat.{◌-◌, ◌≤◌}
-use mathlib.Core.Path.{◌≡◌, ap, ◌∙◌}
-use native.Mathlib.Omega.{arith}
-use lib.ListN.{length}
-use borrow.Author.Rules.{rules}
-use Rattle.rules.specs.Rows.{row_count}
+use mathlib.Core.Path.{◌≡◌}
 use Rattle.references.specs.Steps.{put_rows, found_rows}
-use Rattle.references.proofs.SlotLaws.{length-rows, rows_start, rows_next}
 use Rattle.references.proofs.slots.resolve_rows.Given as goal
 
 abbrev pub invariant-loop-r : goal.invariant-loop-r

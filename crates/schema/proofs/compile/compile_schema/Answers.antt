@@ -1,6 +1,5 @@
 -- `compile::compile_schema` meets its contract: the lent words cleared, then the length.
 use Rattle.schema.proofs.TextLaws.{cleared-length, cleared-zero, compiled, too_long, length-on}
-use borrow.Author.Rules.{rules}
 use Rattle.schema.proofs.compile.compile_schema.Goals as goal
 
 pub returns-then-schema-gt-SCHEMA_BYTES : goal.returns-then-schema-gt-SCHEMA_BYTES

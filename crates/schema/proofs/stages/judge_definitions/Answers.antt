@@ -6,7 +6,6 @@ use Rattle.rules.specs.declared.SchemaRefusal.TheVariants.{BadChain, BadUnion, B
 use Rattle.rows.proofs.Walks.{so}
 use Rattle.table.proofs.LookLaws.{hashes_looked}
 use Rattle.schema.proofs.StageLaws.{broken, kept}
-use borrow.Author.Rules.{rules}
 use Rattle.schema.proofs.stages.judge_definitions.Goals as goal
 
 pub returns-then-not-every_row_fits : goal.returns-then-not-every_row_fits

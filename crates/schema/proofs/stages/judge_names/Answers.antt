@@ -3,10 +3,8 @@ use mathlib.Core.Path.{refl}
 use Rattle.rules.specs.Serving.Answers.{rank}
 use Rattle.rules.specs.Rules.{good_names, distinct_names}
 use Rattle.rules.specs.declared.SchemaRefusal.TheVariants.{BadName, RepeatedName}
-use borrow.Author.Tests.{not-true, not-false}
 use Rattle.rows.proofs.Walks.{so}
 use Rattle.schema.proofs.StageLaws.{broken, kept, unknown, all_known}
-use borrow.Author.Rules.{rules}
 use Rattle.schema.proofs.stages.judge_names.Goals as goal
 
 pub returns-then-not-good_names : goal.returns-then-not-good_names

@@ -2,7 +2,6 @@
 use native.Mathlib.Omega.{arith}
 use mathlib.Core.Path.{refl}
 use Rattle.schema.proofs.StageLaws.{too_many, no_room, handed}
-use borrow.Author.Rules.{rules}
 use Rattle.schema.proofs.stages.judge_room.Goals as goal
 
 pub returns-then-n-gt-TABLE_ROWS : goal.returns-then-n-gt-TABLE_ROWS

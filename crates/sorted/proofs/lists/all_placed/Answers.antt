@@ -1,8 +1,7 @@
 -- `lists::all_placed` meets its contract: those passed are placed.
-use Prim.Native.Nat.{◌-◌}
 use native.Mathlib.Omega.{arith}
 use borrow.Author.Rules.{rules}
-use Rattle.sorted.proofs.ListLaws.{PlacedTo, placed-none, placed-more, placed-all}
+use Rattle.sorted.proofs.ListLaws.{placed-none, placed-more, placed-all}
 use Rattle.sorted.proofs.lists.all_placed.Goals as goal
 
 pub loop-i-init : goal.loop-i-init

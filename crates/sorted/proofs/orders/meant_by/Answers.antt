@@ -1,5 +1,4 @@
 -- `orders::meant_by` meets its contract: by the sense.
-use borrow.Author.Rules.{rules}
 use Rattle.sorted.proofs.orders.meant_by.Goals as goal
 
 pub returns-in-NameInC : goal.returns-in-NameInC

@@ -1,5 +1,4 @@
 -- `orders::order_spans` meets its contract: by the bytes of the two.
-use borrow.Author.Rules.{rules}
 use Rattle.sorted.proofs.OrderLaws.{spans_stand}
 use Rattle.sorted.proofs.orders.order_spans.Goals as goal
 

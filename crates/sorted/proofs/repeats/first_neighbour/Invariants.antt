@@ -1,13 +1,9 @@
 -- `repeats::first_neighbour` meets its contract: the list is in order so far, and the best is the least so far.
 use Prim.Native.Nat.{◌+◌, ◌-◌, ◌≤◌}
-use native.Mathlib.Omega.{arith}
 use mathlib.Core.Path.{◌≡◌}
 use lib.ListN.{get_or}
-use borrow.Author.Rules.{rules}
-use borrow.Author.Tests.{not-false}
 use Rattle.sorted.specs.Orders.{stands_at}
 use Rattle.sorted.specs.Lists.{Least}
-use Rattle.sorted.proofs.ListLaws.{least_start, least-end, least_broken, least_empty, least_more}
 use Rattle.sorted.proofs.repeats.first_neighbour.Given as goal
 
 abbrev pub invariant-loop-k : goal.invariant-loop-k

@@ -1,6 +1,4 @@
 -- `repeats::first_same` meets its contract: by the check of the list alone; nothing is used of the sorting.
-use borrow.Author.Rules.{rules}
-use borrow.Author.Tests.{not-false}
 use Rattle.sorted.proofs.ListLaws.{neighbours_find}
 use Rattle.sorted.proofs.repeats.first_same.Goals as goal
 

@@ -1,5 +1,4 @@
 -- `repeats::least_of` meets its contract: by how the two stand, and by the test of the lesser.
-use borrow.Author.Rules.{rules}
 use borrow.Author.Tests.{lt-ltb, le-ltb}
 use Rattle.sorted.proofs.repeats.least_of.Goals as goal
 

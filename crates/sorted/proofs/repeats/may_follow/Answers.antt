@@ -1,5 +1,4 @@
 -- `repeats::may_follow` meets its contract: by how the two stand.
-use borrow.Author.Rules.{rules}
 use Rattle.sorted.proofs.repeats.may_follow.Goals as goal
 
 pub returns-in-Same : goal.returns-in-Same

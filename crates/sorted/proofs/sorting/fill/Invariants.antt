@@ -1,9 +1,7 @@
 -- `sorting::fill` stays within its slice and ends.
 use Prim.Native.Nat.{◌-◌, ◌≤◌}
-use native.Mathlib.Omega.{arith}
 use mathlib.Core.Path.{◌≡◌}
-use lib.ListN.{length, length-set}
-use borrow.Author.Rules.{rules}
+use lib.ListN.{length}
 use Rattle.sorted.proofs.sorting.fill.Given as goal
 
 abbrev pub invariant-loop-i : goal.invariant-loop-i

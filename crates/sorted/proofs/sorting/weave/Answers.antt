@@ -1,9 +1,6 @@
 -- `sorting::weave` stays within its slices and ends.
-use Prim.Native.Nat.{◌+◌, ◌-◌, ◌≤◌}
 use native.Mathlib.Omega.{arith}
-use mathlib.Core.Path.{◌≡◌}
-use lib.ListN.{length, length-set}
-use borrow.Author.Rules.{rules}
+use lib.ListN.{length-set}
 use Rattle.sorted.proofs.sorting.weave.Goals as goal
 
 pub bounds-list-j : goal.bounds-list-j

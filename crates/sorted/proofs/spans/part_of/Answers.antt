@@ -1,7 +1,6 @@
 -- `spans::part_of` gives n bytes from a on, or those that there are.
 -- Three cases: past the end, up to the end, within.
 use native.Mathlib.Omega.{arith}
-use borrow.Author.Rules.{rules}
 use Rattle.sorted.proofs.SpanLaws.{part-past, part-rest, part-within}
 use Rattle.sorted.proofs.spans.part_of.Goals as goal
 

@@ -1,5 +1,4 @@
 -- `spans::span` meets its contract: the words of the span say where its bytes are.
-use borrow.Author.Rules.{rules}
 use Rattle.sorted.proofs.SpanLaws.{span-is}
 use Rattle.sorted.proofs.spans.span.Goals as goal
 

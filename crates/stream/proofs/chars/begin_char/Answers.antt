@@ -5,7 +5,6 @@ use borrow.Author.Tests.{eq-eqb, ne_eqb}
 use Rattle.stream.specs.Serving.Modes.{begin_char}
 use Rattle.stream.specs.Serving.States.{char_at}
 use Rattle.stream.proofs.CharLaws.{stays, completes, along}
-use borrow.Author.Rules.{rules}
 use Rattle.stream.proofs.chars.begin_char.Goals as goal
 
 pub returns-then-b-eq92 : goal.returns-then-b-eq92

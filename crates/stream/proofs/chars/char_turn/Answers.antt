@@ -6,7 +6,6 @@ use Rattle.stream.proofs.Numbering.{past, low-mode, utf8-mode, digit-mode}
 use Prim.Native.Nat.{zero-le}
 use Rattle.stream.specs.Serving.Modes.{CharMode, char_turn}
 use Rattle.stream.proofs.Numbering.{past, utf8-mode, digit-mode}
-use borrow.Author.Rules.{rules}
 use Rattle.stream.proofs.chars.char_turn.Goals as goal
 
 pub returns-then-c-ge-ONE : goal.returns-then-c-ge-ONE

@@ -5,7 +5,6 @@ use borrow.Author.Tests.{eq-eqb, ne_eqb}
 use Rattle.stream.specs.Serving.Modes.{char_turn}
 use Rattle.stream.specs.Serving.States.{char_at}
 use Rattle.stream.proofs.CharLaws.{stays, completes, fails, escape_good, escape-bad}
-use borrow.Author.Rules.{rules}
 use Rattle.stream.proofs.chars.escape_turn.Goals as goal
 
 pub returns-then-b-eq117 : goal.returns-then-b-eq117

@@ -2,7 +2,6 @@
 use native.Mathlib.Omega.{arith}
 use Rattle.grammar.proofs.Booleans.{within-below, within-above}
 use Rattle.stream.proofs.CharLaws.{decimal, upper, lower, no_digit}
-use borrow.Author.Rules.{rules}
 use Rattle.stream.proofs.chars.hex_digit.Goals as goal
 
 pub returns-in-48-to-57 : goal.returns-in-48-to-57

@@ -1,6 +1,5 @@
 -- `hex_turn` judges the digit and turns at it.
 use Rattle.stream.proofs.CharLaws.{fails, along, digit-bad, digit_good}
-use borrow.Author.Rules.{rules}
 use Rattle.stream.proofs.chars.hex_turn.Goals as goal
 
 pub returns-then-d-ge-NO_DIGIT : goal.returns-then-d-ge-NO_DIGIT

@@ -4,7 +4,6 @@ use mathlib.Core.Path.{sym, ◌∙◌}
 use borrow.Author.Tests.{eq-eqb, ne_eqb}
 use Rattle.stream.specs.Serving.States.{char_at}
 use Rattle.stream.proofs.CharLaws.{stays, fails}
-use borrow.Author.Rules.{rules}
 use Rattle.stream.proofs.chars.lead_turn.Goals as goal
 
 pub returns-then-within : goal.returns-then-within

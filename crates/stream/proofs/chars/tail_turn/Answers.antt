@@ -1,7 +1,6 @@
 -- `tail_turn` is a test of two bounds.
 use mathlib.Core.Path.{sym, ◌∙◌}
 use Rattle.stream.proofs.CharLaws.{stays, fails}
-use borrow.Author.Rules.{rules}
 use Rattle.stream.proofs.chars.tail_turn.Goals as goal
 
 pub returns-then-within : goal.returns-then-within

@@ -4,7 +4,6 @@ use Rattle.stream.specs.Serving.States.{want_at, char_at}
 use Rattle.stream.proofs.CharLaws.{completes, fails, along}
 use Rattle.stream.proofs.Numbering.{past, want_last}
 use Rattle.stream.specs.Serving.Modes.{char_turn}
-use borrow.Author.Rules.{rules}
 use Rattle.stream.proofs.chars.utf8_turn.Goals as goal
 
 pub returns-then-within : goal.returns-then-within

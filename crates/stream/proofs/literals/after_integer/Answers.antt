@@ -5,7 +5,6 @@ use borrow.Author.Tests.{eq-eqb, ne_eqb}
 use Rattle.grammar.specs.Serving.Machine.Message.{number_step}
 use Rattle.stream.specs.Serving.States.{number_at}
 use Rattle.stream.proofs.LiteralLaws.{goes_on, goes-off}
-use borrow.Author.Rules.{rules}
 use Rattle.stream.proofs.literals.after_integer.Goals as goal
 
 pub returns-then-b-eq46 : goal.returns-then-b-eq46

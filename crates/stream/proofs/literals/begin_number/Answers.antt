@@ -4,7 +4,6 @@ use borrow.Author.Tests.{eq-eqb, ne_eqb}
 use Rattle.grammar.specs.Serving.Machine.Message.{number_step}
 use Rattle.stream.specs.Serving.States.{number_at}
 use Rattle.stream.proofs.LiteralLaws.{goes_on, goes_as}
-use borrow.Author.Rules.{rules}
 use Rattle.stream.proofs.literals.begin_number.Goals as goal
 
 pub returns-then-b-eq45 : goal.returns-then-b-eq45

@@ -4,7 +4,6 @@ use mathlib.Core.Path.{sym, ◌∙◌}
 use Rattle.grammar.specs.Serving.Machine.Message.{number_step}
 use Rattle.stream.specs.Serving.States.{number_at}
 use Rattle.stream.proofs.LiteralLaws.{goes_on, goes-off}
-use borrow.Author.Rules.{rules}
 use Rattle.stream.proofs.literals.exponent_digit.Goals as goal
 
 pub returns-then-is_digit : goal.returns-then-is_digit

@@ -5,7 +5,6 @@ use Rattle.grammar.specs.Serving.Machine.Message.{number_step}
 use Rattle.stream.specs.Serving.States.{number_at}
 use Rattle.stream.proofs.LiteralLaws.{goes_on, goes-off, goes_as}
 use Rattle.stream.proofs.Numbering.{past, number-last}
-use borrow.Author.Rules.{rules}
 use Rattle.stream.proofs.literals.number_turn.Goals as goal
 
 pub returns-then-is_digit : goal.returns-then-is_digit

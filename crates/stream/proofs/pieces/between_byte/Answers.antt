@@ -2,7 +2,6 @@
 use mathlib.Core.Path.{sym, ◌∙◌}
 use Rattle.stream.proofs.Bytes as rules
 use Rattle.stream.proofs.ByteLaws.{passes, stray, no_room, object-opens, array-opens, opens-object, opens-array, either_blank, or_clears}
-use borrow.Author.Rules.{rules}
 use Rattle.stream.proofs.pieces.between_byte.Goals as goal
 
 pub returns-then-is_blank : goal.returns-then-is_blank

@@ -2,7 +2,6 @@
 use native.Mathlib.Omega.{arith}
 use borrow.Author.Tests.{eq-eqb, ne_eqb, lt-ltb, le-ltb}
 use Rattle.stream.proofs.ByteLaws.{clears-low, clears-none}
-use borrow.Author.Rules.{rules}
 use Rattle.stream.proofs.pieces.is_clearing.Goals as goal
 
 pub returns-then-b-eq255 : goal.returns-then-b-eq255

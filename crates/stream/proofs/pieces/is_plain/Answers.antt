@@ -1,8 +1,7 @@
 -- `is_plain` is one test after the other.
 use mathlib.Core.Path.{sym, ◌∙◌}
-use borrow.Author.Tests.{eq-eqb, ne_eqb, not-true, not-false}
+use borrow.Author.Tests.{eq-eqb, ne_eqb}
 use Rattle.stream.specs.Serving.Contracts.{plain}
-use borrow.Author.Rules.{rules}
 use Rattle.stream.proofs.pieces.is_plain.Goals as goal
 
 pub returns-then-not-within : goal.returns-then-not-within

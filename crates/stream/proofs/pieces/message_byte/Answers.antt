@@ -2,7 +2,6 @@
 use native.Mathlib.Omega.{arith}
 use mathlib.Core.Path.{sym, ◌∙◌}
 use Rattle.stream.proofs.ByteLaws.{cleared, long, kept, whole, faulty, deep}
-use borrow.Author.Rules.{rules}
 use Rattle.stream.proofs.pieces.message_byte.Goals as goal
 
 pub returns-then-is_clearing : goal.returns-then-is_clearing

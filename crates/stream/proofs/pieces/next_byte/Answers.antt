@@ -2,7 +2,6 @@
 use mathlib.Core.Path.{sym, ◌∙◌}
 use Rattle.stream.proofs.Bytes as rules
 use Rattle.stream.proofs.ByteLaws.{passes, skips, at_state, inside-inner}
-use borrow.Author.Rules.{rules}
 use Rattle.stream.proofs.pieces.next_byte.Goals as goal
 
 pub returns-then-is_clearing : goal.returns-then-is_clearing

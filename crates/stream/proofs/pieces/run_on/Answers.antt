@@ -1,7 +1,6 @@
 -- `run_on` takes the plain bytes that follow if a string is read.
 use native.Mathlib.Omega.{arith}
 use Rattle.stream.proofs.PieceLaws.{runs_none, runs-string}
-use borrow.Author.Rules.{rules}
 use Rattle.stream.proofs.pieces.run_on.Goals as goal
 
 pub returns-then-m-lt-IN_STRING : goal.returns-then-m-lt-IN_STRING

@@ -1,6 +1,5 @@
 -- `read_piece` is the call from the state that the words stand for, and gives the words of the state after it.
 use Rattle.stream.proofs.StateLaws.{reads}
-use borrow.Author.Rules.{rules}
 use Rattle.stream.proofs.reader.read_piece.Goals as goal
 
 pub returns : goal.returns

@@ -1,6 +1,5 @@
 -- `words_of` gives words that stand for the state.
 use Rattle.stream.proofs.StateLaws.{between-words, skipping-words, inside-words}
-use borrow.Author.Rules.{rules}
 use Rattle.stream.proofs.state.words_of.Goals as goal
 
 pub returns-in-Between : goal.returns-in-Between

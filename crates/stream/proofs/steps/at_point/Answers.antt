@@ -3,7 +3,6 @@ use mathlib.Core.Path.{sym, ◌∙◌}
 use Rattle.stream.specs.Serving.Modes.{turn}
 use Rattle.stream.proofs.Numbering.{point-mode}
 use Rattle.stream.proofs.StepLaws.{goes_to, along}
-use borrow.Author.Rules.{rules}
 use Rattle.stream.proofs.steps.at_point.Goals as goal
 
 pub returns-then-is_blank : goal.returns-then-is_blank

@@ -4,7 +4,6 @@ use borrow.Author.Tests.{eq-eqb, ne_eqb}
 use Rattle.stream.specs.Serving.States.{point_at, mode_at}
 use Rattle.stream.proofs.Numbering.{point-first}
 use Rattle.stream.proofs.StepLaws.{went, sticks, along}
-use borrow.Author.Rules.{rules}
 use Rattle.stream.proofs.steps.at_token.Goals as goal
 
 pub returns-then-b-eq93 : goal.returns-then-b-eq93

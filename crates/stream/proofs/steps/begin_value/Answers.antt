@@ -4,7 +4,6 @@ use mathlib.Core.Path.{sym}
 use borrow.Author.Tests.{eq-eqb, ne_eqb}
 use Rattle.stream.specs.Serving.States.{mode_at}
 use Rattle.stream.proofs.StepLaws.{went, along, turned, not-turned, number-goes, value-number, value-word}
-use borrow.Author.Rules.{rules}
 use Rattle.stream.proofs.steps.begin_value.Goals as goal
 
 pub returns-then-b-eq34 : goal.returns-then-b-eq34

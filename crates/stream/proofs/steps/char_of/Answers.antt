@@ -1,6 +1,5 @@
 -- `char_of` is the mode inside a character, from the start of its block on.
 use Rattle.stream.proofs.Numbering.{string-char-mode, key-char-mode}
-use borrow.Author.Rules.{rules}
 use Rattle.stream.proofs.steps.char_of.Goals as goal
 
 pub returns-then-m-lt-FIRST_KEY_CHAR : goal.returns-then-m-lt-FIRST_KEY_CHAR

@@ -4,7 +4,6 @@ use borrow.Author.Tests.{eq-eqb, ne_eqb}
 use Rattle.stream.specs.Serving.States.{mode_at}
 use Rattle.stream.proofs.Nests.{in_object, in_array}
 use Rattle.stream.proofs.StepLaws.{went, sticks, along}
-use borrow.Author.Rules.{rules}
 use Rattle.stream.proofs.steps.follow.Goals as goal
 
 pub returns-then-b-eq44 : goal.returns-then-b-eq44

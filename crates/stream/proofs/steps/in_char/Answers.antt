@@ -2,7 +2,6 @@
 use native.Mathlib.Omega.{arith}
 use Rattle.stream.specs.Serving.States.{mode_at}
 use Rattle.stream.proofs.StepLaws.{went, sticks, stays-known, string-stays, key-stays}
-use borrow.Author.Rules.{rules}
 use Rattle.stream.proofs.steps.in_char.Goals as goal
 
 pub overflow_add-result : goal.overflow_add-result

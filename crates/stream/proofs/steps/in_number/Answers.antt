@@ -3,7 +3,6 @@ use mathlib.Core.Path.{sym, ◌∙◌}
 use Rattle.stream.specs.Serving.States.{number_at}
 use Rattle.stream.proofs.StepLaws.{along, sticks, turned, not-turned, number-goes, number_on_lem, number_past_lem, number_stuck}
 use mathlib.Core.Path.{sym, ◌∙◌}
-use borrow.Author.Rules.{rules}
 use Rattle.stream.proofs.steps.in_number.Goals as goal
 
 pub returns-then-may_end : goal.returns-then-may_end

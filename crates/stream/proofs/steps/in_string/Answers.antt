@@ -5,7 +5,6 @@ use borrow.Author.Tests.{eq-eqb, ne_eqb}
 use Rattle.stream.specs.Serving.Modes.{CharTurn, in_char_turn, turn}
 use Rattle.stream.specs.Serving.States.{mode_at, brackets_of}
 use Rattle.stream.proofs.StepLaws.{went, along}
-use borrow.Author.Rules.{rules}
 use Rattle.stream.proofs.steps.in_string.Goals as goal
 
 pub returns-then-key : goal.returns-then-key

@@ -7,7 +7,6 @@ use Rattle.stream.proofs.Numbering.{word_some}
 use Rattle.stream.proofs.StepLaws.{goes_to, sticks, word_on, word_stuck}
 use Prim.Native.Nat.{ℕ}
 use lib.Dec.{eqb}
-use borrow.Author.Rules.{rules}
 use Rattle.stream.proofs.steps.in_word.Goals as goal
 
 pub returns-then-b-wanted_byte : goal.returns-then-b-wanted_byte

@@ -4,7 +4,6 @@ use mathlib.Core.Bool.{Bool}
 use Rattle.stream.specs.Serving.Modes.{open_turn}
 use Rattle.stream.specs.Serving.States.{brackets_of}
 use Rattle.stream.proofs.StepLaws.{along, no_level, opens-object, opens-array}
-use borrow.Author.Rules.{rules}
 use Rattle.stream.proofs.steps.open_bracket.Goals as goal
 
 pub returns-then-nest-ge-FULL : goal.returns-then-nest-ge-FULL

@@ -5,7 +5,6 @@ use Rattle.stream.specs.Serving.States.{brackets_of}
 use Rattle.stream.proofs.Numbering.{string-mode, number-mode, word-mode}
 use Rattle.stream.proofs.StepLaws.{along}
 use lib.Dec.{leb}
-use borrow.Author.Rules.{rules}
 use Rattle.stream.proofs.steps.step.Goals as goal
 
 pub returns-then-m-lt-AFTER_MINUS : goal.returns-then-m-lt-AFTER_MINUS

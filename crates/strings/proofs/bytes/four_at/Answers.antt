@@ -2,7 +2,6 @@
 use mathlib.Core.Path.{refl}
 use native.Mathlib.Omega.{arith}
 use Rattle.strings.proofs.ByteNumbers.{digits-join}
-use borrow.Author.Rules.{rules}
 use Rattle.strings.proofs.bytes.four_at.Goals as goal
 
 pub returns : goal.returns

@@ -1,7 +1,6 @@
 -- `bytes::part_of` gives n bytes from a on, or those that there are.
 -- Three cases: past the end, up to the end, within.
 use native.Mathlib.Omega.{arith}
-use borrow.Author.Rules.{rules}
 use Rattle.strings.proofs.Parts.{part-past, part-rest, part-within}
 use Rattle.strings.proofs.bytes.part_of.Goals as goal
 

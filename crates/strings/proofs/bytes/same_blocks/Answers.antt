@@ -1,8 +1,6 @@
 -- `bytes::same_blocks` compares two parts block by block, and what is left byte by byte: the loop has passed only equal blocks.
-use Prim.Native.Nat.{◌-◌, ◌≤◌}
 use native.Mathlib.Omega.{arith}
-use borrow.Author.Rules.{rules}
-use Rattle.strings.proofs.Parts.{Agree, agree_none, agree_block, block_differs, parts-left}
+use Rattle.strings.proofs.Parts.{agree_none, agree_block, block_differs, parts-left}
 use Rattle.strings.proofs.bytes.same_blocks.Goals as goal
 
 pub loop-k-init : goal.loop-k-init

@@ -1,8 +1,6 @@
 -- `bytes::same_blocks` compares two parts block by block, and what is left byte by byte: the loop has passed only equal blocks.
 use Prim.Native.Nat.{◌-◌, ◌≤◌}
-use native.Mathlib.Omega.{arith}
-use borrow.Author.Rules.{rules}
-use Rattle.strings.proofs.Parts.{Agree, agree_none, agree_block, block_differs, parts-left}
+use Rattle.strings.proofs.Parts.{Agree}
 use Rattle.strings.proofs.bytes.same_blocks.Given as goal
 
 abbrev pub invariant-loop-k : goal.invariant-loop-k

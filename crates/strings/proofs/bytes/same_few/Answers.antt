@@ -1,8 +1,6 @@
 -- `bytes::same_few` compares two parts byte by byte: the loop has passed only equal ones.
-use Prim.Native.Nat.{◌-◌}
 use native.Mathlib.Omega.{arith}
-use borrow.Author.Rules.{rules}
-use Rattle.strings.proofs.Parts.{Agree, parts_differ, agree_none, agree_more, parts_same}
+use Rattle.strings.proofs.Parts.{parts_differ, agree_none, agree_more, parts_same}
 use Rattle.strings.proofs.bytes.same_few.Goals as goal
 
 pub loop-k-init : goal.loop-k-init

@@ -1,7 +1,6 @@
 -- `bytes::same_parts` compares two parts: last bytes that differ refuse early.
 use native.Mathlib.Omega.{arith}
 use Rattle.strings.proofs.Parts.{parts_none, parts_differ}
-use borrow.Author.Rules.{rules}
 use Rattle.strings.proofs.bytes.same_parts.Goals as goal
 
 pub returns-then-n-eq0 : goal.returns-then-n-eq0

@@ -1,7 +1,6 @@
 -- `bytes::two_at` meets its contract: the first byte is the lower digit.
 use native.Mathlib.Omega.{arith}
 use Rattle.strings.specs.Bytes.{number_at}
-use borrow.Author.Rules.{rules}
 use Rattle.strings.proofs.bytes.two_at.Goals as goal
 
 pub returns : goal.returns

@@ -5,7 +5,6 @@ use Rattle.grammar.specs.MessageText.Escape.{quotation_mark, reverse_solidus, so
 use Rattle.grammar.specs.Serving.Machine.Message.{message}
 use Rattle.strings.proofs.CharRuns.{at-end}
 use Rattle.strings.proofs.MessageChars.{escape_u, escape-char, escape-other}
-use borrow.Author.Rules.{rules}
 use Rattle.strings.proofs.chars.escape.Goals as goal
 
 pub returns-then-s-i : goal.returns-then-s-i

@@ -3,7 +3,6 @@
 use native.Mathlib.Omega.{arith}
 use Rattle.grammar.proofs.Booleans.Outside.{below, above}
 use Rattle.strings.proofs.MessageChars.{hex-end, hex-none, hex_09, hex_AF, hex_af}
-use borrow.Author.Rules.{rules}
 use Rattle.strings.proofs.chars.hex_at.Goals as goal
 
 pub returns-then-s-i : goal.returns-then-s-i

@@ -4,7 +4,6 @@ use native.Mathlib.Omega.{arith}
 use mathlib.Core.Path.{sym, ◌∙◌}
 use Rattle.grammar.proofs.Booleans.{within-true}
 use Rattle.strings.proofs.MessageChars.{digits-refused, digits-told, leads-first, leads-last, low-start, half, high, alone}
-use borrow.Author.Rules.{rules}
 use Rattle.strings.proofs.chars.hex_escape.Goals as goal
 
 pub returns-in_default : goal.returns-in_default

@@ -3,7 +3,6 @@
 use native.Mathlib.Omega.{arith}
 use Rattle.strings.specs.Chars.TailByte.{no_byte}
 use Rattle.strings.proofs.Utf8.{byte-below, byte_above, byte_joins}
-use borrow.Author.Rules.{rules}
 use Rattle.strings.proofs.chars.last_byte.Goals as goal
 
 pub returns-then-s-i : goal.returns-then-s-i

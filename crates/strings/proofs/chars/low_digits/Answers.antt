@@ -3,7 +3,6 @@
 use native.Mathlib.Omega.{arith}
 use mathlib.Core.Path.{◌∙◌}
 use Rattle.strings.proofs.MessageChars.{hex-taken, digits-refused, digits-told, leads-low, paired, low-other, low_D_below, low_D_none, low-two}
-use borrow.Author.Rules.{rules}
 use Rattle.strings.proofs.chars.low_digits.Goals as goal
 
 pub returns-then-hex_at-ne13 : goal.returns-then-hex_at-ne13

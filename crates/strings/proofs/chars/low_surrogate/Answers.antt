@@ -4,7 +4,6 @@ use mathlib.Core.Path.{◌∙◌}
 use Rattle.grammar.specs.Serving.Machine.Message.{message}
 use Rattle.strings.proofs.CharRuns.{at-end}
 use Rattle.strings.proofs.MessageChars.{backslash-other, backslash-end, no_letter_u, letter_u}
-use borrow.Author.Rules.{rules}
 use Rattle.strings.proofs.chars.low_surrogate.Goals as goal
 
 pub returns-then-s-i : goal.returns-then-s-i

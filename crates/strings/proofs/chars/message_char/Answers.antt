@@ -6,7 +6,6 @@ use borrow.Author.Tests.{eq-eqb}
 use Rattle.grammar.specs.Serving.Machine.Message.{message}
 use Rattle.strings.proofs.CharRuns.{none-at-end, none-at-quote}
 use Rattle.strings.proofs.MessageChars.{starts-escape, starts-control, starts-plain, starts-utf8}
-use borrow.Author.Rules.{rules}
 use Rattle.strings.proofs.chars.message_char.Goals as goal
 
 pub returns-then-s-i : goal.returns-then-s-i

@@ -1,6 +1,5 @@
 -- `text::chars::next_char` reads a character of a string of the dialect that it is asked for.
 -- By the dialect.
-use borrow.Author.Rules.{rules}
 use Rattle.strings.proofs.chars.next_char.Goals as goal
 
 pub returns-in-Schema : goal.returns-in-Schema

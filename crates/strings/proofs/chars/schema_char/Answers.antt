@@ -5,7 +5,6 @@ use Rattle.grammar.specs.Serving.Machine.Schema.{schema}
 use Rattle.grammar.proofs.Booleans.Outside.{below, above}
 use Rattle.strings.proofs.CharRuns.{none-at-end}
 use Rattle.strings.proofs.SchemaChars.{none-at_apostrophe, starts_none, starts-plain, escape-ends, escape-other, escape-both}
-use borrow.Author.Rules.{rules}
 use Rattle.strings.proofs.chars.schema_char.Goals as goal
 
 pub returns-then-s-i : goal.returns-then-s-i

@@ -3,7 +3,6 @@
 use native.Mathlib.Omega.{arith}
 use mathlib.Core.Path.{◌∙◌}
 use Rattle.strings.proofs.Utf8.{bytes-refused, bytes_on, byte_low}
-use borrow.Author.Rules.{rules}
 use Rattle.strings.proofs.chars.three_bytes.Goals as goal
 
 pub two_bytes-requires : goal.two_bytes-requires

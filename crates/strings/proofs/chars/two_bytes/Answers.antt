@@ -3,7 +3,6 @@
 use native.Mathlib.Omega.{arith}
 use mathlib.Core.Path.{◌∙◌}
 use Rattle.strings.proofs.Utf8.{one_byte, bytes-refused, bytes_on, byte_low}
-use borrow.Author.Rules.{rules}
 use Rattle.strings.proofs.chars.two_bytes.Goals as goal
 
 pub last_byte-requires-in-Code : goal.last_byte-requires-in-Code

@@ -3,7 +3,6 @@
 use native.Mathlib.Omega.{arith}
 use Rattle.strings.specs.Chars.TwoDigits.{no_first, no_second}
 use Rattle.strings.proofs.MessageChars.{hex-taken, both-digits}
-use borrow.Author.Rules.{rules}
 use Rattle.strings.proofs.chars.two_digits.Goals as goal
 
 pub returns-then-a-ge16 : goal.returns-then-a-ge16

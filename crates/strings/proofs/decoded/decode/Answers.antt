@@ -1,12 +1,9 @@
 -- `decoded::decode` meets its contract: the bytes so far and what is left are the whole. The measure is the bytes of the text left.
-use Prim.Native.Nat.{◌-◌}
 use native.Mathlib.Omega.{arith}
-use mathlib.Core.Path.{◌≡◌, refl}
-use lib.ListN.{length, length-set}
-use borrow.Author.Rules.{rules}
-use Rattle.strings.specs.Strings.{grammar_of}
+use mathlib.Core.Path.{refl}
+use lib.ListN.{length-set}
 use Rattle.strings.proofs.StringReads.{moves}
-use Rattle.strings.proofs.DecodingLaws.{DecodedSoFar, decoding_starts, decoding_outside, decoding_ends, too_many, no_byte, decoding_more, decoding_past}
+use Rattle.strings.proofs.DecodingLaws.{decoding_starts, decoding_outside, decoding_ends, too_many, no_byte, decoding_more, decoding_past}
 use Rattle.strings.proofs.decoded.decode.Goals as goal
 
 pub returns-then-s-a : goal.returns-then-s-a

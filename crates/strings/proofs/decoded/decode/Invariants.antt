@@ -1,12 +1,9 @@
 -- `decoded::decode` meets its contract: the bytes so far and what is left are the whole. The measure is the bytes of the text left.
 use Prim.Native.Nat.{◌-◌}
-use native.Mathlib.Omega.{arith}
-use mathlib.Core.Path.{◌≡◌, refl}
-use lib.ListN.{length, length-set}
-use borrow.Author.Rules.{rules}
+use mathlib.Core.Path.{◌≡◌}
+use lib.ListN.{length}
 use Rattle.strings.specs.Strings.{grammar_of}
-use Rattle.strings.proofs.StringReads.{moves}
-use Rattle.strings.proofs.DecodingLaws.{DecodedSoFar, decoding_starts, decoding_outside, decoding_ends, too_many, no_byte, decoding_more, decoding_past}
+use Rattle.strings.proofs.DecodingLaws.{DecodedSoFar}
 use Rattle.strings.proofs.decoded.decode.Given as goal
 
 abbrev pub invariant-loop-i : goal.invariant-loop-i

@@ -1,10 +1,7 @@
 -- `hashes::bytes_hash` gives the hash of a string's bytes.
 -- The invariant: what is left, from the hash so far, has the hash of the whole. The measure is the bytes left.
 use Prim.Native.Nat.{◌-◌}
-use native.Mathlib.Omega.{arith}
-use mathlib.Core.Path.{refl}
-use borrow.Author.Rules.{rules}
-use Rattle.strings.proofs.HashLaws.{HashedBytes, bytes-start, bytes-more, bytes-end}
+use Rattle.strings.proofs.HashLaws.{HashedBytes}
 use Rattle.strings.proofs.hashes.bytes_hash.Given as goal
 
 abbrev pub invariant-loop-i : goal.invariant-loop-i

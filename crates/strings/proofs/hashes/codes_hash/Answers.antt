@@ -1,12 +1,8 @@
 -- `hashes::codes_hash` gives the hash of a string's code points.
 -- The invariant: what is left, from the hash so far, has the hash of the whole. The measure is the bytes left.
-use Prim.Native.Nat.{◌-◌}
 use native.Mathlib.Omega.{arith}
-use lib.ListN.{length}
-use borrow.Author.Rules.{rules}
-use Rattle.strings.specs.Strings.{grammar_of}
 use Rattle.strings.proofs.StringReads.{moves}
-use Rattle.strings.proofs.HashLaws.{HashedCodes, codes-start, codes_outside, codes-end, codes-more, codes-past}
+use Rattle.strings.proofs.HashLaws.{codes-start, codes_outside, codes-end, codes-more, codes-past}
 use Rattle.strings.proofs.hashes.codes_hash.Goals as goal
 
 pub returns-then-s-a : goal.returns-then-s-a

@@ -1,6 +1,5 @@
 -- `hashes::hash_of` gives the hash of what a string means.
 -- A plain string means its bytes.
-use borrow.Author.Rules.{rules}
 use Rattle.strings.proofs.HashLaws.{hash-plain, hash-coded}
 use Rattle.strings.proofs.hashes.hash_of.Goals as goal
 

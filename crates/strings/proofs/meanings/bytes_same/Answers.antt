@@ -2,7 +2,6 @@
 -- The lengths first; then the parts.
 use native.Mathlib.Omega.{arith}
 use Rattle.strings.proofs.Parts.{strings_other, strings_told}
-use borrow.Author.Rules.{rules}
 use Rattle.strings.proofs.meanings.bytes_same.Goals as goal
 
 pub returns-then-e-a : goal.returns-then-e-a

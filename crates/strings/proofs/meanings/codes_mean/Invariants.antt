@@ -1,13 +1,9 @@
 -- `text::meanings::codes_mean` compares the code points of a string with a name.
 -- The loop's invariant: what is left of both says what the whole says.
 use Prim.Native.Nat.{◌-◌}
-use native.Mathlib.Omega.{arith}
-use borrow.Author.Rules.{rules}
 use lib.ListN.{length}
-use mathlib.Core.Path.{sym, ◌∙◌}
 use Rattle.strings.specs.Strings.{grammar_of}
-use Rattle.strings.proofs.StringReads.{moves}
-use Rattle.strings.proofs.Codes.{Matching, matching_starts, outside_name, name-ended, name-short, name-differs, matching_more, name-past}
+use Rattle.strings.proofs.Codes.{Matching}
 use Rattle.strings.proofs.meanings.codes_mean.Given as goal
 
 abbrev pub invariant-loop-i : goal.invariant-loop-i

@@ -1,12 +1,9 @@
 -- `text::meanings::codes_same` compares the code points of two strings.
 -- The loop's invariant: what is left of both says what the whole says.
 use Prim.Native.Nat.{◌-◌}
-use native.Mathlib.Omega.{arith}
-use borrow.Author.Rules.{rules}
 use lib.ListN.{length}
 use Rattle.strings.specs.Strings.{grammar_of}
-use Rattle.strings.proofs.StringReads.{moves}
-use Rattle.strings.proofs.Codes.{Pairing, pairing_starts, first_outside, second_outside, pair-past, both-ended, first_ended, second_ended, pair-differs, pairing_more}
+use Rattle.strings.proofs.Codes.{Pairing}
 use Rattle.strings.proofs.meanings.codes_same.Given as goal
 
 abbrev pub invariant-loop-i : goal.invariant-loop-i

@@ -1,7 +1,6 @@
 -- `text::meanings::means` says whether a string means a name.
 -- A plain string means its bytes.
 use Rattle.strings.proofs.Comparisons.{name-plain, name-coded}
-use borrow.Author.Rules.{rules}
 use Rattle.strings.proofs.meanings.means.Goals as goal
 
 pub returns-then-plain : goal.returns-then-plain

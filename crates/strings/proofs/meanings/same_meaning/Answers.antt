@@ -1,7 +1,6 @@
 -- `text::meanings::same_meaning` says whether two strings mean the same.
 -- Plain strings mean their bytes.
 use Rattle.strings.proofs.Comparisons.{strings_plain, strings_coded}
-use borrow.Author.Rules.{rules}
 use Rattle.strings.proofs.meanings.same_meaning.Goals as goal
 
 pub returns-then-plain_b : goal.returns-then-plain_b

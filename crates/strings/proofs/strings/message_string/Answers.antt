@@ -1,12 +1,8 @@
 -- `text::strings::message_string` reads a message string.
 -- The loop's invariant: the string is read up to `i`, and a byte that is not plain stands before `i` or at it.
-use Prim.Native.Nat.{◌-◌}
 use native.Mathlib.Omega.{arith}
-use borrow.Author.Rules.{rules}
-use lib.ListN.{length}
-use mathlib.Core.Logic.{⊎_elim}
 use Rattle.strings.specs.declared.dialects.Dialect.TheVariants.{Message}
-use Rattle.strings.proofs.StringReads.{moves, CodedTo, plain_string_lem, coded-starts, coded-more, coded-string, coded-fault, coded-ends}
+use Rattle.strings.proofs.StringReads.{moves, plain_string_lem, coded-starts, coded-more, coded-string, coded-fault, coded-ends}
 use Rattle.strings.proofs.strings.message_string.Goals as goal
 use Rattle.strings.proofs.strings.message_string.Goals.{then-i-s+else-s-i-eq34, else-i-s}
 

@@ -1,9 +1,8 @@
 -- `text::strings::plain_end` finds the first byte of a message string that is not plain.
 -- The loop has passed only bytes of the classes 5 to 7.
 use Prim.Native.Nat.{◌-◌}
-use borrow.Author.Rules.{rules}
 use lib.ListN.{length}
-use Rattle.strings.proofs.StringReads.{PlainTo, plain-none, plain_more, plain-stops, plain-ends}
+use Rattle.strings.proofs.StringReads.{PlainTo}
 use Rattle.strings.proofs.strings.plain_end.Given as goal
 
 abbrev pub invariant-loop-i : goal.invariant-loop-i

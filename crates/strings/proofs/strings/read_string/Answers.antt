@@ -1,6 +1,5 @@
 -- `text::strings::read_string` reads a string of the dialect that it is asked for.
 -- By the dialect.
-use borrow.Author.Rules.{rules}
 use Rattle.strings.proofs.strings.read_string.Goals as goal
 
 pub returns-in-Schema : goal.returns-in-Schema

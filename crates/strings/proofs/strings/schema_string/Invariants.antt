@@ -1,11 +1,8 @@
 -- `text::strings::schema_string` reads a schema string.
 -- The loop's invariant: the string is read up to `i`, and `plain` says whether every byte so far is plain.
 use Prim.Native.Nat.{◌-◌}
-use native.Mathlib.Omega.{arith}
-use borrow.Author.Rules.{rules}
 use lib.ListN.{length}
-use Rattle.strings.specs.declared.dialects.Dialect.TheVariants.{Schema}
-use Rattle.strings.proofs.StringReads.{moves, SchemaTo, schema-starts, schema-plain, schema-coded, schema-plain_string, schema-coded-string, schema-fault, schema-ends}
+use Rattle.strings.proofs.StringReads.{SchemaTo}
 use Rattle.strings.proofs.strings.schema_string.Given as goal
 
 abbrev pub invariant-loop-i : goal.invariant-loop-i

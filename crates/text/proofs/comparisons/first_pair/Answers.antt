@@ -1,10 +1,7 @@
 -- `comparisons::first_pair` meets its contract: the keys passed repeat none.
 -- The measure is the nodes left.
-use Prim.Native.Nat.{◌-◌}
 use borrow.Author.Rules.{rules}
-use borrow.Author.Tests.{not-true, not-false}
-use Rattle.strings.specs.Strings.{grammar_of}
-use Rattle.text.proofs.PairLaws.{Turned, turned-start, turned_hit, turned_on, turned_stuck, turned-end}
+use Rattle.text.proofs.PairLaws.{turned-start, turned_hit, turned_on, turned_stuck, turned-end}
 use Rattle.text.proofs.comparisons.first_pair.Goals as goal
 
 pub loop-i-init : goal.loop-i-init

@@ -1,10 +1,8 @@
 -- `comparisons::first_pair` meets its contract: the keys passed repeat none.
 -- The measure is the nodes left.
 use Prim.Native.Nat.{◌-◌}
-use borrow.Author.Rules.{rules}
-use borrow.Author.Tests.{not-true, not-false}
 use Rattle.strings.specs.Strings.{grammar_of}
-use Rattle.text.proofs.PairLaws.{Turned, turned-start, turned_hit, turned_on, turned_stuck, turned-end}
+use Rattle.text.proofs.PairLaws.{Turned}
 use Rattle.text.proofs.comparisons.first_pair.Given as goal
 
 abbrev pub invariant-loop-i : goal.invariant-loop-i

@@ -1,9 +1,7 @@
 -- `comparisons::is_new_key` meets its contract: the keys passed are others.
 -- The measure is the nodes left.
-use Prim.Native.Nat.{◌-◌}
 use borrow.Author.Rules.{rules}
-use Rattle.strings.specs.Strings.{grammar_of}
-use Rattle.text.proofs.PairLaws.{Passed, passed_start, passed_hit, passed_on, passed_stuck, passed-end}
+use Rattle.text.proofs.PairLaws.{passed_start, passed_hit, passed_on, passed_stuck, passed-end}
 use Rattle.text.proofs.comparisons.is_new_key.Goals as goal
 
 pub loop-i-init : goal.loop-i-init

@@ -1,9 +1,8 @@
 -- `comparisons::is_new_key` meets its contract: the keys passed are others.
 -- The measure is the nodes left.
 use Prim.Native.Nat.{◌-◌}
-use borrow.Author.Rules.{rules}
 use Rattle.strings.specs.Strings.{grammar_of}
-use Rattle.text.proofs.PairLaws.{Passed, passed_start, passed_hit, passed_on, passed_stuck, passed-end}
+use Rattle.text.proofs.PairLaws.{Passed}
 use Rattle.text.proofs.comparisons.is_new_key.Given as goal
 
 abbrev pub invariant-loop-i : goal.invariant-loop-i

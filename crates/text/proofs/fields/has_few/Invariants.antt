@@ -1,7 +1,6 @@
 -- `fields::has_few` ends: it goes to a later node with each turn.
 use Prim.{Unit}
 use Prim.Native.Nat.{◌-◌}
-use borrow.Author.Rules.{rules}
 use Rattle.text.proofs.fields.has_few.Given as goal
 
 abbrev pub invariant-loop-i : goal.invariant-loop-i

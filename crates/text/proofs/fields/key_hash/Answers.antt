@@ -1,5 +1,4 @@
 -- `fields::key_hash` meets its contract: the words of the node say where the key stands and whether it is plain.
-use borrow.Author.Rules.{rules}
 use Rattle.text.proofs.FieldKeys.{hashed_key}
 use Rattle.text.proofs.fields.key_hash.Goals as goal
 

@@ -1,7 +1,6 @@
 -- `fields::same_key` meets its contract: the words of the two nodes say where the keys stand and whether they are plain.
 -- The law same_keys does the rest.
 use Rattle.text.proofs.FieldKeys.{same_keys}
-use borrow.Author.Rules.{rules}
 use Rattle.text.proofs.fields.same_key.Goals as goal
 
 pub returns : goal.returns

@@ -1,13 +1,10 @@
 -- `index::first_indexed` meets its contract: the keys before node i are listed, and repeat none.
 -- The measure is the nodes left.
-use Prim.Native.Nat.{◌-◌, ◌≤◌}
 use native.Mathlib.Omega.{arith}
-use mathlib.Core.Path.{◌≡◌, refl, ◌∙◌, subst}
-use lib.ListN.{length}
+use mathlib.Core.Path.{refl, ◌∙◌, subst}
 use borrow.Author.Rules.{rules}
-use Rattle.strings.specs.Strings.{grammar_of}
 use Rattle.text.specs.Index.{LooksUp}
-use Rattle.text.proofs.IndexLaws.{Listing, listing_start, listing-given, listing_hit, listing-length, listing-on, listing_stuck, listing-end}
+use Rattle.text.proofs.IndexLaws.{listing_start, listing-given, listing_hit, listing-length, listing-on, listing_stuck, listing-end}
 use Rattle.text.proofs.index.first_indexed.Goals as goal
 
 pub loop-i-init : goal.loop-i-init

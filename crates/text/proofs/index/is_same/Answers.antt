@@ -1,5 +1,4 @@
 -- `index::is_same` meets its contract: by its tests, and by the comparison of the two keys.
-use borrow.Author.Rules.{rules}
 use Rattle.text.proofs.IndexLaws.{same_first, same-past, same_after}
 use Rattle.text.proofs.index.is_same.Goals as goal
 

@@ -1,9 +1,7 @@
 -- `index::look_up` meets its contract: the keys passed have other hashes.
 -- The measure is the keys that may still be passed.
 use native.Mathlib.Omega.{arith}
-use borrow.Author.Rules.{rules}
-use Rattle.strings.specs.Strings.{grammar_of}
-use Rattle.text.proofs.IndexLaws.{Walked, walk_start, walk_out, walk_end, walk_hit, walk-on}
+use Rattle.text.proofs.IndexLaws.{walk_start, walk_out, walk_end, walk_hit, walk-on}
 use Rattle.text.proofs.index.look_up.Goals as goal
 
 pub loop-left-init : goal.loop-left-init

@@ -1,5 +1,4 @@
 -- `keys::first_at` meets its contract: by the node's kind.
-use borrow.Author.Rules.{rules}
 use Rattle.text.proofs.SearchLaws.{at_other, at_object}
 use Rattle.text.proofs.keys.first_at.Goals as goal
 

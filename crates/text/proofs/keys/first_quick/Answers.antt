@@ -1,7 +1,5 @@
 -- `keys::first_quick` meets its contract: by the search that it chooses.
 use mathlib.Core.Path.{refl}
-use borrow.Author.Rules.{rules}
-use borrow.Author.Tests.{not-false}
 use Rattle.text.proofs.keys.first_quick.Goals as goal
 
 pub first_indexed-requires : goal.first_indexed-requires

@@ -1,5 +1,4 @@
 -- `keys::first_repeat` meets its contract: the least node is that of the first repeated key.
-use borrow.Author.Rules.{rules}
 use Rattle.text.proofs.SearchLaws.{search-found, search-none}
 use Rattle.text.proofs.keys.first_repeat.Goals as goal
 

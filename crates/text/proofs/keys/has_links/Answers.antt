@@ -1,7 +1,6 @@
 -- `keys::has_links` meets its contract: by its tests.
 use Prim.Native.Nat.{◌-◌}
 use native.Mathlib.Omega.{arith}
-use borrow.Author.Rules.{rules}
 use borrow.Author.Tests.{leb-true}
 use Rattle.text.proofs.keys.has_links.Goals as goal
 

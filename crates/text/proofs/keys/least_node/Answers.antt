@@ -1,6 +1,4 @@
 -- `keys::least_node` meets its contract: the search is at its end, or goes on to it.
-use native.Mathlib.Omega.{arith}
-use borrow.Author.Rules.{rules}
 use Rattle.text.proofs.SearchLaws.{least_quick, least_on}
 use Rattle.text.proofs.keys.least_node.Goals as goal
 

@@ -1,5 +1,4 @@
 -- `keys::lesser_of` meets its contract: by what was found, and by the test of the lesser.
-use borrow.Author.Rules.{rules}
 use borrow.Author.Tests.{lt-ltb, le-ltb}
 use Rattle.text.proofs.keys.lesser_of.Goals as goal
 

@@ -1,12 +1,9 @@
 -- `keys::search` meets its contract: the nodes passed are searched.
 -- The measure is the nodes up to the least one found.
-use Prim.Native.Nat.{◌-◌}
 use native.Mathlib.Omega.{arith}
-use mathlib.Core.Path.{◌≡◌, refl}
-use lib.ListN.{length}
+use mathlib.Core.Path.{refl}
 use borrow.Author.Rules.{rules}
-use Rattle.strings.specs.Strings.{grammar_of}
-use Rattle.text.proofs.SearchLaws.{lesser_upto, Going, going_start, going_on, going-stops, going_done}
+use Rattle.text.proofs.SearchLaws.{lesser_upto, going_start, going_on, going-stops, going_done}
 use Rattle.text.proofs.keys.search.Goals as goal
 
 pub loop-at-init : goal.loop-at-init

@@ -1,12 +1,10 @@
 -- `keys::search` meets its contract: the nodes passed are searched.
 -- The measure is the nodes up to the least one found.
 use Prim.Native.Nat.{◌-◌}
-use native.Mathlib.Omega.{arith}
-use mathlib.Core.Path.{◌≡◌, refl}
+use mathlib.Core.Path.{◌≡◌}
 use lib.ListN.{length}
-use borrow.Author.Rules.{rules}
 use Rattle.strings.specs.Strings.{grammar_of}
-use Rattle.text.proofs.SearchLaws.{lesser_upto, Going, going_start, going_on, going-stops, going_done}
+use Rattle.text.proofs.SearchLaws.{Going}
 use Rattle.text.proofs.keys.search.Given as goal
 
 abbrev pub invariant-loop-at : goal.invariant-loop-at

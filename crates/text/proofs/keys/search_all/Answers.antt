@@ -1,13 +1,9 @@
 -- `keys::search_all` meets its contract: the nodes passed are searched, and the search stopped at an object.
 -- The measure is the nodes up to the least one found.
-use Prim.Native.Nat.{◌-◌}
 use native.Mathlib.Omega.{arith}
-use mathlib.Core.Path.{◌≡◌, refl, ◌∙◌}
-use lib.ListN.{length}
+use mathlib.Core.Path.{refl}
 use borrow.Author.Rules.{rules}
-use Rattle.strings.specs.Strings.{grammar_of}
-use Rattle.text.specs.Search.{StopsAt}
-use Rattle.text.proofs.SearchLaws.{lesser_upto, Going, going_start, going_more, going-from, going-ends}
+use Rattle.text.proofs.SearchLaws.{lesser_upto, going_start, going_more, going-from, going-ends}
 use Rattle.text.proofs.keys.search_all.Goals as goal
 
 pub loop-at-init : goal.loop-at-init

@@ -1,15 +1,9 @@
 -- The readers of values, containers, entries and members meet their contracts. They call each other with fewer levels, or with the same and a smaller rank.
 -- In the loop the entries so far are the invariant, and what is left of the text is the measure. Each return is a law of its own.
-use Prim.Native.Nat.{ℕ, ◌+◌, ◌-◌, ◌*◌, ◌<◌}
-use native.Mathlib.Omega.{arith}
+use Prim.Native.Nat.{◌+◌, ◌-◌, ◌*◌}
 use lib.ListN.{length}
-use borrow.Author.Rules.{rules}
 use Rattle.strings.specs.Strings.{grammar_of}
-use Rattle.tokens.proofs.StringTokens.{dialect_complete as laws}
-use Rattle.text.proofs.Inside.{entry-told, comma_on, close-on, reached-ready, reached-fits}
-use Rattle.text.proofs.Values.{stood, missed, opens, container-at, unbracketed, scalar-at, ready-after, value_after, value-entry}
-use Rattle.text.proofs.Pairs.{key-ready, pair_fits, pair_read, pair-stop, key-stop}
-use Rattle.text.proofs.Entries.{EntriesAt, container-too_deep, entries_none, entries_begin, entries-past, entries-stop, entries_comma, entries-close, entries_neither}
+use Rattle.text.proofs.Entries.{EntriesAt}
 use Rattle.text.proofs.reader.+readers.Given as goal
 
 abbrev pub decreases-read_at : goal.decreases-read_at

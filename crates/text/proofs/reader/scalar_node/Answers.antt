@@ -1,7 +1,6 @@
 -- `reader::scalar_node` meets its contract: the scalar's run is the value's, and its one node says it.
 -- Assumes nothing.
 use native.Mathlib.Omega.{arith}
-use borrow.Author.Rules.{rules}
 use Rattle.text.proofs.Values.{leaf-fits, leaf-read, leaf-stop}
 use Rattle.text.proofs.reader.scalar_node.Goals as goal
 

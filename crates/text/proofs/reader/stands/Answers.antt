@@ -1,6 +1,5 @@
 -- `reader::stands` meets its contract: past the end no byte stands, elsewhere the test tells.
 -- Assumes nothing.
-use borrow.Author.Rules.{rules}
 use Rattle.text.proofs.Values.{stands-byte}
 use Rattle.text.proofs.reader.stands.Goals as goal
 

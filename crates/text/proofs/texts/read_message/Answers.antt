@@ -1,6 +1,5 @@
 -- `texts::read_message` meets its contract: a value with blanks around and nothing after them.
 -- Assumes nothing.
-use borrow.Author.Rules.{rules}
 use Rattle.text.proofs.Wholes.{message-whole, message-more, message_faulty, message-deeper}
 use Rattle.text.proofs.texts.read_message.Goals as goal
 

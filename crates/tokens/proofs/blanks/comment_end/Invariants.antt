@@ -1,11 +1,9 @@
 -- `blanks::comment_end` meets its contract: the machine leaves the comment at its LF or at the end.
 -- The invariant: up to `i` the machine stays inside the comment.
 use Prim.Native.Nat.{◌-◌}
-use native.Mathlib.Omega.{arith}
 use lib.ListN.{length}
-use borrow.Author.Rules.{rules}
 use Rattle.grammar.specs.Serving.Machine.Schema.{schema}
-use Rattle.tokens.proofs.BlankRuns.{Commented, commented_none, commented_more, comment_line, comment-text}
+use Rattle.tokens.proofs.BlankRuns.{Commented}
 use Rattle.tokens.proofs.blanks.comment_end.Given as goal
 
 abbrev pub invariant-loop-i : goal.invariant-loop-i

@@ -2,7 +2,6 @@
 -- By the class that was read.
 use native.Mathlib.Omega.{arith}
 use mathlib.Core.Path.{sym}
-use borrow.Author.Rules.{rules}
 use Rattle.tokens.proofs.ByteClasses.{class_blank, class_below, class_above}
 use Rattle.tokens.proofs.blanks.is_blank.Goals as goal
 

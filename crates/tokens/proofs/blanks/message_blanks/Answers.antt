@@ -1,13 +1,8 @@
 -- `blanks::message_blanks` meets its contract: the machine passes over the blanks in every control that skips them.
 -- The invariant says so up to `i`.
-use Prim.Native.Nat.{◌-◌}
 use native.Mathlib.Omega.{arith}
 use mathlib.Core.Path.{refl, sym, ◌∙◌}
-use lib.ListN.{length}
-use borrow.Author.Tests.{not-true, not-false}
-use borrow.Author.Rules.{rules}
-use Rattle.grammar.specs.Serving.Machine.Message.{message}
-use Rattle.tokens.proofs.BlankRuns.{Passed, passed_none, passed-blank, passed-all, passed-end}
+use Rattle.tokens.proofs.BlankRuns.{passed_none, passed-blank, passed-all, passed-end}
 use Rattle.tokens.proofs.blanks.message_blanks.Goals as goal
 
 pub loop-i-init : goal.loop-i-init

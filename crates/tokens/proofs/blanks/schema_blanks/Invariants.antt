@@ -1,13 +1,9 @@
 -- `blanks::schema_blanks` meets its contract: the machine passes over the blanks and comments in every control that skips them.
 -- The invariant says so up to `i`; what neither is a blank nor starts a comment is solid.
 use Prim.Native.Nat.{◌-◌}
-use native.Mathlib.Omega.{arith}
-use mathlib.Core.Path.{sym, ◌∙◌}
 use lib.ListN.{length}
-use borrow.Author.Tests.{eq-eqb, ne_eqb}
-use borrow.Author.Rules.{rules}
 use Rattle.grammar.specs.Serving.Machine.Schema.{schema}
-use Rattle.tokens.proofs.BlankRuns.{Passed, passed_none, passed-blank, passed-comment, passed-all, passed-end}
+use Rattle.tokens.proofs.BlankRuns.{Passed}
 use Rattle.tokens.proofs.blanks.schema_blanks.Given as goal
 
 abbrev pub invariant-loop-i : goal.invariant-loop-i

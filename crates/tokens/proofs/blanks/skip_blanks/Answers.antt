@@ -1,6 +1,5 @@
 -- `blanks::skip_blanks` meets its contract: it is one of the two readers of blanks.
 -- By the dialect that was asked for.
-use borrow.Author.Rules.{rules}
 use Rattle.tokens.proofs.blanks.skip_blanks.Goals as goal
 
 pub returns-in-Schema : goal.returns-in-Schema

@@ -1,9 +1,7 @@
 -- `integers::at_most` meets its contract: the value of the digits, of any number of them, is at most the bound.
 -- The invariant: the value up to `i` is within the bound, and from it the rest gives the whole; `tenth` says when ten times it is not.
 use Prim.Native.Nat.{◌+◌, ◌-◌, ◌*◌, ◌≤◌, ◌<◌}
-use native.Mathlib.Omega.{arith}
-use borrow.Author.Rules.{rules}
-use Rattle.tokens.proofs.IntegerValues.{tenth_low, tenth_high, Valued, valued_none, valued_more, value-over, value-end, value_cut}
+use Rattle.tokens.proofs.IntegerValues.{Valued}
 use Rattle.tokens.proofs.integers.at_most.Given as goal
 
 abbrev pub invariant-loop-i : goal.invariant-loop-i

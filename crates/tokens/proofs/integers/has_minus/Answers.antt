@@ -1,7 +1,6 @@
 -- `integers::has_minus` meets its contract: the first of the bytes, if there is one, is a minus.
 -- By the places.
 use native.Mathlib.Omega.{arith}
-use borrow.Author.Rules.{rules}
 use Rattle.tokens.proofs.IntegerValues.{minus_end, minus_cut, minus_byte}
 use Rattle.tokens.proofs.integers.has_minus.Goals as goal
 

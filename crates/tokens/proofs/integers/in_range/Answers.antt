@@ -2,7 +2,6 @@
 -- By the sign.
 use native.Mathlib.Omega.{arith}
 use mathlib.Core.Path.{sym, ◌∙◌}
-use borrow.Author.Rules.{rules}
 use Rattle.tokens.proofs.IntegerValues.{minus_there, with_minus, without_minus}
 use Rattle.tokens.proofs.integers.in_range.Goals as goal
 

@@ -1,11 +1,8 @@
 -- `literals::digits_end` meets its contract: the machine stays in any state out of which digits do not lead.
 -- The invariant says so up to `i`; the class of the byte there says whether it is a digit.
-use Prim.Native.Nat.{◌-◌}
 use native.Mathlib.Omega.{arith}
-use lib.ListN.{length}
-use borrow.Author.Rules.{rules}
 use Rattle.tokens.proofs.ByteClasses.{class_digit, class_no_digit}
-use Rattle.tokens.proofs.NumberRuns.{DigitsPassed, digits-none, digits_more, digits-all}
+use Rattle.tokens.proofs.NumberRuns.{digits-none, digits_more, digits-all}
 use Rattle.tokens.proofs.literals.digits_end.Goals as goal
 
 pub loop-i-init : goal.loop-i-init

@@ -1,8 +1,6 @@
 -- `literals::exponent` meets its contract: an exponent, or the end of the number.
 -- By the first byte, and without an exponent by what the number is so far.
 use native.Mathlib.Omega.{arith}
-use mathlib.Core.Logic.{⊎_elim}
-use borrow.Author.Rules.{rules}
 use Rattle.tokens.proofs.NumberRuns.{exponent-past, exponent-fault, integer-ends, fraction-ends}
 use Rattle.tokens.proofs.NumberStates.{one_of_two, neither}
 use Rattle.tokens.proofs.literals.exponent.Goals as goal

@@ -1,8 +1,6 @@
 -- `literals::exponent_end` meets its contract: digits, or a sign and digits, and then the number ends.
 -- By the first byte.
 use native.Mathlib.Omega.{arith}
-use mathlib.Core.Logic.{⊎_elim}
-use borrow.Author.Rules.{rules}
 use Rattle.tokens.proofs.NumberRuns.{power-plain, power-signed}
 use Rattle.tokens.proofs.NumberStates.{one_of_two, neither}
 use Rattle.tokens.proofs.literals.exponent_end.Goals as goal

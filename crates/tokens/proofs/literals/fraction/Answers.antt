@@ -1,8 +1,6 @@
 -- `literals::fraction` meets its contract: a fraction and what `exponent` reads, or that alone.
 -- By the first byte.
 use native.Mathlib.Omega.{arith}
-use mathlib.Core.Logic.{⊎_elim}
-use borrow.Author.Rules.{rules}
 use Rattle.tokens.proofs.NumberRuns.{fraction-past, fraction-fault, no_fraction}
 use Rattle.tokens.proofs.literals.fraction.Goals as goal
 use Rattle.tokens.proofs.literals.fraction.Goals.{then-from-s+else-s-from-eq46, else-from-s}

@@ -1,8 +1,6 @@
 -- `literals::int_end` meets its contract: a zero alone, or the digits that `some_digits` reads.
 -- By the first byte.
 use native.Mathlib.Omega.{arith}
-use mathlib.Core.Logic.{⊎_elim}
-use borrow.Author.Rules.{rules}
 use Rattle.tokens.proofs.NumberRuns.{zero-int, digits-int}
 use Rattle.tokens.proofs.literals.int_end.Goals as goal
 use Rattle.tokens.proofs.literals.int_end.Goals.{then-from-s+else-s-from-eq48, else-from-s}

@@ -1,7 +1,6 @@
 -- `literals::read_number` meets its contract: what `unsigned` reads, after a minus or from the start.
 -- By the first byte.
 use native.Mathlib.Omega.{arith}
-use borrow.Author.Rules.{rules}
 use Rattle.tokens.proofs.NumberRuns.{minus_number, plain-number}
 use Rattle.tokens.proofs.literals.read_number.Goals as goal
 

@@ -1,10 +1,7 @@
 -- `literals::read_word` meets its contract: the bytes of the word stand there, or one of them does not.
 -- The invariant: what is found from byte `i` of the word on is found from its first.
-use Prim.Native.Nat.{◌-◌}
 use native.Mathlib.Omega.{arith}
-use lib.ListN.{length}
-use borrow.Author.Rules.{rules}
-use Rattle.tokens.proofs.WordRuns.{WordPassed, word_none, word_more, word-differs, word_cut, word-whole}
+use Rattle.tokens.proofs.WordRuns.{word_none, word_more, word-differs, word_cut, word-whole}
 use Rattle.tokens.proofs.literals.read_word.Goals as goal
 
 pub loop-i-init : goal.loop-i-init

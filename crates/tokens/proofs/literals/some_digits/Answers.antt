@@ -1,7 +1,6 @@
 -- `literals::some_digits` meets its contract: without a digit at its place the machine stops there, else it goes on over all of them.
 -- The first digit is one step; the rest is what `digits_end` ensures.
 use native.Mathlib.Omega.{arith}
-use borrow.Author.Rules.{rules}
 use Rattle.tokens.proofs.ByteClasses.{class_digit, class_no_digit}
 use Rattle.tokens.proofs.NumberRuns.{no_digits, some_digits}
 use Rattle.tokens.proofs.literals.some_digits.Goals as goal

@@ -1,6 +1,5 @@
 -- `literals::unsigned` meets its contract: the integer part, and then what `fraction` reads.
 -- By what `int_end` answers.
-use borrow.Author.Rules.{rules}
 use Rattle.tokens.proofs.NumberRuns.{int-past, int-fault}
 use Rattle.tokens.proofs.literals.unsigned.Goals as goal
 

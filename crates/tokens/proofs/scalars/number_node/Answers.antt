@@ -1,6 +1,5 @@
 -- `scalars::number_node` meets its contract: the number's answer with the kind of its node.
 -- By the answer.
-use borrow.Author.Rules.{rules}
 use Rattle.tokens.proofs.scalars.number_node.Goals as goal
 
 pub returns-in-Integer : goal.returns-in-Integer

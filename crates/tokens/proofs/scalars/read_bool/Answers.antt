@@ -2,7 +2,6 @@
 -- By the first byte.
 use native.Mathlib.Omega.{arith}
 use Rattle.tokens.proofs.ScalarReads.{true-read, false-read}
-use borrow.Author.Rules.{rules}
 use Rattle.tokens.proofs.scalars.read_bool.Goals as goal
 
 pub returns-then-b-eq116 : goal.returns-then-b-eq116

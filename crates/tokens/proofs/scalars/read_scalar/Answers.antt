@@ -1,7 +1,6 @@
 -- `scalars::read_scalar` meets its contract: at the end no value stands, else one of the two readers of a value says what does.
 -- By the dialect that was asked for.
 use native.Mathlib.Omega.{arith}
-use borrow.Author.Rules.{rules}
 use Rattle.tokens.proofs.ScalarReads.{no_more}
 use Rattle.tokens.proofs.scalars.read_scalar.Goals as goal
 

@@ -5,7 +5,6 @@ use borrow.Author.Tests.{eq-eqb}
 use Rattle.grammar.proofs.SchemaDialect.{schema-tokens-complete}
 use Rattle.strings.specs.declared.dialects.Dialect.TheVariants as Asked
 use Rattle.tokens.proofs.ScalarReads.{reads-string, schema_no_value}
-use borrow.Author.Rules.{rules}
 use Rattle.tokens.proofs.scalars.schema_scalar.Goals as goal
 
 pub returns-then-s-i-eq39 : goal.returns-then-s-i-eq39

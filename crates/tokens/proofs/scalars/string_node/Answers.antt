@@ -1,6 +1,5 @@
 -- `scalars::string_node` meets its contract: the string's answer with the kind of its node.
 -- By the answer.
-use borrow.Author.Rules.{rules}
 use Rattle.tokens.proofs.scalars.string_node.Goals as goal
 
 pub returns-in-Plain : goal.returns-in-Plain

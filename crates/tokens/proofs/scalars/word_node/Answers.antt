@@ -1,6 +1,5 @@
 -- `scalars::word_node` meets its contract: the word's answer with the kind of its node.
 -- By the answer.
-use borrow.Author.Rules.{rules}
 use Rattle.tokens.proofs.scalars.word_node.Goals as goal
 
 pub returns-in-Past : goal.returns-in-Past

@@ -1,7 +1,6 @@
 -- `separators::colon` meets its contract: after blanks a colon stands there, or does not.
 -- By the byte past the blanks.
 use native.Mathlib.Omega.{arith}
-use borrow.Author.Rules.{rules}
 use Rattle.tokens.proofs.KeyReads.{colon-end, no_colon, a-colon}
 use Rattle.tokens.proofs.StringTokens.{dialect_complete}
 use Rattle.tokens.proofs.separators.colon.Goals as goal

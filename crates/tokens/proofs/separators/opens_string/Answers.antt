@@ -1,7 +1,6 @@
 -- `separators::opens_string` meets its contract: the quote of the dialect that was asked for.
 -- By that dialect.
 use mathlib.Core.Path.{refl}
-use borrow.Author.Rules.{rules}
 use Rattle.tokens.proofs.separators.opens_string.Goals as goal
 
 pub returns-in-Schema : goal.returns-in-Schema

@@ -2,8 +2,6 @@
 -- By what the readers of its parts answer.
 use native.Mathlib.Omega.{arith}
 use mathlib.Core.Path.{sym, ◌∙◌}
-use borrow.Author.Tests.{not-true, not-false}
-use borrow.Author.Rules.{rules}
 use Rattle.tokens.proofs.KeyReads.{key-end, no_key, plain-key, coded-key, key-fault}
 use Rattle.tokens.proofs.StringTokens.{dialect_complete}
 use Rattle.tokens.proofs.separators.read_key.Goals as goal

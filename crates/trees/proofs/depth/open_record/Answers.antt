@@ -1,7 +1,6 @@
 -- `open_record` meets its contract: there is no room, or the end is put after those around it.
 use native.Mathlib.Omega.{arith}
 use Rattle.trees.proofs.NestLaws.{opened-not, opened_one}
-use borrow.Author.Rules.{rules}
 use Rattle.trees.proofs.depth.open_record.Goals as goal
 
 pub returns-then-around-ends : goal.returns-then-around-ends

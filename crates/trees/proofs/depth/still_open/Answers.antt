@@ -1,13 +1,11 @@
 -- `still_open` meets its contract. The invariant: what goes on is among the first k. The measure is k.
-use Prim.Native.Nat.{◌≤◌}
 use native.Mathlib.Omega.{arith}
-use mathlib.Core.Path.{◌≡◌, ap}
+use mathlib.Core.Path.{ap}
 use lib.ListN.{length}
 use Rattle.grammar.proofs.Booleans.{min_right}
-use Rattle.trees.specs.Backwards.{back, before}
+use Rattle.trees.specs.Backwards.{back}
 use Rattle.trees.specs.Nesting.{still_open}
 use Rattle.trees.proofs.NestLaws.{still-stop, still-on, still-none}
-use borrow.Author.Rules.{rules}
 use Rattle.trees.proofs.depth.still_open.Goals as goal
 
 pub loop-k-init : goal.loop-k-init

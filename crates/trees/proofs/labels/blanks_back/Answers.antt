@@ -1,12 +1,8 @@
 -- `blanks_back` meets its contract. The invariant: only blanks were passed. The measure is the bytes left.
 use mathlib.Core.Bool.{not}
 use mathlib.Core.Path.{ap}
-use Prim.Native.Nat.{◌≤◌}
 use native.Mathlib.Omega.{arith}
-use mathlib.Core.Path.{◌≡◌, refl}
-use Rattle.trees.specs.Backwards.{back}
-use Rattle.trees.specs.Labelling.{skip_blanks}
-use borrow.Author.Rules.{rules}
+use mathlib.Core.Path.{refl}
 use Rattle.trees.proofs.LabelLaws.{skip_stop, skip-on, skip-end}
 use Rattle.trees.proofs.labels.blanks_back.Goals as goal
 

@@ -1,11 +1,8 @@
 -- `blanks_back` meets its contract. The invariant: only blanks were passed. The measure is the bytes left.
 use Prim.Native.Nat.{◌≤◌}
-use native.Mathlib.Omega.{arith}
-use mathlib.Core.Path.{◌≡◌, refl}
+use mathlib.Core.Path.{◌≡◌}
 use Rattle.trees.specs.Backwards.{back}
 use Rattle.trees.specs.Labelling.{skip_blanks}
-use borrow.Author.Rules.{rules}
-use Rattle.trees.proofs.LabelLaws.{skip_stop, skip-on, skip-end}
 use Rattle.trees.proofs.labels.blanks_back.Given as goal
 
 abbrev pub invariant-loop-i : goal.invariant-loop-i

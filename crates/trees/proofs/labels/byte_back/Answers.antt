@@ -1,7 +1,6 @@
 -- `byte_back` meets its contract: the byte after the blanks is the one sought, or it is not.
 use native.Mathlib.Omega.{arith}
 use Rattle.trees.proofs.LabelLaws.{byte-none, byte-other, byte-here}
-use borrow.Author.Rules.{rules}
 use Rattle.trees.proofs.labels.byte_back.Goals as goal
 
 pub returns-then-i-eq0 : goal.returns-then-i-eq0

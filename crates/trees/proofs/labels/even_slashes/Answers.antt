@@ -1,11 +1,6 @@
 -- `even_slashes` meets its contract. The invariant: the answer is that of what is left, turned for each backslash passed. The measure is the bytes left.
-use Prim.Native.Nat.{◌≤◌}
 use native.Mathlib.Omega.{arith}
-use mathlib.Core.Path.{◌≡◌}
-use Rattle.trees.specs.Backwards.{back}
-use Rattle.trees.specs.Labelling.{even_slashes}
-use borrow.Author.Rules.{rules}
-use Rattle.trees.proofs.LabelLaws.{turned, even_begin, even_stop, even_on, even_end}
+use Rattle.trees.proofs.LabelLaws.{even_begin, even_stop, even_on, even_end}
 use Rattle.trees.proofs.labels.even_slashes.Goals as goal
 
 pub loop-i-init : goal.loop-i-init

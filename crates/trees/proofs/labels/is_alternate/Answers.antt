@@ -1,6 +1,5 @@
 -- `is_alternate` meets its contract, test by test.
 use Rattle.trees.proofs.LabelLaws.{an_array, a-built_in, a-row}
-use borrow.Author.Rules.{rules}
 use Rattle.trees.proofs.labels.is_alternate.Goals as goal
 
 pub returns-then-array-ne0 : goal.returns-then-array-ne0

@@ -2,7 +2,6 @@
 use mathlib.Core.Path.{sym, ap, ◌∙◌}
 use Rattle.walker.specs.declared.records.Seen.{Seen}
 use Rattle.trees.specs.Labelling.{of_alternate}
-use borrow.Author.Rules.{rules}
 use Rattle.trees.proofs.labels.is_alternative.Goals as goal
 
 pub returns-in-Record : goal.returns-in-Record

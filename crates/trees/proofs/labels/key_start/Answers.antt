@@ -1,12 +1,6 @@
 -- `key_start` meets its contract. The invariant: what was passed is part of the key. The measure is the bytes left.
-use Prim.Native.Nat.{◌≤◌}
-use mathlib.Core.Path.{◌≡◌}
-use mathlib.Core.List.{[]}
 use native.Mathlib.Omega.{arith}
-use Rattle.trees.specs.Backwards.{back}
-use Rattle.trees.specs.Labelling.{key_back}
-use Rattle.trees.proofs.LabelLaws.{span, key_begin, key-stop, key-on, key-end}
-use borrow.Author.Rules.{rules}
+use Rattle.trees.proofs.LabelLaws.{key_begin, key-stop, key-on, key-end}
 use Rattle.trees.proofs.labels.key_start.Goals as goal
 
 pub loop-i-init : goal.loop-i-init

@@ -2,11 +2,9 @@
 use Prim.Native.Nat.{◌≤◌}
 use mathlib.Core.Path.{◌≡◌}
 use mathlib.Core.List.{[]}
-use native.Mathlib.Omega.{arith}
 use Rattle.trees.specs.Backwards.{back}
 use Rattle.trees.specs.Labelling.{key_back}
-use Rattle.trees.proofs.LabelLaws.{span, key_begin, key-stop, key-on, key-end}
-use borrow.Author.Rules.{rules}
+use Rattle.trees.proofs.LabelLaws.{span}
 use Rattle.trees.proofs.labels.key_start.Given as goal
 
 abbrev pub invariant-loop-i : goal.invariant-loop-i

@@ -2,7 +2,6 @@
 use native.Mathlib.Nat.{le_of_lt}
 use lib.ListN.{length}
 use Rattle.trees.proofs.LabelLaws.{no_colon, no_close, key-found, place_in}
-use borrow.Author.Rules.{rules}
 use Rattle.trees.proofs.labels.label_at.Goals as goal
 
 pub byte_back-requires-in-At : goal.byte_back-requires-in-At

@@ -1,7 +1,6 @@
 -- `put_key` meets its contract, by what was found.
 use native.Mathlib.Omega.{arith}
 use Rattle.trees.proofs.LabelLaws.{key-shown, element-shown}
-use borrow.Author.Rules.{rules}
 use Rattle.trees.proofs.labels.put_key.Goals as goal
 
 pub returns-in-Key : goal.returns-in-Key

@@ -1,7 +1,6 @@
 -- `put_label` meets its contract: by the number, the record before it and the key.
 use native.Mathlib.Omega.{arith}
 use Rattle.trees.proofs.LabelLaws.{label_arguments, label_as, label_key}
-use borrow.Author.Rules.{rules}
 use Rattle.trees.proofs.labels.put_label.Goals as goal
 
 pub returns-then-n-eq0 : goal.returns-then-n-eq0

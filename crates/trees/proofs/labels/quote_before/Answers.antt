@@ -1,6 +1,5 @@
 -- `quote_before` meets its contract, by the byte and the backslashes before it.
 use Rattle.trees.proofs.LabelLaws.{no_quote, a-quote}
-use borrow.Author.Rules.{rules}
 use Rattle.trees.proofs.labels.quote_before.Goals as goal
 
 pub returns-then-message-i-ne34 : goal.returns-then-message-i-ne34

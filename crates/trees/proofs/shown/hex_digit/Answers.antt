@@ -1,6 +1,5 @@
 -- `hex_digit` meets its contract, by the test.
 use Rattle.trees.proofs.ShownLaws.{low_digit, high_digit}
-use borrow.Author.Rules.{rules}
 use Rattle.trees.proofs.shown.hex_digit.Goals as goal
 
 pub returns-then-d-lt10 : goal.returns-then-d-lt10

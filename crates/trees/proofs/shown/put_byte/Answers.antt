@@ -3,7 +3,6 @@ use native.Mathlib.Omega.{arith}
 use mathlib.Core.Path.{refl}
 use Rattle.lines.proofs.TextLaws.{puts_as, puts_one}
 use Rattle.trees.proofs.ShownLaws.{below_range, above_range, in_range_lem}
-use borrow.Author.Rules.{rules}
 use Rattle.trees.proofs.shown.put_byte.Goals as goal
 
 pub returns-then-b-lt32 : goal.returns-then-b-lt32

@@ -1,12 +1,7 @@
 -- `put_each` meets its contract. The invariant: the first i bytes are put. The measure is the bytes left.
-use Prim.Native.Nat.{◌+◌, ◌*◌, ◌-◌, ◌≤◌}
 use native.Mathlib.Omega.{arith}
-use mathlib.Core.Path.{◌≡◌, refl, sym}
-use lib.ListN.{length, take}
+use mathlib.Core.Path.{refl, sym}
 use Rattle.lines.proofs.TextLaws.{puts_as, puts_none}
-use Rattle.trees.specs.Escapes.{shown_bytes}
-use Rattle.trees.specs.Serving.Rooms.{escape_bytes}
-use Rattle.lines.specs.Serving.Puts.{Puts}
 use borrow.Author.Rules.{rules}
 use Rattle.trees.proofs.ShownLaws.{shown-none, puts-byte, puts-all}
 use Rattle.trees.proofs.shown.put_each.Goals as goal

@@ -1,7 +1,6 @@
 -- `put_shown` meets its contract: what is cut, and dots where there is more.
 use native.Mathlib.Omega.{arith}
 use Rattle.trees.proofs.ShownLaws.{cut_length, puts_cut, puts_whole}
-use borrow.Author.Rules.{rules}
 use Rattle.trees.proofs.shown.put_shown.Goals as goal
 
 pub returns-then-bytes-gt-NAME_BYTES : goal.returns-then-bytes-gt-NAME_BYTES

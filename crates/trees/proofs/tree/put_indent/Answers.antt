@@ -1,6 +1,5 @@
 -- `put_indent` meets its contract: the spaces are put.
 use Rattle.trees.proofs.TreeLaws.{puts-indent}
-use borrow.Author.Rules.{rules}
 use Rattle.trees.proofs.tree.put_indent.Goals as goal
 
 pub returns : goal.returns

@@ -1,7 +1,6 @@
 -- `put_left` meets its contract: the indent, then the label.
 use native.Mathlib.Omega.{arith}
 use Rattle.trees.proofs.TreeLaws.{puts-left}
-use borrow.Author.Rules.{rules}
 use Rattle.trees.proofs.tree.put_left.Goals as goal
 
 pub returns : goal.returns

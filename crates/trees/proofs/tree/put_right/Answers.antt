@@ -1,6 +1,5 @@
 -- `put_right` meets its contract: five pieces, one after another.
 use Rattle.trees.proofs.TreeLaws.{puts_right}
-use borrow.Author.Rules.{rules}
 use Rattle.trees.proofs.tree.put_right.Goals as goal
 
 pub returns : goal.returns

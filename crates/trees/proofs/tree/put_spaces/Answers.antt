@@ -1,10 +1,7 @@
 -- `put_spaces` meets its contract. The invariant: i spaces are put. The measure is the spaces left.
-use Prim.Native.Nat.{◌+◌, ◌-◌, ◌≤◌}
 use native.Mathlib.Omega.{arith}
-use mathlib.Core.Path.{◌≡◌, refl, ◌∙◌}
-use lib.ListN.{length, replicate, length-set}
-use Rattle.lines.specs.Serving.Puts.{Puts}
-use borrow.Author.Rules.{rules}
+use mathlib.Core.Path.{refl, ◌∙◌}
+use lib.ListN.{length-set}
 use Rattle.trees.proofs.TreeLaws.{spaces_none, spaces_on, spaces_all}
 use Rattle.trees.proofs.tree.put_spaces.Goals as goal
 

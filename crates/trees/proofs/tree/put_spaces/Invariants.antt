@@ -1,11 +1,8 @@
 -- `put_spaces` meets its contract. The invariant: i spaces are put. The measure is the spaces left.
 use Prim.Native.Nat.{◌+◌, ◌-◌, ◌≤◌}
-use native.Mathlib.Omega.{arith}
-use mathlib.Core.Path.{◌≡◌, refl, ◌∙◌}
-use lib.ListN.{length, replicate, length-set}
+use mathlib.Core.Path.{◌≡◌}
+use lib.ListN.{length, replicate}
 use Rattle.lines.specs.Serving.Puts.{Puts}
-use borrow.Author.Rules.{rules}
-use Rattle.trees.proofs.TreeLaws.{spaces_none, spaces_on, spaces_all}
 use Rattle.trees.proofs.tree.put_spaces.Given as goal
 
 abbrev pub invariant-loop-i : goal.invariant-loop-i

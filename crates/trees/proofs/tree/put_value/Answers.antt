@@ -1,7 +1,6 @@
 -- `put_value` meets its contract: the text, or that there is none.
 use native.Mathlib.Omega.{arith}
 use Rattle.trees.proofs.TreeLaws.{value-absent, value_there}
-use borrow.Author.Rules.{rules}
 use Rattle.trees.proofs.tree.put_value.Goals as goal
 
 pub returns-then-value-eq0 : goal.returns-then-value-eq0

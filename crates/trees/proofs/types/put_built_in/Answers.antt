@@ -2,7 +2,6 @@
 use native.Mathlib.Omega.{arith}
 use Rattle.lines.proofs.TextLaws.{puts_as}
 use Rattle.trees.proofs.TypeLaws.{none_named, built_in-named, built_in-short}
-use borrow.Author.Rules.{rules}
 use Rattle.trees.proofs.types.put_built_in.Goals as goal
 
 pub returns-then-t-eq0 : goal.returns-then-t-eq0

@@ -1,6 +1,5 @@
 -- `put_name` meets its contract: a name below the rows, or a row.
 use Rattle.trees.proofs.TypeLaws.{name_below, name-row}
-use borrow.Author.Rules.{rules}
 use Rattle.trees.proofs.types.put_name.Goals as goal
 
 pub returns-then-reference-lt-FIRST_ROW : goal.returns-then-reference-lt-FIRST_ROW

@@ -1,7 +1,6 @@
 -- `put_row` meets its contract: the name, or why there is none.
 use native.Mathlib.Omega.{arith}
 use Rattle.trees.proofs.TypeLaws.{row_named, row-inline, row_unknown}
-use borrow.Author.Rules.{rules}
 use Rattle.trees.proofs.types.put_row.Goals as goal
 
 pub returns-then-name-ne0 : goal.returns-then-name-ne0

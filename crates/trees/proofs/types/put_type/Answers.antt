@@ -1,7 +1,6 @@
 -- `put_type` meets its contract: plain, or in brackets.
 use native.Mathlib.Omega.{arith}
 use Rattle.trees.proofs.TypeLaws.{type-plain, type-array}
-use borrow.Author.Rules.{rules}
 use Rattle.trees.proofs.types.put_type.Goals as goal
 
 pub returns-then-array-eq0 : goal.returns-then-array-eq0

@@ -1,11 +1,9 @@
 -- `cut_from` meets its contract. The invariant: from where it is, with the columns left, the cut begins where it does from the place. The measure is the bytes left.
-use Prim.Native.Nat.{◌+◌, ◌-◌, ◌≤◌}
+use Prim.Native.Nat.{◌-◌}
 use native.Mathlib.Omega.{arith}
-use mathlib.Core.Path.{◌≡◌, refl, sym, ◌∙◌}
+use mathlib.Core.Path.{refl, sym, ◌∙◌}
 use lib.ListN.{get_or}
-use Rattle.wordings.specs.Excerpts.{side_columns, cut_from}
 use Rattle.wordings.proofs.ExcerptLaws.{some_columns, not_shut, from-stop, from_on, from_start}
-use borrow.Author.Rules.{rules}
 use Rattle.wordings.proofs.excerpts.cut_from.Goals as goal
 
 pub loop-i-init : goal.loop-i-init

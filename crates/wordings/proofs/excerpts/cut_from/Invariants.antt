@@ -1,11 +1,7 @@
 -- `cut_from` meets its contract. The invariant: from where it is, with the columns left, the cut begins where it does from the place. The measure is the bytes left.
-use Prim.Native.Nat.{◌+◌, ◌-◌, ◌≤◌}
-use native.Mathlib.Omega.{arith}
-use mathlib.Core.Path.{◌≡◌, refl, sym, ◌∙◌}
-use lib.ListN.{get_or}
+use Prim.Native.Nat.{◌+◌, ◌≤◌}
+use mathlib.Core.Path.{◌≡◌}
 use Rattle.wordings.specs.Excerpts.{side_columns, cut_from}
-use Rattle.wordings.proofs.ExcerptLaws.{some_columns, not_shut, from-stop, from_on, from_start}
-use borrow.Author.Rules.{rules}
 use Rattle.wordings.proofs.excerpts.cut_from.Given as goal
 
 abbrev pub invariant-loop-i : goal.invariant-loop-i

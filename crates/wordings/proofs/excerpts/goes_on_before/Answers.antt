@@ -1,7 +1,6 @@
 -- `goes_on_before` meets its contract, by the byte before.
 use native.Mathlib.Omega.{arith}
 use Rattle.wordings.proofs.ExcerptLaws.{before-start, before-byte}
-use borrow.Author.Rules.{rules}
 use Rattle.wordings.proofs.excerpts.goes_on_before.Goals as goal
 
 pub returns-then-i-eq0 : goal.returns-then-i-eq0

@@ -1,6 +1,5 @@
 -- `goes_on_from` meets its contract, by the byte there.
 use Rattle.wordings.proofs.ExcerptLaws.{from_end, from_byte}
-use borrow.Author.Rules.{rules}
 use Rattle.wordings.proofs.excerpts.goes_on_from.Goals as goal
 
 pub returns-then-s-i : goal.returns-then-s-i

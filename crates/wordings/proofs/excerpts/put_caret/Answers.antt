@@ -3,7 +3,6 @@ use Prim.Native.Nat.{ℕ}
 use native.Mathlib.Omega.{arith}
 use lib.ListN.{length-replicate}
 use Rattle.lines.proofs.TextLaws.{puts-on}
-use borrow.Author.Rules.{rules}
 use Rattle.wordings.proofs.excerpts.put_caret.Goals as goal
 
 pub put_bytes-requires : goal.put_bytes-requires

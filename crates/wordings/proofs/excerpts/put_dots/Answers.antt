@@ -1,7 +1,6 @@
 -- `put_dots` meets its contract: three dots, or nothing.
 use native.Mathlib.Omega.{arith}
 use Rattle.wordings.proofs.ExcerptLaws.{puts-dots, no_dots}
-use borrow.Author.Rules.{rules}
 use Rattle.wordings.proofs.excerpts.put_dots.Goals as goal
 
 pub returns-then-more : goal.returns-then-more

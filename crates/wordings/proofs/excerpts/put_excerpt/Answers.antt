@@ -1,7 +1,6 @@
 -- `put_excerpt` meets its contract: the line, and the caret under the place.
 use mathlib.Core.Path.{refl}
 use Rattle.wordings.proofs.ExcerptLaws.{puts-excerpt}
-use borrow.Author.Rules.{rules}
 use Rattle.wordings.proofs.excerpts.put_excerpt.Goals as goal
 
 pub returns : goal.returns

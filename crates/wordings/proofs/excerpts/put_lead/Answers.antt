@@ -1,7 +1,6 @@
 -- `put_lead` meets its contract: an indent, dots where the line goes on, and the bytes before the place.
 use native.Mathlib.Omega.{arith}
 use Rattle.wordings.proofs.ExcerptLaws.{puts-lead}
-use borrow.Author.Rules.{rules}
 use Rattle.wordings.proofs.excerpts.put_lead.Goals as goal
 
 pub returns : goal.returns

@@ -1,7 +1,6 @@
 -- `put_rest` meets its contract: the bytes from the place on, and dots where the line goes on.
 use native.Mathlib.Omega.{arith}
 use Rattle.wordings.proofs.ExcerptLaws.{puts-rest}
-use borrow.Author.Rules.{rules}
 use Rattle.wordings.proofs.excerpts.put_rest.Goals as goal
 
 pub returns : goal.returns

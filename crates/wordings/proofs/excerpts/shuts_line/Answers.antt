@@ -3,7 +3,6 @@ use mathlib.Core.Path.{ap, ◌∙◌}
 use Prim.Native.Nat.{ℕ}
 use lib.Dec.{ltb}
 use Rattle.wordings.proofs.ExcerptLaws.{shuts-end, shuts-by}
-use borrow.Author.Rules.{rules}
 use Rattle.wordings.proofs.excerpts.shuts_line.Goals as goal
 
 pub returns-then-b-eq10 : goal.returns-then-b-eq10

@@ -2,7 +2,6 @@
 use mathlib.Core.Path.{sym, ap}
 use Rattle.rules.specs.declared.MessageRefusal.{MessageRefusal}
 use Rattle.wordings.specs.Wordings.{message_points}
-use borrow.Author.Rules.{rules}
 use Rattle.wordings.proofs.heads.message_points.Goals as goal
 
 pub returns-in-NoReading : goal.returns-in-NoReading

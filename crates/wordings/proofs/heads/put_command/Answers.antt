@@ -1,6 +1,5 @@
 -- `put_command` meets its contract: three pieces, one after another.
 use Rattle.wordings.proofs.HeadLaws.{puts-command}
-use borrow.Author.Rules.{rules}
 use Rattle.wordings.proofs.heads.put_command.Goals as goal
 
 pub returns : goal.returns

@@ -4,7 +4,6 @@ use native.Mathlib.Omega.{arith}
 use mathlib.Core.Path.{refl}
 use Rattle.lines.proofs.TextLaws.{puts_as}
 use Rattle.wordings.proofs.HeadLaws.{meaning_part, meaning_short, no_meaning}
-use borrow.Author.Rules.{rules}
 use Rattle.wordings.proofs.heads.put_meaning.Goals as goal
 
 pub returns-then-n-ge-NUMBERS : goal.returns-then-n-ge-NUMBERS

@@ -1,8 +1,6 @@
 -- `put_message_pointer` meets its contract: nothing, or the line.
 use native.Mathlib.Omega.{arith}
-use borrow.Author.Tests.{not-true, not-false}
 use Rattle.wordings.proofs.HeadLaws.{message_unpointed, message_pointed}
-use borrow.Author.Rules.{rules}
 use Rattle.wordings.proofs.heads.put_message_pointer.Goals as goal
 
 pub returns-then-not-points : goal.returns-then-not-points

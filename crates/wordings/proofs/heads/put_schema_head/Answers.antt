@@ -3,7 +3,6 @@ use mathlib.Core.Path.{sym, ap}
 use Rattle.lines.proofs.TextLaws.{puts_as}
 use Rattle.wordings.specs.Wordings.{schema_head}
 use Rattle.wordings.proofs.HeadLaws.{schema-refused}
-use borrow.Author.Rules.{rules}
 use Rattle.wordings.proofs.heads.put_schema_head.Goals as goal
 
 pub returns-in-Accepted : goal.returns-in-Accepted

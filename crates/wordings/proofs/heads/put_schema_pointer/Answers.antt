@@ -1,8 +1,6 @@
 -- `put_schema_pointer` meets its contract: nothing, or the line and column and the line itself.
 use native.Mathlib.Omega.{arith}
-use borrow.Author.Tests.{not-true, not-false}
 use Rattle.wordings.proofs.HeadLaws.{unpointed, pointed}
-use borrow.Author.Rules.{rules}
 use Rattle.wordings.proofs.heads.put_schema_pointer.Goals as goal
 
 pub returns-then-not-points : goal.returns-then-not-points

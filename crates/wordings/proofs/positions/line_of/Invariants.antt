@@ -1,11 +1,8 @@
 -- `line_of` meets its contract. The invariant: the lines counted and those that end before are all. The measure is the bytes left.
-use Prim.Native.Nat.{◌+◌, ◌-◌, ◌≤◌}
-use native.Mathlib.Omega.{arith}
+use Prim.Native.Nat.{◌+◌, ◌≤◌}
 use mathlib.Core.Path.{◌≡◌}
 use Rattle.trees.specs.Backwards.{back}
 use Rattle.wordings.specs.Excerpts.{line_ends, line_of}
-use Rattle.wordings.proofs.ExcerptLaws.{ends_on, ends-none, ends-few}
-use borrow.Author.Rules.{rules}
 use Rattle.wordings.proofs.positions.line_of.Given as goal
 
 abbrev pub invariant-loop-i : goal.invariant-loop-i

@@ -1,11 +1,6 @@
 -- `line_start` meets its contract. The invariant: no LF was passed. The measure is the bytes left.
-use Prim.Native.Nat.{◌+◌, ◌≤◌}
 use native.Mathlib.Omega.{arith}
-use mathlib.Core.Path.{◌≡◌}
-use Rattle.lines.specs.Lines.{before_lf}
-use Rattle.trees.specs.Backwards.{back}
 use Rattle.wordings.proofs.ExcerptLaws.{start-stop, start-on, start_none}
-use borrow.Author.Rules.{rules}
 use Rattle.wordings.proofs.positions.line_start.Goals as goal
 
 pub loop-i-init : goal.loop-i-init

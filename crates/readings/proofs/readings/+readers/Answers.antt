@@ -1,14 +1,14 @@
 -- The value reader and the member reader meet their contracts: by the type, by the content, and each loop by what is left to read.
 -- The measure is three times the levels left, and one or two more.
-use Prim.Native.Nat.{ℕ, ◌+◌, ◌-◌, ◌*◌, ◌<◌}
+use Prim.Native.Nat.{◌+◌, ◌*◌}
 use mathlib.Core.Path.{refl}
 use native.Mathlib.Omega.{arith}
 use borrow.Author.Rules.{rules}
 use Rattle.text.specs.Nodes.{node_words}
 use Rattle.readings.proofs.ReadLaws.{value_missing, value_direct, value-alternative, plain_misfit, plain-alone, plain_elements, plain-members, plain_flat_array, plain_flat_object}
-use Rattle.readings.proofs.ItemTurns.{ItemsSoFar, items-start, items-past, items-none, items_stuck, items_fail, items-done, items-again}
-use Rattle.readings.proofs.FieldTurns.{FieldsSoFar, fields-start, fields-past, fields_lack, fields_unmeant, fields-none, fields_stuck, fields_fail, fields-done, fields-again, met-fits}
-use Rattle.readings.proofs.readings.+read_fields_read_items_read_plain_read_value.Goals as goal
+use Rattle.readings.proofs.ItemTurns.{items-start, items-past, items-none, items_stuck, items_fail, items-done, items-again}
+use Rattle.readings.proofs.FieldTurns.{fields-start, fields-past, fields_lack, fields_unmeant, fields-none, fields_stuck, fields_fail, fields-done, fields-again, met-fits}
+use Rattle.readings.proofs.readings.+readers.Goals as goal
 
 pub read_fields-loop-key-init : goal.read_fields-loop-key-init
 read_fields-loop-key-init t c = fields-start _ _ _ _ _ _ c.requires.1

@@ -1,14 +1,9 @@
 -- The value reader and the member reader meet their contracts: by the type, by the content, and each loop by what is left to read.
 -- The measure is three times the levels left, and one or two more.
-use Prim.Native.Nat.{ℕ, ◌+◌, ◌-◌, ◌*◌, ◌<◌}
-use mathlib.Core.Path.{refl}
-use native.Mathlib.Omega.{arith}
-use borrow.Author.Rules.{rules}
-use Rattle.text.specs.Nodes.{node_words}
-use Rattle.readings.proofs.ReadLaws.{value_missing, value_direct, value-alternative, plain_misfit, plain-alone, plain_elements, plain-members, plain_flat_array, plain_flat_object}
-use Rattle.readings.proofs.ItemTurns.{ItemsSoFar, items-start, items-past, items-none, items_stuck, items_fail, items-done, items-again}
-use Rattle.readings.proofs.FieldTurns.{FieldsSoFar, fields-start, fields-past, fields_lack, fields_unmeant, fields-none, fields_stuck, fields_fail, fields-done, fields-again, met-fits}
-use Rattle.readings.proofs.readings.+read_fields_read_items_read_plain_read_value.Given as goal
+use Prim.Native.Nat.{◌+◌, ◌-◌, ◌*◌}
+use Rattle.readings.proofs.ItemTurns.{ItemsSoFar}
+use Rattle.readings.proofs.FieldTurns.{FieldsSoFar}
+use Rattle.readings.proofs.readings.+readers.Given as goal
 
 abbrev pub decreases-read_fields : goal.decreases-read_fields
 decreases-read_fields l = 3 * l.at.left + 2
