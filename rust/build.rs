@@ -15,7 +15,7 @@ fn main() {
     println!("cargo::rustc-link-lib=static=gateway");
     if !library.is_file() {
         println!(
-            "cargo::error={} is missing: run `rt staticlib gateway` in the project, or name the folder that has it in {FOLDER}",
+            "cargo::error={} is missing: run `./build gateway` in the project, or name the folder that has it in {FOLDER}",
             library.display()
         );
     }

@@ -88,7 +88,7 @@
 //!
 //! # Linking
 //!
-//! The build looks for `libgateway.a` (`rt staticlib gateway` makes it, for x86-64 Linux) in `target/staticlib` of the
+//! The build looks for `libgateway.a` (`./build gateway` makes it, for x86-64 Linux) in `target/staticlib` of the
 //! project, or in the folder that the environment variable `WINDOSPRIO_LIB_DIR` names by its whole path.
 
 #![deny(unsafe_code)]

@@ -9,6 +9,6 @@ fn main() {
     println!("cargo::rustc-link-search=native={}", folder.display());
     println!("cargo::rustc-link-lib=static=probe");
     if !library.is_file() {
-        println!("cargo::error=target/staticlib/libprobe.a is missing: run `rt staticlib probe` in the project");
+        println!("cargo::error=target/staticlib/libprobe.a is missing: run `./build probe` in the project");
     }
 }

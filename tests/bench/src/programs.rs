@@ -20,7 +20,7 @@ const RUST_PROGRAM: &str = "reference-gateway";
 pub fn line(inputs: &Inputs) -> Option<Line> {
     let program = Path::new(env!("CARGO_MANIFEST_DIR")).join(PROGRAM);
     if !program.is_file() {
-        eprintln!("no line for the program: run `rt check windosprio` in the project");
+        eprintln!("no line for the program: run `./build windosprio` in the project");
         return None;
     }
     let rust_program = std::env::current_exe().expect("a program knows where it is").with_file_name(RUST_PROGRAM);

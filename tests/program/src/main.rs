@@ -44,7 +44,7 @@ fn main() -> ExitCode {
     let program = match paths.first().map_or_else(default, PathBuf::from).canonicalize() {
         Ok(program) => program,
         Err(error) => {
-            println!("program: no program: {error}; run `rt check windosprio` in the project");
+            println!("program: no program: {error}; run `./build windosprio` in the project");
             return ExitCode::FAILURE;
         }
     };
