@@ -38,9 +38,6 @@ pub fn read_all<R: Files>(rt: &R, path: &str, room: &mut [u8]) -> Read
 {
     match fs::open(rt, path) {
         Err(_) => Read::Failed,
-        Ok(file) => {
-            let mut file = file;
-            read_from(&mut file, room)
-        }
+        Ok(mut file) => read_from(&mut file, room),
     }
 }
