@@ -17,9 +17,10 @@ use Rattle.grammar.specs.Serving.Machine.Out.{fault}
 use Rattle.grammar.proofs.Booleans.{by}
 use Rattle.grammar.proofs.TokenRuns.{CharRun, CharRun.char_whole, CharRun.char_on, CharStarts, CharStarts.char_starts, TokensSound, TokensComplete}
 use Rattle.grammar.proofs.Steps.{goes_on, scan_cons}
-use Rattle.strings.specs.declared.chars.Char.{Char}
-use Rattle.strings.specs.declared.chars.Char.TheVariants.{Code, Fault}
-use Rattle.strings.specs.Chars.{char_rest, char_next, char_from, rest_at, next_at, char_at}
+use Rattle.std.specs.Prelude.{Result, Ok, Err, IsErrAnd}
+use Rattle.std.proofs.lemmas.Result.{err_from_is_err_and}
+use Rattle.strings.specs.declared.chars.Fault.{Fault}
+use Rattle.strings.specs.Chars.{CharRead, Code, FaultAt, char_rest, char_next, char_from, rest_at, next_at, char_at}
 use Rattle.strings.specs.Strings.{StopsAt}
 
 -- the byte at place i, and what is left there
@@ -38,10 +39,35 @@ standing s p {b} {l} e = go (dec_lt p (length s))
     go (yes h) = let k = drop-cons s p 0 h in record { there = h; byte = cc; after = cc }
     go (no h) = let k = drop_of_length-le s {i = p} (omega arith) in let z : ◌≡◌ {A = ℕ} 0 1 = cc in absurd (omega arith)
 
-pub fault-not-code : {A : Type 0} {p c e : ℕ} → Fault p ≡ Code c e → A
+-- a fault that `?` hands on
+pub handed_on : {T : Type 0} {f : Fault} (r : Result T Fault) → IsErrAnd r (λ e. e ≡ f) → r ≡ Err f
+handed_on r h = let p = err_from_is_err_and r h in p.1 ∙ ap (λ (e : Fault). Err e) p.2
+
+-- what a reader's answer holds
+code_in : CharRead → ℕ
+code_in (Ok x) = x.code
+code_in (Err f) = 0
+
+end_in : CharRead → ℕ
+end_in (Ok x) = x.end
+end_in (Err f) = 0
+
+fault_in : {A : Type 0} → Result A Fault → ℕ
+fault_in (Ok x) = 0
+fault_in (Err f) = f.at
+
+pub same-char : {x c p e : ℕ} → Code x p ≡ Code c e → (x ≡ c) × (p ≡ e)
+unfolding code_in end_in
+same-char h = (ap code_in h, ap end_in h)
+
+pub same-fault : {A : Type 0} {p e : ℕ} → ◌≡◌ {A = Result A Fault} (FaultAt p) (FaultAt e) → p ≡ e
+unfolding fault_in
+same-fault h = ap fault_in h
+
+pub fault-not-code : {A : Type 0} {p c e : ℕ} → FaultAt p ≡ Code c e → A
 fault-not-code h = let z : ◌≡◌ {A = ℕ} 0 1 = cc in absurd (omega arith)
 
-pub code-not-fault : {A : Type 0} {p c e : ℕ} → Code c e ≡ Fault p → A
+pub code-not-fault : {A : Type 0} {p c e : ℕ} → Code c e ≡ FaultAt p → A
 code-not-fault h = let z : ◌≡◌ {A = ℕ} 0 1 = cc in absurd (omega arith)
 
 module _ (D : Dialect) where
@@ -49,7 +75,7 @@ module _ (D : Dialect) where
   unfolding char_rest
   rest_cons t p b l = go (D.char_step t b)
     where
-      go : (y : CharStep D.CharState) → elim y as (λ _. Char) [ stay t ↦ char_rest D t (suc p) l | char c ↦ Code c (suc p) | bad ↦ Fault p ] ≡ char_next D y p l
+      go : (y : CharStep D.CharState) → elim y as (λ _. CharRead) [ stay t ↦ char_rest D t (suc p) l | char c ↦ Code c (suc p) | bad ↦ FaultAt p ] ≡ char_next D y p l
       go (stay t) = refl
       go (char c) = refl
       go bad = refl
@@ -73,7 +99,7 @@ module _ (D : Dialect) where
 
   -- the answer gives a run
   whole : (s : List ℕ) {x c p e : ℕ} {l : List ℕ} → Code x p ≡ Code c e → drop p s ≡ l → CharRun D (char x) p l e (drop e s) c
-  whole s {x} {c} {p} {e} h g = let f : x ≡ c = cc in let k : p ≡ e = cc in rw (← f, ← k, g) char_whole
+  whole s {x} {c} {p} {e} h g = let f : x ≡ c = (same-char h).0 in let k : p ≡ e = (same-char h).1 in rw (← f, ← k, g) char_whole
 
   next-run : (s : List ℕ) {l : List ℕ} {p c e : ℕ} → drop (suc p) s ≡ l
       → ((t : D.CharState) → char_rest D t (suc p) l ≡ Code c e → CharRun D (stay t) (suc p) l e (drop e s) c)
@@ -90,16 +116,16 @@ module _ (D : Dialect) where
 
   -- a fault is a stop of the machine
   next-fault : (lim : ℕ) (d : StringRole) (acc : List ℕ) (k : Stack) (p e : ℕ) (l : List ℕ)
-      → ((t : D.CharState) → char_rest D t (suc p) l ≡ Fault e → scan D lim (InChar d acc t) k (suc p) l ≡ fault e)
-      → (y : CharStep D.CharState) → char_next D y p l ≡ Fault e → goes_on D lim (in_char D y d acc k) p l ≡ fault e
+      → ((t : D.CharState) → char_rest D t (suc p) l ≡ FaultAt e → scan D lim (InChar d acc t) k (suc p) l ≡ fault e)
+      → (y : CharStep D.CharState) → char_next D y p l ≡ FaultAt e → goes_on D lim (in_char D y d acc k) p l ≡ fault e
   next-fault lim d acc k p e l ih (stay t) h = ih t h
   next-fault lim d acc k p e l ih (char x) h = code-not-fault h
-  next-fault lim d acc k p e l ih bad h = let q : p ≡ e = cc in ap (λ (n : ℕ). fault n) q
+  next-fault lim d acc k p e l ih bad h = ap (λ (n : ℕ). fault n) (same-fault h)
 
   rest-fault : (lim : ℕ) (d : StringRole) (acc : List ℕ) (k : Stack) (l : List ℕ) (t : D.CharState) (p e : ℕ)
-      → char_rest D t p l ≡ Fault e → scan D lim (InChar d acc t) k p l ≡ fault e
+      → char_rest D t p l ≡ FaultAt e → scan D lim (InChar d acc t) k p l ≡ fault e
   unfolding char_rest scan
-  rest-fault lim d acc k [] t p e h = let q : p ≡ e = cc in ap (λ (n : ℕ). fault n) q
+  rest-fault lim d acc k [] t p e h = ap (λ (n : ℕ). fault n) (same-fault h)
   rest-fault lim d acc k (b ∷ l) t p e h =
       scan_cons D lim (InChar d acc t) k p b l
       ∙ next-fault lim d acc k p e l (λ u. rest-fault lim d acc k l u (suc p) e) (D.char_step t b) (sym (rest_cons t p b l) ∙ h)
@@ -134,7 +160,7 @@ module _ (D : Dialect) where
       go (char_starts t w) = rw t (run-code w)
 
   pub char_unique : TokensComplete D → {p q o c d : ℕ} {l r m : List ℕ} → D.lexis.Char p l q r c → D.lexis.Char p l o m d → (c ≡ d) × (q ≡ o)
-  char_unique L u v = let e = char-code L u in let f = char-code L v in (cc, cc)
+  char_unique L u v = same-char (sym (char-code L u) ∙ char-code L v)
 
   pub record Coded (s : List ℕ) (i c e : ℕ) (r : List ℕ) : Type 0 where
     pub code : char_at D s i ≡ Code c e
@@ -147,17 +173,17 @@ module _ (D : Dialect) where
       go : {i e c : ℕ} {l r : List ℕ} → CharStarts D i l e r c → drop i s ≡ l → drop e s ≡ r
       go (char_starts {p = i} t w) d = (run-within s w (standing s i d).after).left
 
-  pub no_char : (s : List ℕ) (i e : ℕ) → char_at D s i ≡ Fault e → (i < length s → D.lexis.quote (get_or s i 0) ≡ false)
+  pub no_char : (s : List ℕ) (i e : ℕ) → char_at D s i ≡ FaultAt e → (i < length s → D.lexis.quote (get_or s i 0) ≡ false)
       → (d : StringRole) (acc : List ℕ) → StopsAt D s (InString d acc) i e
   unfolding char_at char_from scan
   no_char s i e h n d acc lim k = go (drop i s) refl h
     where
-      stops : (b : ℕ) (l : List ℕ) → D.lexis.quote b ≡ false → char_next D (D.char_start b) i l ≡ Fault e → scan D lim (InString d acc) k i (b ∷ l) ≡ fault e
+      stops : (b : ℕ) (l : List ℕ) → D.lexis.quote b ≡ false → char_next D (D.char_start b) i l ≡ FaultAt e → scan D lim (InString d acc) k i (b ∷ l) ≡ fault e
       stops b l t h =
           scan_cons D lim (InString d acc) k i b l ∙ rw t (next-fault lim d acc k i e l (λ u. rest-fault lim d acc k l u (suc i) e) (D.char_start b) h)
 
-      go : (l : List ℕ) → drop i s ≡ l → char_from D i l ≡ Fault e → scan D lim (InString d acc) k i l ≡ fault e
-      go [] m h = let q : i ≡ e = cc in ap (λ (n : ℕ). fault n) q
+      go : (l : List ℕ) → drop i s ≡ l → char_from D i l ≡ FaultAt e → scan D lim (InString d acc) k i l ≡ fault e
+      go [] m h = ap (λ (n : ℕ). fault n) (same-fault h)
       go (b ∷ l) m h =
           let f = standing s i m in
           let t : D.lexis.quote b ≡ false = rw f.byte at (n f.there) in
@@ -172,13 +198,13 @@ module _ (D : Dialect) where
   unfolding next_at
   char_at_lem c s i = rw add-one refl
 
-  pub bad-at : (s : List ℕ) (i : ℕ) → next_at D bad s i ≡ Fault i
+  pub bad-at : (s : List ℕ) (i : ℕ) → next_at D bad s i ≡ FaultAt i
   unfolding next_at
   bad-at s i = refl
 
   -- a reader's step at place i of a text
   module _ (t : D.CharState) (s : List ℕ) (i : ℕ) where
-    pub at-end : length s ≤ i → Fault i ≡ rest_at D t s i
+    pub at-end : length s ≤ i → FaultAt i ≡ rest_at D t s i
     unfolding rest_at char_rest
     at-end h = rw (drop_of_length-le s h) refl
 
@@ -186,7 +212,7 @@ module _ (D : Dialect) where
     unfolding rest_at next_at
     at-step y h e = rw (drop-cons s i 0 h, ← e) (sym (rest_cons t i _ _))
 
-    pub at-bad : i < length s → D.char_step t (get_or s i 0) ≡ bad → Fault i ≡ rest_at D t s i
+    pub at-bad : i < length s → D.char_step t (get_or s i 0) ≡ bad → FaultAt i ≡ rest_at D t s i
     at-bad h e = sym (bad-at s i) ∙ at-step bad h e
 
     pub at-char : (c : ℕ) → i < length s → D.char_step t (get_or s i 0) ≡ char c → Code c (i + 1) ≡ rest_at D t s i
@@ -197,11 +223,11 @@ module _ (D : Dialect) where
 
   -- a character's first byte at place i
   module _ (s : List ℕ) (i : ℕ) where
-    pub none-at-end : length s ≤ i → Fault i ≡ char_at D s i
+    pub none-at-end : length s ≤ i → FaultAt i ≡ char_at D s i
     unfolding char_at char_from
     none-at-end h = rw (drop_of_length-le s h) refl
 
-    pub none-at-quote : i < length s → D.lexis.quote (get_or s i 0) ≡ true → Fault i ≡ char_at D s i
+    pub none-at-quote : i < length s → D.lexis.quote (get_or s i 0) ≡ true → FaultAt i ≡ char_at D s i
     unfolding char_at char_from
     none-at-quote h e = rw (drop-cons s i 0 h, e) refl
 

@@ -15,12 +15,12 @@ use Rattle.grammar.specs.Notation.{same}
 use Rattle.grammar.specs.Grammar.{Chars, Chars.close, Chars.char}
 use Rattle.grammar.specs.Serving.Machine.{Dialect}
 use Rattle.strings.specs.declared.dialects.Dialect as Dialects
-use Rattle.strings.specs.declared.chars.Char.{Char}
-use Rattle.strings.specs.declared.chars.Char.TheVariants.{Code, Fault}
-use Rattle.strings.specs.Chars.{char_at}
+use Rattle.std.specs.Prelude.{Err}
+use Rattle.strings.specs.declared.chars.Fault.{Fault}
+use Rattle.strings.specs.Chars.{CharRead, Code, FaultAt, char_at}
 use Rattle.strings.specs.Strings.{grammar_of}
 use Rattle.strings.specs.Meanings.{CodesMean, CodesSame}
-use Rattle.strings.proofs.CharRuns.{here, standing, fault-not-code, code-not-fault, char-coded, none-at-end, none-at-quote}
+use Rattle.strings.proofs.CharRuns.{here, same-char, standing, fault-not-code, code-not-fault, char-coded, none-at-end, none-at-quote}
 use Rattle.strings.proofs.StringRuns.{Agrees}
 use Rattle.strings.proofs.StringReads.{agrees}
 
@@ -37,7 +37,7 @@ pub record More (D : Dialect) (s : List ℕ) (c e q : ℕ) (cs : List ℕ) : Typ
 module _ (D : Dialect) (A : Agrees D) (s : List ℕ) where
   -- it ends at once, or a character stands there
   pub data Next (i q : ℕ) : List ℕ → Type 0 where
-    ends : i < length s → q ≡ i + 1 → Fault i ≡ char_at D s i → Next i q []
+    ends : i < length s → q ≡ i + 1 → FaultAt i ≡ char_at D s i → Next i q []
     goes : {c e : ℕ} {cs : List ℕ} → char_at D s i ≡ Code c e → Left D s e q cs → Next i q (c ∷ cs)
 
   pub next : {i q : ℕ} {cs : List ℕ} → Left D s i q cs → Next i q cs
@@ -48,8 +48,8 @@ module _ (D : Dialect) (A : Agrees D) (s : List ℕ) where
       split (char {cs = cs} c w) d f = let k = char-coded D A.complete s c d in goes {cs = cs} k.code (rw (k.left, f) w)
 
   -- what a reader's answer says of it
-  module _ {i : ℕ} {r : Char} (f : r ≡ char_at D s i) where
-    pub no_more : (q : ℕ) {e : ℕ} {cs : List ℕ} → r ≡ Fault e → Left D s i q cs → cs ≡ []
+  module _ {i : ℕ} {r : CharRead} (f : r ≡ char_at D s i) where
+    pub no_more : (q : ℕ) {e : Fault} {cs : List ℕ} → r ≡ Err e → Left D s i q cs → cs ≡ []
     no_more q g w = go (next w)
       where
         go : {cs : List ℕ} → Next i q cs → cs ≡ []
@@ -62,9 +62,9 @@ module _ (D : Dialect) (A : Agrees D) (s : List ℕ) where
         go : {cs : List ℕ} → Next i q cs → More D s c e q cs
         go (ends h k x) = fault-not-code (x ∙ sym f ∙ g)
         go (goes {c = d} {e = k} {cs = ds} x w) =
-            let y = sym x ∙ sym f ∙ g in
-            let m : d ≡ c = cc in
-            let n : k ≡ e = cc in
+            let y = same-char (sym x ∙ sym f ∙ g) in
+            let m : d ≡ c = y.0 in
+            let n : k ≡ e = y.1 in
             record { rest = ds; codes = ap (λ (c : ℕ). c ∷ ds) m; chars = rw n at w }
 
   pub none-past : {A : Type 0} (i q : ℕ) (cs : List ℕ) → length s ≤ i → Left D s i q cs → A
@@ -97,8 +97,8 @@ module _ (d : Dialects.Dialect) {s : List ℕ} {a : ℕ} {name : List ℕ} {i j 
   answer : {r : Bool} → ((q : ℕ) (ds : List ℕ) → Left (grammar_of d) s i q ds → r ≡ same ds (drop j name)) → CodesMean (grammar_of d) s a name r
   answer f = record { told = λ e cs m. let k = w.left e cs m.chars in f e k.0 k.1 ∙ sym k.2 }
 
-  module _ {r : Char} (f : r ≡ char_at (grammar_of d) s i) where
-    pub name-ended : {e : ℕ} → r ≡ Fault e → CodesMean (grammar_of d) s a name (eqb j (length name))
+  module _ {r : CharRead} (f : r ≡ char_at (grammar_of d) s i) where
+    pub name-ended : {e : Fault} → r ≡ Err e → CodesMean (grammar_of d) s a name (eqb j (length name))
     name-ended g = answer (λ q ds l. rw (no_more (grammar_of d) (agrees d) s f q g l) (at-end name j w.within))
 
     module _ {c e : ℕ} (g : r ≡ Code c e) where
@@ -146,14 +146,14 @@ module _ (d : Dialects.Dialect) {s : List ℕ} {a b i j : ℕ} (w : Pairing (gra
   pub pair-past : length s ≤ i → CodesSame (grammar_of d) s a b false
   pair-past h = verdict (λ q p xs ys v u. none-past (grammar_of d) (agrees d) s i q xs h v)
 
-  module _ {x y : Char} (f : x ≡ char_at (grammar_of d) s i) (g : y ≡ char_at (grammar_of d) s j) where
-    pub both-ended : {e o : ℕ} → x ≡ Fault e → y ≡ Fault o → CodesSame (grammar_of d) s a b true
+  module _ {x y : CharRead} (f : x ≡ char_at (grammar_of d) s i) (g : y ≡ char_at (grammar_of d) s j) where
+    pub both-ended : {e o : Fault} → x ≡ Err e → y ≡ Err o → CodesSame (grammar_of d) s a b true
     both-ended k l = verdict (λ q p xs ys v u. rw (no_more (grammar_of d) (agrees d) s f q k v, no_more (grammar_of d) (agrees d) s g p l u) refl)
 
-    pub first_ended : {e n o : ℕ} → x ≡ Fault e → y ≡ Code n o → CodesSame (grammar_of d) s a b false
+    pub first_ended : {e : Fault} {n o : ℕ} → x ≡ Err e → y ≡ Code n o → CodesSame (grammar_of d) s a b false
     first_ended k l = verdict (λ q p xs ys v u. rw (no_more (grammar_of d) (agrees d) s f q k v, (one_more (grammar_of d) (agrees d) s g p l u).codes) refl)
 
-    pub second_ended : {c e o : ℕ} → x ≡ Code c e → y ≡ Fault o → CodesSame (grammar_of d) s a b false
+    pub second_ended : {c e : ℕ} {o : Fault} → x ≡ Code c e → y ≡ Err o → CodesSame (grammar_of d) s a b false
     second_ended k l = verdict (λ q p xs ys v u. rw ((one_more (grammar_of d) (agrees d) s f q k v).codes, no_more (grammar_of d) (agrees d) s g p l u) refl)
 
     module _ {c e n o : ℕ} (k : x ≡ Code c e) (l : y ≡ Code n o) where

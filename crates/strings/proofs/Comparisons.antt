@@ -11,10 +11,9 @@ use lib.Seq.{drop-cons}
 use Rattle.grammar.specs.Notation.{same}
 use Rattle.grammar.specs.Serving.Machine.{Dialect}
 use Rattle.strings.specs.declared.dialects.Dialect as Dialects
-use Rattle.strings.specs.declared.chars.Char.TheVariants.{Code}
-use Rattle.strings.specs.Chars.{char_at}
+use Rattle.strings.specs.Chars.{Code, char_at}
 use Rattle.strings.specs.Strings.{grammar_of, plain_byte, plain_string, Means}
-use Rattle.strings.specs.Meanings.{inside, Spans, BytesMean, BytesSame, CodesMean, CodesSame, MeansName, MeansSame}
+use Rattle.strings.specs.Meanings.{inside, CodesMean, CodesSame, MeansName, MeansSame}
 use Rattle.strings.proofs.StringRuns.{plain_at}
 use Rattle.strings.proofs.StringReads.{agrees, moves}
 use Rattle.strings.proofs.PlainBytes.{Alone, plain-alone}
@@ -59,22 +58,19 @@ module _ (b : Dialects.Dialect) {s : List ℕ} {a e : ℕ} where
       let n : e - (a + 1) - 1 ≡ e - a - 2 = omega arith in
       w.codes ∙ ap (λ (k : ℕ). take k (drop (a + 1) s)) n
 
-pub spans : {D : Dialect} {s : List ℕ} {a e : ℕ} {cs : List ℕ} → Means D s a e cs → Spans s a e
-spans m = record { wide = m.wide; within = m.within }
-
 -- a string against a name
 module _ {s : List ℕ} {a e : ℕ} {plain : Bool} {name : List ℕ} {r : Bool} where
-  pub name-plain : (b : Dialects.Dialect) → plain ≡ true → BytesMean s a e name r → MeansName (grammar_of b) s a e plain name r
-  name-plain b t w = record { told = λ cs m p. w.told (spans m) ∙ ap (λ (l : List ℕ). same l name) (sym (plain-means b m (p t))) }
+  pub name-plain : (b : Dialects.Dialect) → plain ≡ true → r ≡ same (inside s a e) name → MeansName (grammar_of b) s a e plain name r
+  name-plain b t w = record { told = λ cs m p. w ∙ ap (λ (l : List ℕ). same l name) (sym (plain-means b m (p t))) }
 
   pub name-coded : (D : Dialect) → CodesMean D s a name r → MeansName D s a e plain name r
   name-coded D w = record { told = λ cs m p. w.told e cs m }
 
 -- two strings
 module _ {s : List ℕ} {a e b f : ℕ} {plain_a plain_b r : Bool} where
-  pub strings_plain : (d : Dialects.Dialect) → plain_a ≡ true → plain_b ≡ true → BytesSame s a e b f r → MeansSame (grammar_of d) s a e plain_a b f plain_b r
+  pub strings_plain : (d : Dialects.Dialect) → plain_a ≡ true → plain_b ≡ true → r ≡ same (inside s a e) (inside s b f) → MeansSame (grammar_of d) s a e plain_a b f plain_b r
   strings_plain d t u w =
-      record { told = λ cs ds m n p q. w.told (spans m) (spans n) ∙ ap₂ (λ (x y : List ℕ). same x y) (sym (plain-means d m (p t))) (sym (plain-means d n (q u))) }
+      record { told = λ cs ds m n p q. w ∙ ap₂ (λ (x y : List ℕ). same x y) (sym (plain-means d m (p t))) (sym (plain-means d n (q u))) }
 
   pub strings_coded : (D : Dialect) → CodesSame D s a b r → MeansSame D s a e plain_a b f plain_b r
   strings_coded D w = record { told = λ cs ds m n p q. w.told e f cs ds m n }

@@ -8,10 +8,9 @@ use lib.ListN.{length, get_or, set, take, length-append, length-set, length-take
 use lib.Seq.{take-suc-set, get_or_at}
 use Rattle.grammar.specs.Serving.Machine.{Dialect}
 use Rattle.strings.specs.declared.dialects.Dialect as Dialects
-use Rattle.strings.specs.declared.chars.Char.{Char}
-use Rattle.strings.specs.declared.chars.Char.TheVariants.{Code, Fault}
-use Rattle.strings.specs.declared.decoded.Decoded.TheVariants.{Whole, Other}
-use Rattle.strings.specs.Chars.{char_at}
+use Rattle.std.specs.Prelude.{Some, None, Err}
+use Rattle.strings.specs.declared.chars.Fault.{Fault}
+use Rattle.strings.specs.Chars.{CharRead, Code, char_at}
 use Rattle.strings.specs.Strings.{grammar_of}
 use Rattle.strings.specs.Bytes.{Bytes}
 use Rattle.strings.specs.Decoding.{Decodes}
@@ -27,12 +26,12 @@ pub decoding_starts : (D : Dialect) (s : List ℕ) (a : ℕ) (bytes : List ℕ) 
 decoding_starts D s a bytes = record { within = omega arith; left = λ q cs w. (cs, w, refl) }
 
 -- a string that does not lie within the text means nothing
-pub decoding_outside : (D : Dialect) (s : List ℕ) (a : ℕ) (bytes : List ℕ) → length s ≤ a → Decodes D s a bytes Other
+pub decoding_outside : (D : Dialect) (s : List ℕ) (a : ℕ) (bytes : List ℕ) → length s ≤ a → Decodes D s a bytes None
 decoding_outside D s a bytes h = record { fits = omega arith; told = λ e cs m. absurd (omega (arith, m.wide, m.within)) }
 
 module _ (d : Dialects.Dialect) {s : List ℕ} {a : ℕ} {bytes : List ℕ} {n i : ℕ} (w : DecodedSoFar (grammar_of d) s a bytes n i) where
-  module _ {r : Char} (f : r ≡ char_at (grammar_of d) s i) where
-    pub decoding_ends : {e : ℕ} → r ≡ Fault e → Decodes (grammar_of d) s a bytes (Whole n)
+  module _ {r : CharRead} (f : r ≡ char_at (grammar_of d) s i) where
+    pub decoding_ends : {x : Fault} → r ≡ Err x → Decodes (grammar_of d) s a bytes (Some n)
     decoding_ends g =
         record {
           fits = w.within;
@@ -52,17 +51,17 @@ module _ (d : Dialects.Dialect) {s : List ℕ} {a : ℕ} {bytes : List ℕ} {n i
       taken : length (take n bytes) ≡ n
       taken = simp length-take (omega (arith, w.within))
 
-      other : ((ds x : List ℕ) → Bytes x → length x ≤ length bytes → x ≡ take n bytes ++ c ∷ ds → ⊥) → Decodes (grammar_of d) s a bytes Other
+      other : ((ds x : List ℕ) → Bytes x → length x ≤ length bytes → x ≡ take n bytes ++ c ∷ ds → ⊥) → Decodes (grammar_of d) s a bytes None
       other n =
           record {
             fits = omega arith;
             told = λ q cs m. let k = whole q cs m.chars in record { other = λ x b l y. n k.0 x b l (y ∙ k.2) };
           }
 
-      pub too_many : length bytes ≤ n → Decodes (grammar_of d) s a bytes Other
+      pub too_many : length bytes ≤ n → Decodes (grammar_of d) s a bytes None
       too_many h = other (λ ds x b l y. omega (arith, taken, simp length-append at (ap length y)))
 
-      pub no_byte : 255 < c → Decodes (grammar_of d) s a bytes Other
+      pub no_byte : 255 < c → Decodes (grammar_of d) s a bytes None
       no_byte h = other (λ ds x b l y. omega (arith, b n, ap (λ (z : List ℕ). get_or z n 0) y, get_or_at (take n bytes) c ds 0 n taken))
 
       pub decoding_more : n < length bytes → DecodedSoFar (grammar_of d) s a (set bytes n c) (n + 1) e
@@ -72,5 +71,5 @@ module _ (d : Dialects.Dialect) {s : List ℕ} {a : ℕ} {bytes : List ℕ} {n i
             left = λ q cs v. let k = whole q cs v in (k.0, k.1, k.2 ∙ sym (rw (add-one n, take-suc-set bytes n c h) (append_assoc (take n bytes) (c ∷ []) k.0)));
           }
 
-  pub decoding_past : length s ≤ i → Decodes (grammar_of d) s a bytes Other
+  pub decoding_past : length s ≤ i → Decodes (grammar_of d) s a bytes None
   decoding_past h = record { fits = omega arith; told = λ e cs n. let k = w.left e cs n.chars in none-past (grammar_of d) (agrees d) s i e k.0 h k.1 }

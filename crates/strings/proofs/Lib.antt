@@ -1,10 +1,10 @@
 pub mod Tables
+pub mod ByteClasses
 pub mod CharRuns
 pub mod Utf8
 pub mod MessageChars
 pub mod SchemaChars
 pub mod PlainBytes
-pub mod ByteNumbers
 pub mod Parts
 pub mod StringRuns
 pub mod StringReads

@@ -19,11 +19,11 @@ use Rattle.grammar.proofs.Booleans.{clash, by, either, both, within-true, within
 use Rattle.grammar.proofs.SchemaDialect.{schema-tokens-sound}
 use Rattle.strings.specs.declared.dialects.Dialect.{Dialect}
 use Rattle.strings.specs.declared.dialects.Dialect.TheVariants.{Schema, Message}
-use Rattle.strings.specs.declared.chars.Char.TheVariants.{Code}
-use Rattle.strings.specs.Classes.{named, class_of, first_plain_class}
-use Rattle.strings.specs.Chars.{char_at}
+use Rattle.strings.specs.declared.class.Class.{Class}
+use Rattle.strings.specs.Classes.{named, class_of, plain_class}
+use Rattle.strings.specs.Chars.{Code, char_at}
 use Rattle.strings.specs.Strings.{grammar_of, plain_byte}
-use Rattle.strings.proofs.CharRuns.{standing, fault-not-code, char-there, none-at-quote}
+use Rattle.strings.proofs.CharRuns.{standing, same-char, fault-not-code, char-there, none-at-quote}
 use Rattle.strings.proofs.MessageChars.{starts-plain}
 
 -- a byte that stands for itself in a message string
@@ -46,19 +46,19 @@ plain-true b t =
     (g.0, g.1, λ e. clash h.1 (ap not (eq-eqb b (code "\\") e)))
 
 -- the classes of plain bytes are those bytes
-pub class_itself : (b : ℕ) → first_plain_class ≤ class_of b → Itself b
+pub class_itself : (b : ℕ) → plain_class (class_of b) ≡ true → Itself b
 unfolding class_of
 class_itself b =
     by P (eqb b (code " ")) (λ t _. let e = eqb-true b (code " ") t in record { from = omega arith; upto = omega arith; no_quote = omega arith; no_backslash = omega arith })
-    (λ _. by P (blank b) (λ _ h. absurd (omega arith))
-    (λ _. by P (leb b 0x1F) (λ _ h. absurd (omega arith))
-    (λ f. by P (leb 0x80 b) (λ _ h. absurd (omega arith))
-    (λ g. by P (eqb b (code "\"")) (λ _ h. absurd (omega arith))
-    (λ q. by P (eqb b (code "\\")) (λ _ h. absurd (omega arith))
+    (λ _. by P (blank b) (λ _ h. clash h refl)
+    (λ _. by P (leb b 0x1F) (λ _ h. clash h refl)
+    (λ f. by P (leb 0x80 b) (λ _ h. clash h refl)
+    (λ g. by P (eqb b (code "\"")) (λ _ h. clash h refl)
+    (λ q. by P (eqb b (code "\\")) (λ _ h. clash h refl)
     (λ r _. record { from = leb-false b 0x1F f; upto = omega (arith, leb-false 0x80 b g); no_quote = eqb-false b _ q; no_backslash = eqb-false b _ r }))))))
   where
-    P : ℕ → Type 0
-    P n = first_plain_class ≤ n → Itself b
+    P : Class → Type 0
+    P n = plain_class n ≡ true → Itself b
 
 below_plain : (b : ℕ) → b < 0x20 → plain_byte b ≡ false
 below_plain b h = simp (within-below 0x20 0x7F b h)
@@ -73,19 +73,19 @@ blank-coded b f =
     (λ t. let e = eqb-true b (code "\r") t in below_plain b (omega arith))
 
 -- of the others only the quotation mark is plain
-pub class_coded : (b : ℕ) → class_of b < first_plain_class → (b ≡ code "\"" → ⊥) → plain_byte b ≡ false
+pub class_coded : (b : ℕ) → plain_class (class_of b) ≡ false → (b ≡ code "\"" → ⊥) → plain_byte b ≡ false
 unfolding class_of
 class_coded b =
-    by P (eqb b (code " ")) (λ _ h. absurd (omega arith))
+    by P (eqb b (code " ")) (λ _ h. clash refl h)
     (λ f. by P (blank b) (λ t _ _. blank-coded b f t)
     (λ _. by P (leb b 0x1F) (λ t _ _. below_plain b (omega (arith, leb-true b 0x1F t)))
     (λ _. by P (leb 0x80 b) (λ t _ _. simp (within-above 0x20 0x7F b (leb-true 0x80 b t)))
     (λ _. by P (eqb b (code "\"")) (λ t _ n. absurd (n (eqb-true b (code "\"") t)))
     (λ _. by P (eqb b (code "\\")) (λ t _ _. rw (eqb-true b (code "\\") t) refl)
-    (λ _. by P (within (code "0") (code "9") b) (λ _ h. absurd (omega arith)) (λ _. by P (named b) (λ _ h. absurd (omega arith)) (λ _ h. absurd (omega arith)))))))))
+    (λ _. by P (within (code "0") (code "9") b) (λ _ h. clash refl h) (λ _. by P (named b) (λ _ h. clash refl h) (λ _ h. clash refl h))))))))
   where
-    P : ℕ → Type 0
-    P n = n < first_plain_class → (b ≡ code "\"" → ⊥) → plain_byte b ≡ false
+    P : Class → Type 0
+    P n = plain_class n ≡ false → (b ≡ code "\"" → ⊥) → plain_byte b ≡ false
 
 -- a plain byte is its own code point
 pub record Alone (s : List ℕ) (i c e : ℕ) : Type 0 where
@@ -105,7 +105,7 @@ message-alone s i c e h t f = go (eqb (get_or s i 0) (code "\"")) refl
     go true q = fault-not-code (none-at-quote message s i h q ∙ f)
     go false q =
         let k = starts-plain s i h refl p.0 p.1 (eqb-false (get_or s i 0) (code "\"") q) p.2 ∙ f in
-        record { byte = cc; end = cc }
+        record { byte = sym (same-char k).0; end = sym (same-char k).1 }
 
 -- a character of a schema string is such a byte, or two backslashes
 pub data SchemaCode (s : List ℕ) (i c e : ℕ) : Type 0 where

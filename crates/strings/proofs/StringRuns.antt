@@ -15,9 +15,10 @@ use Rattle.grammar.proofs.Booleans.{clash}
 use Rattle.grammar.proofs.Lists.{all-at, all_of_at}
 use Rattle.grammar.proofs.TokenRuns.{TokensSound, TokensComplete}
 use Rattle.grammar.proofs.Complete.{char-run}
-use Rattle.strings.specs.declared.chars.Char.TheVariants.{Code, Fault}
-use Rattle.strings.specs.declared.strings.StringRead.TheVariants as Answer
-use Rattle.strings.specs.Chars.{char_at}
+use Rattle.std.specs.Prelude.{Ok, Err}
+use Rattle.strings.specs.declared.chars.Fault.{Fault}
+use Rattle.strings.specs.declared.strings.Spelling.TheVariants.{Plain, Coded}
+use Rattle.strings.specs.Chars.{Code, FaultAt, char_at}
 use Rattle.strings.specs.Strings.{plain_byte, plain_string, StopsAt, Means, ReadsString}
 use Rattle.strings.specs.Meanings.{inside}
 use Rattle.strings.proofs.Parts.{part-byte, part_length}
@@ -79,10 +80,10 @@ module _ (D : Dialect) where
         }
 
     -- no character follows
-    pub read-fault : {e : ℕ} → (i < length s → D.lexis.quote (get_or s i 0) ≡ false) → char_at D s i ≡ Fault e → ReadsString D s a (Answer.Fault e)
-    read-fault {e} n h = record { told = λ d. r.stops e (no_char D s i e h n) d [] }
+    pub read-fault : {f : Fault} → (i < length s → D.lexis.quote (get_or s i 0) ≡ false) → char_at D s i ≡ Err f → ReadsString D s a (Err f)
+    read-fault {f} n h = record { told = λ d. r.stops f.at (no_char D s i f.at h n) d [] }
 
-    pub read-end : length s ≤ i → ReadsString D s a (Answer.Fault i)
+    pub read-end : length s ≤ i → ReadsString D s a (FaultAt i)
     read-end h = read-fault (λ g. absurd (omega arith)) (sym (none-at-end D s i h))
 
     -- the closing quote follows
@@ -93,8 +94,8 @@ module _ (D : Dialect) where
       meant : (cs : List ℕ) × Means D s a (i + 1) cs
       meant = let w = r.means (i + 1) [] closed in (w.0, record { wide = omega (arith, r.on); within = omega arith; chars = w.1 })
 
-      pub read_plain : ((k : ℕ) → a < k → k < i → plain_byte (get_or s k 0) ≡ true) → ReadsString D s a (Answer.Plain (i + 1))
+      pub read_plain : ((k : ℕ) → a < k → k < i → plain_byte (get_or s k 0) ≡ true) → ReadsString D s a (Ok (record { spelling = Plain; end = i + 1 }))
       read_plain f = record { told = (meant.0, meant.1, all_plain s a (i + 1) (omega arith) (λ k x y. f k x (omega arith))) }
 
-      pub read-coded : (k : ℕ) → a < k → k < i → plain_byte (get_or s k 0) ≡ false → ReadsString D s a (Answer.Coded (i + 1))
+      pub read-coded : (k : ℕ) → a < k → k < i → plain_byte (get_or s k 0) ≡ false → ReadsString D s a (Ok (record { spelling = Coded; end = i + 1 }))
       read-coded k x y f = record { told = (meant.0, meant.1, some-coded s a (i + 1) (omega arith) k x (omega arith) f) }

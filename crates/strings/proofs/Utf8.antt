@@ -15,9 +15,9 @@ use Rattle.grammar.specs.Serving.Machine.Message.{message, Want, lowest, highest
 use Rattle.grammar.specs.Serving.Machine.Message.CharState.{utf8}
 use Rattle.grammar.specs.Serving.Machine.Message.Want.{one, two, two_E0, two_ED, three, three_F0, three_F4}
 use Rattle.grammar.proofs.Booleans.{within-true, within-is, within-below, within-above}
-use Rattle.strings.specs.declared.chars.Char.{Char}
-use Rattle.strings.specs.declared.chars.Char.TheVariants.{Code, Fault}
-use Rattle.strings.specs.Chars.{char_rest, char_next, rest_at, TailByte, TailByte.no_byte, TailByte.wrong_byte, TailByte.tail_byte, utf8_rest, utf8_at}
+use Rattle.std.specs.Prelude.{Err}
+use Rattle.strings.specs.declared.chars.Fault.{Fault}
+use Rattle.strings.specs.Chars.{CharRead, Code, FaultAt, char_rest, char_next, rest_at, TailByte, TailByte.no_byte, TailByte.wrong_byte, TailByte.tail_byte, utf8_rest, utf8_at}
 use Rattle.strings.proofs.CharRuns.{rest_cons}
 
 -- how many bytes are wanted after the next
@@ -49,7 +49,7 @@ utf8_rest_lem (b ∷ l) n v p = rest_cons message (utf8 n v) p b l ∙ go (withi
   where
     go : (t : Bool) → char_next message (wanted n (join v b)) p l ≡ utf8_rest (more n) 0x80 0xBF (join v b) (suc p) l
         → char_next message (cond t (wanted n (join v b)) bad) p l
-        ≡ elim t as (λ _. Char) [ true ↦ utf8_rest (more n) 0x80 0xBF (join v b) (suc p) l | false ↦ Fault p ]
+        ≡ elim t as (λ _. CharRead) [ true ↦ utf8_rest (more n) 0x80 0xBF (join v b) (suc p) l | false ↦ FaultAt p ]
     go true e = e
     go false e = refl
 
@@ -59,40 +59,29 @@ utf8_at_lem n v s i = sym (utf8_rest_lem (drop i s) n v i)
 
 -- a byte, and n more
 module _ {low high v : ℕ} {s : List ℕ} {i : ℕ} where
-  pub byte-below : i < length s → get_or s i 0 < low → TailByte low high v s i (Fault i)
+  pub byte-below : i < length s → get_or s i 0 < low → TailByte low high v s i (FaultAt i)
   byte-below h g = wrong_byte h (within-below low high _ g)
 
-  pub byte_above : i < length s → high < get_or s i 0 → TailByte low high v s i (Fault i)
+  pub byte_above : i < length s → high < get_or s i 0 → TailByte low high v s i (FaultAt i)
   byte_above h g = wrong_byte h (within-above low high _ g)
 
   pub byte_joins : {b : ℕ} → i < length s → b ≡ get_or s i 0 → low ≤ b → b ≤ high → TailByte low high v s i (Code (v * 64 + (b - 128)) (i + 1))
   byte_joins {b} h e f g = rw e (tail_byte h (within-is low high _ (rw e at f) (rw e at g)))
 
-  bytes-fault : (n : ℕ) {e : ℕ} → TailByte low high v s i (Fault e) → Fault e ≡ utf8_at (suc n) low high v s i
+  pub bytes-fault : (n : ℕ) {f : Fault} → TailByte low high v s i (Err f) → Err f ≡ utf8_at (suc n) low high v s i
   unfolding utf8_at utf8_rest
   bytes-fault n (no_byte h) = rw (drop_of_length-le s h) refl
   bytes-fault n (wrong_byte h t) = rw (drop-cons s i 0 h, t, utf8_rest) refl
 
-  bytes-code : (n : ℕ) {w e : ℕ} → TailByte low high v s i (Code w e) → utf8_at n 0x80 0xBF w s e ≡ utf8_at (suc n) low high v s i
+  pub bytes-code : (n : ℕ) {w e : ℕ} → TailByte low high v s i (Code w e) → utf8_at n 0x80 0xBF w s e ≡ utf8_at (suc n) low high v s i
   unfolding utf8_at utf8_rest
   bytes-code n (tail_byte h t) = rw (add-one, drop-cons s i 0 h, t, utf8_rest) refl
 
-  byte-upto : {w e : ℕ} → TailByte low high v s i (Code w e) → w ≤ v * 64 + high
+  pub byte-upto : {w e : ℕ} → TailByte low high v s i (Code w e) → w ≤ v * 64 + high
   byte-upto (tail_byte h t) = omega (arith, within-true low high (get_or s i 0) t)
 
-  pub one_byte : {r : Char} → TailByte low high v s i r → r ≡ utf8_at 1 low high v s i
+  pub one_byte : {r : CharRead} → TailByte low high v s i r → r ≡ utf8_at 1 low high v s i
   unfolding utf8_at utf8_rest
   one_byte (no_byte h) = bytes-fault 0 (no_byte h)
   one_byte (wrong_byte h t) = bytes-fault 0 (wrong_byte h t)
   one_byte (tail_byte h t) = bytes-code 0 (tail_byte h t)
-
-  -- what a reader of a byte answered
-  module _ {r : Char} (d : TailByte low high v s i r) where
-    pub bytes-refused : (n : ℕ) {e : ℕ} → r ≡ Fault e → Fault e ≡ utf8_at (suc n) low high v s i
-    bytes-refused n f = bytes-fault n (rw f at d)
-
-    pub bytes_on : (n : ℕ) {w e : ℕ} → r ≡ Code w e → utf8_at n 0x80 0xBF w s e ≡ utf8_at (suc n) low high v s i
-    bytes_on n f = bytes-code n (rw f at d)
-
-    pub byte_low : {w e : ℕ} → r ≡ Code w e → w ≤ v * 64 + high
-    byte_low f = byte-upto (rw f at d)

@@ -2,7 +2,7 @@
 use Rattle.std.specs.Prelude.{ℕ, ◌+◌, ◌*◌, ◌%◌, ◌≡◌, Bool, List, [], ◌∷◌}
 use Rattle.grammar.specs.Serving.Machine.{Dialect}
 use Rattle.strings.specs.Strings.{Means}
-use Rattle.strings.specs.Meanings.{inside, Spans, Told}
+use Rattle.strings.specs.Meanings.{Told}
 
 -- a hash with one more code point; it stays below 2 ^ 32
 abbrev pub hash_more : ℕ → ℕ → ℕ
@@ -16,10 +16,7 @@ hash_from m (c ∷ cs) = hash_from (hash_more m c) cs
 unfoldable pub hash_of : List ℕ → ℕ
 hash_of cs = hash_from 0 cs
 
--- the hash of a string's bytes, or of its code points
-pub record BytesHash (s : List ℕ) (a e r : ℕ) : Type 0 where
-  pub told : Spans s a e → r ≡ hash_of (inside s a e)
-
+-- the hash of a string's code points
 pub record CodesHash (D : Dialect) (s : List ℕ) (a r : ℕ) : Type 0 where
   pub told : (e : ℕ) (cs : List ℕ) → Means D s a e cs → r ≡ hash_of cs
 

@@ -1,5 +1,5 @@
 -- Serves contracts: whether strings mean the same, and what the parts of that comparison find.
-use Rattle.std.specs.Prelude.{ℕ, ◌+◌, ◌-◌, ◌≤◌, ◌≡◌, Bool, true, List, length, take, drop}
+use Rattle.std.specs.Prelude.{ℕ, ◌+◌, ◌-◌, ◌≡◌, Bool, true, List, take, drop}
 use Rattle.grammar.specs.Notation.{same}
 use Rattle.grammar.specs.Serving.Machine.{Dialect}
 use Rattle.strings.specs.Strings.{plain_string, Means}
@@ -7,18 +7,6 @@ use Rattle.strings.specs.Strings.{plain_string, Means}
 -- the bytes of the string from place a to e, its quotes left out
 abbrev pub inside : List ℕ → ℕ → ℕ → List ℕ
 inside s a e = take (e - a - 2) (drop (a + 1) s)
-
--- the string from place a to e lies within the text
-pub record Spans (s : List ℕ) (a e : ℕ) : Type 0 where
-  pub wide : a + 2 ≤ e
-  pub within : e ≤ length s
-
--- the bytes of a string are those of a name, or of another string
-pub record BytesMean (s : List ℕ) (a e : ℕ) (name : List ℕ) (r : Bool) : Type 0 where
-  pub told : Spans s a e → r ≡ same (inside s a e) name
-
-pub record BytesSame (s : List ℕ) (a e b f : ℕ) (r : Bool) : Type 0 where
-  pub told : Spans s a e → Spans s b f → r ≡ same (inside s a e) (inside s b f)
 
 -- the code points of a string are those of a name, or of another string
 pub record CodesMean (D : Dialect) (s : List ℕ) (a : ℕ) (name : List ℕ) (r : Bool) : Type 0 where

@@ -8,16 +8,23 @@ use Rattle.grammar.specs.Serving.Machine.Control.{InString}
 use Rattle.grammar.specs.Serving.Machine.Out.{fault}
 use Rattle.grammar.specs.Serving.Machine.Schema.{schema}
 use Rattle.grammar.specs.Serving.Machine.Message.{message}
-use Rattle.strings.specs.Classes.{class_of, first_plain_class}
+use Rattle.std.specs.Prelude.{Result, Ok, Err}
+use Rattle.strings.specs.Classes.{class_of, plain_class}
+use Rattle.strings.specs.declared.chars.Fault.{Fault}
 use Rattle.strings.specs.declared.dialects.Dialect as Dialects
 use Rattle.strings.specs.declared.dialects.Dialect.TheVariants.{Schema, Message}
-use Rattle.strings.specs.declared.strings.StringRead.{StringRead}
-use Rattle.strings.specs.declared.strings.StringRead.TheVariants.{Plain, Coded, Fault}
+use Rattle.strings.specs.declared.strings.Spelling.{Spelling}
+use Rattle.strings.specs.declared.strings.Spelling.TheVariants.{Plain, Coded}
+use Rattle.strings.specs.declared.strings.StringEnd.{StringEnd}
 
 -- what a dialect that a reader is asked for means
 abbrev pub grammar_of : Dialects.Dialect → Dialect
 grammar_of Schema = schema
 grammar_of Message = message
+
+abbrev pub is_plain : Spelling → Bool
+is_plain Plain = true
+is_plain Coded = false
 
 -- a byte that is its own code point in a string of either dialect
 abbrev pub plain_byte : ℕ → Bool
@@ -38,18 +45,17 @@ module _ (D : Dialect) (s : List ℕ) where
     pub within : e ≤ length s
     pub chars : Chars D.lexis (a + 1) (drop (a + 1) s) e (drop e s) cs
 
-  abbrev pub StringTold : ℕ → StringRead → Type 0
-  StringTold a (Plain e) = (cs : List ℕ) × Means a e cs × (plain_string s a e ≡ true)
-  StringTold a (Coded e) = (cs : List ℕ) × Means a e cs × (plain_string s a e ≡ false)
-  StringTold a (Fault e) = (d : StringRole) → StopsAt (InString d []) (a + 1) e
+  abbrev pub StringTold : ℕ → Result StringEnd Fault → Type 0
+  StringTold a (Ok r) = (cs : List ℕ) × Means a r.end cs × (plain_string s a r.end ≡ is_plain r.spelling)
+  StringTold a (Err f) = (d : StringRole) → StopsAt (InString d []) (a + 1) f.at
 
 -- what the reader of the string whose opening quote stands at place a answers
-pub record ReadsString (D : Dialect) (s : List ℕ) (a : ℕ) (r : StringRead) : Type 0 where
+pub record ReadsString (D : Dialect) (s : List ℕ) (a : ℕ) (r : Result StringEnd Fault) : Type 0 where
   pub told : StringTold D s a r
 
 -- from place i to e every byte of a message string is plain, and the one at e is not
 pub record PlainEnd (s : List ℕ) (i e : ℕ) : Type 0 where
   pub on : i ≤ e
   pub within : i ≤ length s → e ≤ length s
-  pub plain : (k : ℕ) → i ≤ k → k < e → first_plain_class ≤ class_of (get_or s k 0)
-  pub ends : e < length s → class_of (get_or s e 0) < first_plain_class
+  pub plain : (k : ℕ) → i ≤ k → k < e → plain_class (class_of (get_or s k 0)) ≡ true
+  pub ends : e < length s → plain_class (class_of (get_or s e 0)) ≡ false

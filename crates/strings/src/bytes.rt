@@ -1,95 +1,39 @@
 // Bytes: parts of a slice, and whether two parts are the same.
-ghost use Rattle.std.specs.Prelude.{◌≡◌, ◌+◌, ◌≤◌, ◌<◌, length, take, drop};
-ghost use Rattle.strings.specs.Bytes.{same_parts, NumberAt};
-
-// Bytes that are compared at once.
-const BLOCK: usize = 8;
+ghost use Rattle.std.specs.Prelude.{◌≡◌, ◌+◌, ◌≤◌, length, take, drop};
+ghost use Rattle.grammar.specs.Notation.{same};
+ghost use Rattle.strings.specs.Bytes.{same_parts};
+ghost use Rattle.strings.specs.Meanings.{inside};
 
 // The n bytes from a on, or those of them that there are.
 pub fn part_of(s: &[u8], a: usize, n: usize) -> &[u8]
     ensures { result.now ≡ take n (drop a s.now) }
 {
-    let m = s.len();
-    if m <= a {
-        return &s[m..];
-    }
-    if m - a <= n {
-        return &s[a..];
-    }
-    let e = a + n;
-    &s[a..e]
+    let rest = &s[a.min(s.len())..];
+    &rest[..n.min(rest.len())]
 }
 
-fn wide(b: u8) -> u64
-    ensures { (result ≡ b) × (result < 256) }
+// The bytes of the string from a to e, its quotes left out.
+pub fn inside(s: &[u8], a: usize, e: usize) -> &[u8]
+    ensures { result.now ≡ inside s.now a e }
 {
-    b as u64
+    part_of(
+        s,
+        a.saturating_add(1),
+        e.saturating_sub(a).saturating_sub(2),
+    )
 }
 
-// The two bytes from i on as one number, the first its lowest digit.
-fn two_at(s: &[u8], i: usize) -> u64
-    requires { i + 2 ≤ length s.now }
-    ensures { NumberAt s.now i 2 result }
+// Whether two slices are equal. Their last bytes are asked first, in which names differ most.
+pub fn same_bytes(x: &[u8], y: &[u8]) -> bool
+    ensures { result ≡ same x.now y.now }
 {
-    wide(s[i]) + wide(s[i + 1]) * 0x100
+    x.last() == y.last() && x == y
 }
 
-fn four_at(s: &[u8], i: usize) -> u64
-    requires { i + 4 ≤ length s.now }
-    ensures { NumberAt s.now i 4 result }
-{
-    two_at(s, i) + two_at(s, i + 2) * 0x10000
-}
-
-// The eight bytes from i on as one number: the compiler loads them at once.
-fn block_at(s: &[u8], i: usize) -> u64
-    requires { i + 8 ≤ length s.now }
-    ensures { NumberAt s.now i 8 result }
-{
-    four_at(s, i) + four_at(s, i + 4) * 0x100000000
-}
-
-// Whether n bytes of `s` from i on are those of `t` from j on, byte by byte.
-fn same_few(s: &[u8], i: usize, t: &[u8], j: usize, n: usize) -> bool
-    requires { (i + n ≤ length s.now) × (j + n ≤ length t.now) }
-    ensures { result ≡ same_parts s.now i t.now j n }
-{
-    let mut k = 0;
-    while k < n {
-        if s[i + k] != t[j + k] {
-            return false;
-        }
-        k += 1;
-    }
-    true
-}
-
-// Whether they are, block by block.
-fn same_blocks(s: &[u8], i: usize, t: &[u8], j: usize, n: usize) -> bool
-    requires { (i + n ≤ length s.now) × (j + n ≤ length t.now) }
-    ensures { result ≡ same_parts s.now i t.now j n }
-{
-    let mut k = 0;
-    while BLOCK <= n - k {
-        if block_at(s, i + k) != block_at(t, j + k) {
-            return false;
-        }
-        k += BLOCK;
-    }
-    same_few(s, i + k, t, j + k, n - k)
-}
-
-// Whether n bytes of `s` from i on are those of `t` from j on: the last of them first, in which names differ most.
+// Whether n bytes of `s` from i on are those of `t` from j on.
 pub fn same_parts(s: &[u8], i: usize, t: &[u8], j: usize, n: usize) -> bool
     requires { (i + n ≤ length s.now) × (j + n ≤ length t.now) }
     ensures { result ≡ same_parts s.now i t.now j n }
 {
-    if n == 0 {
-        return true;
-    }
-    let last = n - 1;
-    if s[i + last] != t[j + last] {
-        return false;
-    }
-    same_blocks(s, i, t, j, n)
+    same_bytes(&s[i..i + n], &t[j..j + n])
 }

@@ -1,26 +1,68 @@
-// The classes of bytes, as specs/Classes names them.
-pub const CONTROL: u8 = 0;
+// The classes of bytes: entry by entry of the table in classes, rule by rule in specs/Classes.
+ghost use Rattle.std.specs.Prelude.{◌≡◌};
+ghost use Rattle.strings.specs.Classes.{plain_class, blank_class, digit_class, named_class};
 
-// Above ASCII.
-pub const HIGH: u8 = 1;
+#[derive(Clone, Copy, PartialEq, Eq)]
+pub enum Class {
+    Control,
+    // Above ASCII.
+    High,
+    // The quotation mark.
+    Quote,
+    Backslash,
+    // A tab, LF or CR.
+    Break,
+    Space,
+    Digit,
+    // A letter, - or _.
+    Letter,
+    // Any other byte of ASCII.
+    Other,
+}
 
-// The quotation mark.
-pub const QUOTE: u8 = 2;
+impl Class {
+    // Whether bytes of this class are plain in a message string: each is its own code point.
+    pub fn is_plain(self) -> bool
+        ensures { result ≡ plain_class self }
+    {
+        match self {
+            Class::Space => true,
+            Class::Digit => true,
+            Class::Letter => true,
+            Class::Other => true,
+            _ => false,
+        }
+    }
 
-pub const BACKSLASH: u8 = 3;
+    // Whether bytes of this class are blanks.
+    pub fn is_blank(self) -> bool
+        ensures { result ≡ blank_class self }
+    {
+        match self {
+            Class::Break => true,
+            Class::Space => true,
+            _ => false,
+        }
+    }
 
-// A tab, LF or CR.
-pub const BREAK: u8 = 4;
+    // Whether bytes of this class may stand in names.
+    pub fn is_named(self) -> bool
+        ensures { result ≡ named_class self }
+    {
+        match self {
+            Class::Digit => true,
+            Class::Letter => true,
+            _ => false,
+        }
+    }
 
-pub const SPACE: u8 = 5;
-
-pub const DIGIT: u8 = 6;
-
-// A letter, - or _.
-pub const LETTER: u8 = 7;
-
-// Any other byte of ASCII.
-pub const OTHER: u8 = 8;
-
-// The bytes of this class and of those after it are plain in a message string: each is its own code point.
-pub const FIRST_PLAIN: u8 = SPACE;
+    // Whether bytes of this class are digits.
+    pub fn is_digit(self) -> bool
+        ensures { result ≡ digit_class self }
+    {
+        match self {
+            Class::Digit => true,
+            _ => false,
+        }
+    }
+}

@@ -9,4 +9,5 @@ pub mod decoded;
 pub mod dialects;
 pub mod hashes;
 pub mod meanings;
+pub mod sources;
 pub mod strings;

@@ -1,52 +1,13 @@
 // What strings mean, compared without decoding them. A string goes from its opening quote to past its closing one; any places may be asked.
 ghost use Rattle.std.specs.Prelude.{◌≡◌};
 ghost use Rattle.strings.specs.Strings.{grammar_of};
-ghost use Rattle.strings.specs.Meanings.{BytesMean, BytesSame, CodesMean, CodesSame, MeansName, MeansSame};
+ghost use Rattle.strings.specs.Meanings.{CodesMean, CodesSame, MeansName, MeansSame};
 
-use crate::bytes::same_parts;
-use crate::chars::{Char, next_char, wide};
+use crate::bytes::{inside, same_bytes};
+use crate::chars::next_char;
 use crate::dialects::Dialect;
 
-fn bytes_mean(s: &[u8], a: usize, e: usize, name: &[u8]) -> bool
-    ensures { BytesMean s.now a e name.now result }
-{
-    if e < a {
-        return false;
-    }
-    if e - a != name.len() + 2 {
-        return false;
-    }
-    if s.len() < e {
-        return false;
-    }
-    same_parts(s, a + 1, name, 0, name.len())
-}
-
-fn bytes_same(s: &[u8], a: usize, e: usize, b: usize, f: usize) -> bool
-    ensures { BytesSame s.now a e b f result }
-{
-    if e < a {
-        return false;
-    }
-    if f < b {
-        return false;
-    }
-    let n = e - a;
-    if n != f - b {
-        return false;
-    }
-    if n < 2 {
-        return false;
-    }
-    if s.len() < e {
-        return false;
-    }
-    if s.len() < f {
-        return false;
-    }
-    same_parts(s, a + 1, s, b + 1, n - 2)
-}
-
+// A walk from character to character, with which j, the place in the name, keeps step.
 fn codes_mean(s: &[u8], dialect: Dialect, a: usize, name: &[u8]) -> bool
     ensures { CodesMean (grammar_of dialect) s.now a name.now result }
 {
@@ -56,21 +17,14 @@ fn codes_mean(s: &[u8], dialect: Dialect, a: usize, name: &[u8]) -> bool
     let mut i = a + 1;
     let mut j = 0;
     while i < s.len() {
-        match next_char(s, dialect, i) {
-            Char::Fault(_e) => {
-                return j == name.len();
-            }
-            Char::Code(c, e) => {
-                if name.len() <= j {
-                    return false;
-                }
-                if c != wide(name[j]) {
-                    return false;
-                }
-                i = e;
-                j += 1;
-            }
+        let Ok(c) = next_char(s, dialect, i) else {
+            return j == name.len();
+        };
+        if name.len() <= j || c.code != name[j] as u32 {
+            return false;
         }
+        i = c.end;
+        j += 1;
     }
     false
 }
@@ -78,10 +32,7 @@ fn codes_mean(s: &[u8], dialect: Dialect, a: usize, name: &[u8]) -> bool
 fn codes_same(s: &[u8], dialect: Dialect, a: usize, b: usize) -> bool
     ensures { CodesSame (grammar_of dialect) s.now a b result }
 {
-    if s.len() <= a {
-        return false;
-    }
-    if s.len() <= b {
+    if s.len() <= a || s.len() <= b {
         return false;
     }
     let mut i = a + 1;
@@ -89,27 +40,16 @@ fn codes_same(s: &[u8], dialect: Dialect, a: usize, b: usize) -> bool
     while i < s.len() {
         let x = next_char(s, dialect, i);
         let y = next_char(s, dialect, j);
-        match x {
-            Char::Fault(_e) => match y {
-                Char::Fault(_f) => {
-                    return true;
-                }
-                Char::Code(_d, _f) => {
+        match (x, y) {
+            (Ok(c), Ok(d)) => {
+                if c.code != d.code {
                     return false;
                 }
-            },
-            Char::Code(c, e) => match y {
-                Char::Fault(_f) => {
-                    return false;
-                }
-                Char::Code(d, f) => {
-                    if c != d {
-                        return false;
-                    }
-                    i = e;
-                    j = f;
-                }
-            },
+                i = c.end;
+                j = d.end;
+            }
+            (Err(_), Err(_)) => return true,
+            _ => return false,
         }
     }
     false
@@ -120,7 +60,7 @@ pub fn means(s: &[u8], dialect: Dialect, a: usize, e: usize, plain: bool, name: 
     ensures { MeansName (grammar_of dialect) s.now a e plain name.now result }
 {
     if plain {
-        return bytes_mean(s, a, e, name);
+        return same_bytes(inside(s, a, e), name);
     }
     codes_mean(s, dialect, a, name)
 }
@@ -138,10 +78,8 @@ pub fn same_meaning(
 ) -> bool
     ensures { MeansSame (grammar_of dialect) s.now a e plain_a b f plain_b result }
 {
-    if plain_a {
-        if plain_b {
-            return bytes_same(s, a, e, b, f);
-        }
+    if plain_a && plain_b {
+        return same_bytes(inside(s, a, e), inside(s, b, f));
     }
     codes_same(s, dialect, a, b)
 }

@@ -3,6 +3,8 @@
 use Prim.Native.Nat.{ℕ, ◌+◌, ◌≤◌, ◌<◌}
 use Prim.Native.Char.{code}
 use native.Mathlib.Omega.{arith}
+use native.Mathlib.Decide.{dec_lt}
+use Rattle.std.specs.Prelude.{max}
 use mathlib.Core.Path.{◌≡◌, refl, sym, ◌∙◌}
 use mathlib.Core.Bool.{true, false}
 use mathlib.Core.List.{List}
@@ -53,8 +55,16 @@ module _ {D : Dialect} {s : List ℕ} {p i : ℕ} (w : Commented D s p i) where
   comment_line h e =
       record { on = omega arith; within = λ _. omega arith; runs = λ lim c k. w.runs lim c k ∙ scan-to D s lim (InComment c) k i h (simp (eq-eqb _ _ e)) }
 
-  pub comment-text : length s ≤ i → CommentRuns D s p i
-  comment-text h = record { on = w.on; within = w.within; runs = λ lim c k. w.runs lim c k ∙ (scan-end D s lim (InComment c) k i h ∙ sym (scan-end D s lim c k i h)) }
+  comment_ends : length s ≤ i → CommentRuns D s p i
+  comment_ends h = record { on = w.on; within = w.within; runs = λ lim c k. w.runs lim c k ∙ (scan-end D s lim (InComment c) k i h ∙ sym (scan-end D s lim c k i h)) }
+
+-- past the end too
+pub comment-text : {D : Dialect} {s : List ℕ} {p i : ℕ} → Commented D s p i → length s ≤ i → CommentRuns D s p (max p (length s))
+comment-text {D} {s} {p} {i} w h = go (dec_lt (length s) p)
+  where
+    go : Dec (length s < p) → CommentRuns D s p (max p (length s))
+    go (yes l) = let q : max p (length s) ≡ p = omega arith in rw q (comment_ends (commented_none D s p) (omega arith))
+    go (no l) = let q : max p (length s) ≡ i = omega (arith, w.within) in rw q (comment_ends w h)
 
 -- blanks and comments from place p to i
 pub record Passed (D : Dialect) (s : List ℕ) (p i : ℕ) : Type 0 where

@@ -1,5 +1,4 @@
 pub mod Scanning
-pub mod ByteClasses
 pub mod BlankRuns
 pub mod NumberSteps
 pub mod NumberStates

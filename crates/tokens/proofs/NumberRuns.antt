@@ -3,6 +3,7 @@
 use Prim.Native.Nat.{ℕ, ◌+◌, ◌≤◌, ◌<◌}
 use Prim.Native.Char.{code}
 use native.Mathlib.Omega.{arith}
+use native.Mathlib.Decide.{dec_lt}
 use mathlib.Core.Path.{◌≡◌, refl, ◌∙◌}
 use mathlib.Core.Bool.{Bool, true, false}
 use mathlib.Core.List.{List}
@@ -12,10 +13,10 @@ use Rattle.grammar.proofs.Numbers.{e_sign}
 use Rattle.grammar.specs.MessageText.{letter_e, sign}
 use Rattle.grammar.specs.Serving.Machine.Message.{NumberState}
 use Rattle.grammar.specs.Serving.Machine.Message.NumberState.{begin, after_minus, after_zero, in_int, after_point, in_frac, after_e, after_sign, in_exp}
-use Rattle.tokens.specs.declared.literals.TokenRead.{TokenRead}
-use Rattle.tokens.specs.declared.literals.TokenRead.TheVariants as Tokens
-use Rattle.tokens.specs.declared.literals.NumberRead.{NumberRead}
-use Rattle.tokens.specs.declared.literals.NumberRead.TheVariants as Numbers
+use Rattle.std.specs.Prelude.{max, Result, Ok, Err}
+use Rattle.strings.specs.Chars.{FaultAt}
+use Rattle.strings.specs.declared.chars.Fault.{Fault}
+use Rattle.tokens.specs.declared.literals.Number.{Number}
 use Rattle.tokens.specs.Numbers.{Passes, NumberRuns, NumberStops, NumberEnds, NumberTold, NoDigit, Loops, DigitsRun, DigitsTold, BeforePower, BeforePoint, BeforeInt}
 use Rattle.tokens.specs.Numbers.{IntTold, PowerTold, ReadsDigits, ReadsInt, ReadsPower, ReadsRest, ReadsNumber}
 use Rattle.tokens.proofs.NumberSteps.{one_byte, stops-here, ends-here}
@@ -39,10 +40,9 @@ module _ {s : List ℕ} {f t : NumberState} {i e : ℕ} (w : NumberRuns s f i t 
   then-stops : {q : ℕ} → NumberStops s t e q → NumberStops s f i q
   then-stops n lim a k g = w.runs lim a k g ∙ n lim a k (omega (arith, w.on))
 
-  then-told : (r : NumberRead) → NumberTold s t e r → NumberTold s f i r
-  then-told (Numbers.Integer q) n = then-ends n
-  then-told (Numbers.Other q) n = then-ends n
-  then-told (Numbers.Fault q) n = then-stops n
+  then-told : (r : Result Number Fault) → NumberTold s t e r → NumberTold s f i r
+  then-told (Ok q) n = then-ends n
+  then-told (Err q) n = then-stops n
 
 -- digits from place p to i
 pub record DigitsPassed (s : List ℕ) (p i : ℕ) : Type 0 where
@@ -61,15 +61,22 @@ module _ {s : List ℕ} {p i : ℕ} (w : DigitsPassed s p i) where
   pub digits-all : NoDigit s i → DigitsRun s p i
   digits-all n = record { on = w.on; within = w.within; ends = n; runs = w.runs }
 
+pub digits-end : {s : List ℕ} {p i : ℕ} → DigitsPassed s p i → length s ≤ i → DigitsRun s p (max p (length s))
+digits-end {s} {p} {i} w h = go (dec_lt (length s) p)
+  where
+    go : Dec (length s < p) → DigitsRun s p (max p (length s))
+    go (yes l) = let q : max p (length s) ≡ p = omega arith in rw q (digits-all (digits-none s p) (λ g. absurd (omega arith)))
+    go (no l) = let q : max p (length s) ≡ i = omega (arith, w.within) in rw q (digits-all w (λ g. absurd (omega arith)))
+
 exp_ends : {s : List ℕ} {e : ℕ} → NoDigit s e → NumberEnds s in_exp e e false
 exp_ends {s} {e} n = ends-here s in_exp e refl (exp_stops s e n)
 
 module _ {s : List ℕ} {i : ℕ} where
   -- one digit or more
-  pub no_digits : NoDigit s i → ReadsDigits s i (Tokens.Fault i)
+  pub no_digits : NoDigit s i → ReadsDigits s i (FaultAt i)
   no_digits n = record { told = λ f t l. stops-here s f i l.unended (l.other n) }
 
-  pub some_digits : {e : ℕ} → i < length s → digit (get_or s i 0) ≡ true → DigitsRun s (i + 1) e → ReadsDigits s i (Tokens.Past e)
+  pub some_digits : {e : ℕ} → i < length s → digit (get_or s i 0) ≡ true → DigitsRun s (i + 1) e → ReadsDigits s i (Ok e)
   some_digits h d w =
       record {
         told = λ f t l. (
@@ -83,79 +90,69 @@ module _ {s : List ℕ} {i : ℕ} where
       }
 
   -- the integer part
-  pub zero-int : i < length s → get_or s i 0 ≡ code "0" → ReadsInt s i (Tokens.Past (i + 1))
+  pub zero-int : i < length s → get_or s i 0 ≡ code "0" → ReadsInt s i (Ok (i + 1))
   zero-int h e = record { told = λ f b. (after_zero, one_byte s f i h (rw e b.zero), zero-before-point s (i + 1)) }
 
-  pub digits-int : {r : TokenRead} → (i < length s → get_or s i 0 ≡ code "0" → ⊥) → ReadsDigits s i r → ReadsInt s i r
+  pub digits-int : {r : Result ℕ Fault} → (i < length s → get_or s i 0 ≡ code "0" → ⊥) → ReadsDigits s i r → ReadsInt s i r
   digits-int {r} z w = record { told = λ f b. go f r (w.told f in_int (b.other z)) }
     where
-      go : (f : NumberState) (r : TokenRead) → DigitsTold s f i in_int r → IntTold s f i r
-      go f (Tokens.Past e) t = (in_int, t.0, int-before-point s e t.1)
-      go f (Tokens.Fault e) t = t
+      go : (f : NumberState) (r : Result ℕ Fault) → DigitsTold s f i in_int r → IntTold s f i r
+      go f (Ok e) t = (in_int, t.0, int-before-point s e t.1)
+      go f (Err e) t = t
 
   -- the exponent after its e
-  pub power-plain : {r : TokenRead} → (i < length s → sign (get_or s i 0) ≡ false) → ReadsDigits s i r → ReadsPower s i r
+  pub power-plain : {r : Result ℕ Fault} → (i < length s → sign (get_or s i 0) ≡ false) → ReadsDigits s i r → ReadsPower s i r
   power-plain {r} u w = record { told = go r (w.told after_e in_exp (e_leads s i u)) }
     where
-      go : (r : TokenRead) → DigitsTold s after_e i in_exp r → PowerTold s i r
-      go (Tokens.Past e) t = then-ends t.0 (exp_ends t.1)
-      go (Tokens.Fault e) t = t
+      go : (r : Result ℕ Fault) → DigitsTold s after_e i in_exp r → PowerTold s i r
+      go (Ok e) t = then-ends t.0 (exp_ends t.1)
+      go (Err e) t = t
 
-  pub power-signed : {r : TokenRead} → i < length s → sign (get_or s i 0) ≡ true → ReadsDigits s (i + 1) r → ReadsPower s i r
+  pub power-signed : {r : Result ℕ Fault} → i < length s → sign (get_or s i 0) ≡ true → ReadsDigits s (i + 1) r → ReadsPower s i r
   power-signed {r} h u w = record { told = go r (w.told after_sign in_exp (sign-leads s (i + 1))) }
     where
       past-sign : NumberRuns s after_e i after_sign (i + 1)
       past-sign = one_byte s after_e i h (e_sign _ u)
 
-      go : (r : TokenRead) → DigitsTold s after_sign (i + 1) in_exp r → PowerTold s i r
-      go (Tokens.Past e) t = then-ends past-sign (then-ends t.0 (exp_ends t.1))
-      go (Tokens.Fault e) t = then-stops past-sign t
+      go : (r : Result ℕ Fault) → DigitsTold s after_sign (i + 1) in_exp r → PowerTold s i r
+      go (Ok e) t = then-ends past-sign (then-ends t.0 (exp_ends t.1))
+      go (Err e) t = then-stops past-sign t
 
   -- an exponent, or none
   module _ {j : Bool} where
-    pub exponent-past : {r : TokenRead} {e : ℕ} → i < length s → letter_e (get_or s i 0) ≡ true → ReadsPower s (i + 1) r → r ≡ Tokens.Past e
-        → ReadsRest s i (BeforePower s i j) (Numbers.Other e)
-    exponent-past h u w q = record { told = λ f b. then-ends (one_byte s f i h (b.power h u)) (rw q at w.told) }
+    pub exponent-past : {e : ℕ} → i < length s → letter_e (get_or s i 0) ≡ true → ReadsPower s (i + 1) (Ok e)
+        → ReadsRest s i (BeforePower s i j) (Ok (record { integer = false; end = e }))
+    exponent-past h u w = record { told = λ f b. then-ends (one_byte s f i h (b.power h u)) w.told }
 
-    pub exponent-fault : {r : TokenRead} {e : ℕ} → i < length s → letter_e (get_or s i 0) ≡ true → ReadsPower s (i + 1) r → r ≡ Tokens.Fault e
-        → ReadsRest s i (BeforePower s i j) (Numbers.Fault e)
-    exponent-fault h u w q = record { told = λ f b. then-stops (one_byte s f i h (b.power h u)) (rw q at w.told) }
+    pub exponent-fault : {x : Fault} → i < length s → letter_e (get_or s i 0) ≡ true → ReadsPower s (i + 1) (Err x) → ReadsRest s i (BeforePower s i j) (Err x)
+    exponent-fault h u w = record { told = λ f b. then-stops (one_byte s f i h (b.power h u)) w.told }
 
-    pub integer-ends : j ≡ true → (i < length s → letter_e (get_or s i 0) ≡ false) → ReadsRest s i (BeforePower s i j) (Numbers.Integer i)
-    integer-ends q n = record { told = λ f b. ends-here s f i (rw q at b.ends) (λ h. b.other h (n h)) }
-
-    pub fraction-ends : j ≡ false → (i < length s → letter_e (get_or s i 0) ≡ false) → ReadsRest s i (BeforePower s i j) (Numbers.Other i)
-    fraction-ends q n = record { told = λ f b. ends-here s f i (rw q at b.ends) (λ h. b.other h (n h)) }
+    pub number-ends : (i < length s → letter_e (get_or s i 0) ≡ false) → ReadsRest s i (BeforePower s i j) (Ok (record { integer = j; end = i }))
+    number-ends n = record { told = λ f b. ends-here s f i b.ends (λ h. b.other h (n h)) }
 
   -- a fraction, or none
-  pub fraction-past : {d : TokenRead} {r : NumberRead} {e : ℕ} → i < length s → get_or s i 0 ≡ code "." → ReadsDigits s (i + 1) d → d ≡ Tokens.Past e
+  pub fraction-past : {r : Result Number Fault} {e : ℕ} → i < length s → get_or s i 0 ≡ code "." → ReadsDigits s (i + 1) (Ok e)
       → ReadsRest s e (BeforePower s e false) r → ReadsRest s i (BeforePoint s i) r
-  fraction-past {d} {r} {e} h u w q n =
-      let v : DigitsTold s after_point (i + 1) in_frac (Tokens.Past e) = rw q at (w.told after_point in_frac (point-leads s (i + 1))) in
+  fraction-past {r} {e} h u w n =
+      let v = w.told after_point in_frac (point-leads s (i + 1)) in
       record { told = λ f b. then-told (then_runs (one_byte s f i h (rw u b.point)) v.0) r (n.told in_frac (frac-before-power s e v.1)) }
 
-  pub fraction-fault : {d : TokenRead} {e : ℕ} → i < length s → get_or s i 0 ≡ code "." → ReadsDigits s (i + 1) d → d ≡ Tokens.Fault e
-      → ReadsRest s i (BeforePoint s i) (Numbers.Fault e)
-  fraction-fault {d} {e} h u w q =
-      let v : DigitsTold s after_point (i + 1) in_frac (Tokens.Fault e) = rw q at (w.told after_point in_frac (point-leads s (i + 1))) in
-      record { told = λ f b. then-stops (one_byte s f i h (rw u b.point)) v }
+  pub fraction-fault : {x : Fault} → i < length s → get_or s i 0 ≡ code "." → ReadsDigits s (i + 1) (Err x) → ReadsRest s i (BeforePoint s i) (Err x)
+  fraction-fault h u w = record { told = λ f b. then-stops (one_byte s f i h (rw u b.point)) (w.told after_point in_frac (point-leads s (i + 1))) }
 
-  pub no_fraction : {r : NumberRead} → (i < length s → get_or s i 0 ≡ code "." → ⊥) → ReadsRest s i (BeforePower s i true) r → ReadsRest s i (BeforePoint s i) r
+  pub no_fraction : {r : Result Number Fault} → (i < length s → get_or s i 0 ≡ code "." → ⊥) → ReadsRest s i (BeforePower s i true) r → ReadsRest s i (BeforePoint s i) r
   no_fraction n w = record { told = λ f b. w.told f (b.other n) }
 
   -- past the sign
-  pub int-past : {d : TokenRead} {r : NumberRead} {e : ℕ} → ReadsInt s i d → d ≡ Tokens.Past e → ReadsRest s e (BeforePoint s e) r → ReadsRest s i (BeforeInt s i) r
-  int-past {d} {r} {e} w q n = record { told = λ f b. go f (rw q at (w.told f b)) }
-    where
-      go : (f : NumberState) → IntTold s f i (Tokens.Past e) → NumberTold s f i r
-      go f v = then-told v.1 r (n.told v.0 v.2)
+  pub int-past : {r : Result Number Fault} {e : ℕ} → ReadsInt s i (Ok e) → ReadsRest s e (BeforePoint s e) r → ReadsRest s i (BeforeInt s i) r
+  int-past {r} w n = record { told = λ f b. let v = w.told f b in then-told v.1 r (n.told v.0 v.2) }
 
-  pub int-fault : {d : TokenRead} {e : ℕ} → ReadsInt s i d → d ≡ Tokens.Fault e → ReadsRest s i (BeforeInt s i) (Numbers.Fault e)
-  int-fault w q = record { told = λ f b. rw q at (w.told f b) }
+  pub int-fault : {x : Fault} → ReadsInt s i (Err x) → ReadsRest s i (BeforeInt s i) (Err x)
+  int-fault w = record { told = λ f b. w.told f b }
 
   -- the sign
-  pub minus_number : {r : NumberRead} → i < length s → get_or s i 0 ≡ code "-" → ReadsRest s (i + 1) (BeforeInt s (i + 1)) r → ReadsNumber s i r
+  pub minus_number : {r : Result Number Fault} → i < length s → get_or s i 0 ≡ code "-" → ReadsRest s (i + 1) (BeforeInt s (i + 1)) r → ReadsNumber s i r
   minus_number {r} h u w = record { told = then-told (one_byte s begin i h (rw u begin_minus)) r (w.told after_minus (minus_before-int s (i + 1))) }
 
-  pub plain-number : {r : NumberRead} → (get_or s i 0 ≡ code "-" → ⊥) → ReadsRest s i (BeforeInt s i) r → ReadsNumber s i r
+  pub plain-number : {r : Result Number Fault} → (get_or s i 0 ≡ code "-" → ⊥) → ReadsRest s i (BeforeInt s i) r → ReadsNumber s i r
   plain-number n w = record { told = w.told begin (begin_before-int s i (λ _. n)) }

@@ -1,34 +1,22 @@
 -- What the automaton for numbers does at a place, in each state where a reader begins.
 -- By the byte's tests in that state.
-use Prim.Native.Nat.{ℕ, ◌≤◌, ◌<◌}
+use Prim.Native.Nat.{ℕ, ◌<◌}
 use Prim.Native.Char.{code}
 use native.Mathlib.Omega.{arith}
-use mathlib.Core.Logic.{◌⊎◌, inl, inr}
 use mathlib.Core.Path.{◌≡◌, refl}
 use mathlib.Core.Bool.{Bool, true, false, ◌||◌}
 use mathlib.Core.List.{List}
 use mathlib.Core.Option.{some, none}
 use lib.Dec.{eqb}
 use lib.ListN.{length, get_or}
-use borrow.Author.Tests.{eqb-false, eq-eqb, ne_eqb}
+use borrow.Author.Tests.{eqb-true, eqb-false, ne_eqb}
 use Rattle.grammar.specs.Notation.{within, digit}
 use Rattle.grammar.specs.MessageText.{sign}
 use Rattle.grammar.specs.Serving.Machine.Message.{NumberState, number_step}
 use Rattle.grammar.specs.Serving.Machine.Message.NumberState.{begin, after_minus, after_zero, in_int, after_point, in_frac, after_e, after_sign, in_exp}
-use Rattle.grammar.proofs.Booleans.{within-true, within-false, within-is, Outside, Outside.below, Outside.above, within-below, within-above}
+use Rattle.grammar.proofs.Booleans.{clash, either, within-true, within-false, within-is, Outside, Outside.below, Outside.above, within-below, within-above}
+use Rattle.tokens.specs.TokenParts.{begins_number}
 use Rattle.tokens.specs.Numbers.{NoDigit, Loops, Leads, BeforePower, BeforePoint, BeforeInt}
-
-right_true : (x : Bool) → (x || true) ≡ true
-right_true true = refl
-right_true false = refl
-
--- one of two bytes, or neither
-pub one_of_two : (b p q : ℕ) → (b ≡ p) ⊎ (b ≡ q) → (eqb b q || eqb b p) ≡ true
-one_of_two b p q (inl e) = rw (eq-eqb b p e) (right_true (eqb b q))
-one_of_two b p q (inr e) = rw (eq-eqb b q e) refl
-
-pub neither : (b p q : ℕ) → ((b ≡ p) ⊎ (b ≡ q) → ⊥) → (eqb b q || eqb b p) ≡ false
-neither b p q n = rw (ne_eqb b q (λ e. n (inr e)), ne_eqb b p (λ e. n (inl e))) refl
 
 -- digits from 1 to 9
 nonzero : (b : ℕ) → (b ≡ code "0" → ⊥) → digit b ≡ true → within (code "1") (code "9") b ≡ true
@@ -42,19 +30,24 @@ no_nonzero b t = go (within-false (code "0") (code "9") b t)
     go (above h) = within-above (code "1") (code "9") b h
 
 -- the first byte of a number
-pub begins : (b : ℕ) → (b ≡ code "-") ⊎ ((code "0" ≤ b) × (b ≤ code "9")) → (t : NumberState) × (number_step begin b ≡ some t)
+pub begins : (b : ℕ) → begins_number b ≡ true → (t : NumberState) × (number_step begin b ≡ some t)
 unfolding number_step
-begins b (inl e) = (after_minus, rw e refl)
-begins b (inr h) = go (eqb b (code "0")) refl
+begins b = either (eqb b (code "-")) (digit b) (λ t. (after_minus, rw (eqb-true b (code "-") t) refl)) (λ t. go t (eqb b (code "0")) refl)
   where
-    go : (x : Bool) → eqb b (code "0") ≡ x → (t : NumberState) × (number_step begin b ≡ some t)
-    go true z = (after_zero, simp (ne_eqb b (code "-") (omega arith), z))
-    go false z = let n = eqb-false b (code "0") z in (in_int, simp (ne_eqb b (code "-") (omega arith), z, within-is (code "1") (code "9") b (omega arith) h.1))
+    go : digit b ≡ true → (x : Bool) → eqb b (code "0") ≡ x → (t : NumberState) × (number_step begin b ≡ some t)
+    go t true z = (after_zero, rw (eqb-true b (code "0") z) refl)
+    go t false z =
+        let h = within-true (code "0") (code "9") b t in
+        let n = eqb-false b (code "0") z in
+        (in_int, simp (ne_eqb b (code "-") (omega arith), z, within-is (code "1") (code "9") b (omega arith) h.1))
 
-pub begins-none : (b : ℕ) → (b ≡ code "-" → ⊥) → Outside (code "0") (code "9") b → number_step begin b ≡ none
+pub begins-none : (b : ℕ) → begins_number b ≡ false → number_step begin b ≡ none
 unfolding number_step
-begins-none b m (below h) = simp (ne_eqb b (code "-") m, ne_eqb b (code "0") (omega arith), within-below (code "1") (code "9") b (omega arith))
-begins-none b m (above h) = simp (ne_eqb b (code "-") m, ne_eqb b (code "0") (omega arith), within-above (code "1") (code "9") b h)
+begins-none b f = go (eqb b (code "-")) refl f
+  where
+    go : (x : Bool) → eqb b (code "-") ≡ x → (x || digit b) ≡ false → number_step begin b ≡ none
+    go true e f = clash refl f
+    go false e f = let z = ne_eqb b (code "0") (λ q. clash (rw q refl) f) in simp (e, z, no_nonzero b f)
 
 -- states in which digits go on
 int-loops : Loops in_int

@@ -21,7 +21,8 @@ use Rattle.grammar.proofs.TokenRuns.{TokensComplete}
 use Rattle.grammar.proofs.Words.{Words, word-complete}
 use Rattle.grammar.proofs.Complete.{in_token-run}
 use Rattle.tokens.specs.TokenParts.{Misspells, Misspells.ended, Misspells.differs, Misspells.later, ReadsWord}
-use Rattle.tokens.specs.declared.literals.TokenRead.TheVariants.{Past, Fault}
+use Rattle.std.specs.Prelude.{Ok}
+use Rattle.strings.specs.Chars.{FaultAt}
 
 -- i bytes of the word w stand at place p
 pub record WordPassed (s : List ℕ) (p : ℕ) (w : List ℕ) (i : ℕ) : Type 0 where
@@ -44,14 +45,16 @@ module _ {s : List ℕ} {p : ℕ} {w : List ℕ} {i : ℕ} (v : WordPassed s p w
           misspells = λ q x. v.misspells q (rw (drop-cons w i 0, drop-cons s (p + i) 0, e) (later (rw (add-one i, add-suc p i) at x)));
         }
 
-    pub word-differs : (get_or s (p + i) 0 ≡ get_or w i 0 → ⊥) → ReadsWord s p w (Fault (p + i))
+    pub word-differs : (get_or s (p + i) 0 ≡ get_or w i 0 → ⊥) → ReadsWord s p w (FaultAt (p + i))
     word-differs n = record { told = v.misspells (p + i) (rw (drop-cons w i 0, drop-cons s (p + i) 0) (differs (ne_eqb _ _ n))) }
 
-  pub word_cut : length s ≤ p + i → ReadsWord s p w (Fault (p + i))
+  pub word_cut : length s ≤ p + i → ReadsWord s p w (FaultAt (p + i))
   word_cut g = record { told = v.misspells (p + i) (rw (drop-cons w i 0, drop_of_length-le s g) ended) }
 
-pub word-whole : {s : List ℕ} {p : ℕ} {w : List ℕ} {i : ℕ} → WordPassed s p w i → length w ≤ i → ReadsWord s p w (Past (p + i))
-word-whole {s} {p} {w} {i} v h = record { told = (omega (arith, v.letters), v.within, v.spells (p + i) (rw (drop_of_length-le w h) spelled)) }
+pub word-whole : {s : List ℕ} {p : ℕ} {w : List ℕ} {i : ℕ} → WordPassed s p w i → length w ≤ i → ReadsWord s p w (Ok (p + length w))
+word-whole {s} {p} {w} {i} v h =
+    let q : length w ≡ i = omega (arith, v.letters) in
+    record { told = (refl, rw q v.within, rw q (v.spells (p + i) (rw (drop_of_length-le w h) spelled))) }
 
 module _ (D : Dialect) (word : ℕ → List ℕ → Scalar → D.TokenState) (W : Words D word) (v : Scalar) (lim a : ℕ) (k : Stack) where
   pub word-run : TokensComplete D → {w p q : ℕ} {ws l r : List ℕ} → Spells (w ∷ ws) p l q r → scan D lim (InToken a (word w ws v)) k p l ≡ scan D lim (After (leaf a q v)) k q r

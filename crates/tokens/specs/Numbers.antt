@@ -1,5 +1,5 @@
 -- Serves contracts: the inside of a number of message text, in terms of the byte machine. Nobody has to believe it: the text reader's contract cites the grammar.
-use Rattle.std.specs.Prelude.{ℕ, ◌-◌, ◌≤◌, ◌<◌, ◌≡◌, Bool, true, false, List, reverse, length, get_or, take, drop}
+use Rattle.std.specs.Prelude.{ℕ, ◌-◌, ◌≤◌, ◌<◌, ◌≡◌, Bool, true, false, Result, Ok, Err, List, reverse, length, get_or, take, drop}
 use Prim.Native.Char.{code}
 use Rattle.std.proofs.Math.Option.{some, none}
 use Rattle.grammar.specs.Notation.{digit}
@@ -12,10 +12,8 @@ use Rattle.grammar.specs.Serving.Machine.Out.{fault}
 use Rattle.grammar.specs.Serving.Machine.Message.{message, NumberState, number_step, number_end}
 use Rattle.grammar.specs.Serving.Machine.Message.NumberState.{begin, after_zero, in_int, after_point, after_e}
 use Rattle.grammar.specs.Serving.Machine.Message.TokenState.{number}
-use Rattle.tokens.specs.declared.literals.TokenRead.{TokenRead}
-use Rattle.tokens.specs.declared.literals.TokenRead.TheVariants as Tokens
-use Rattle.tokens.specs.declared.literals.NumberRead.{NumberRead}
-use Rattle.tokens.specs.declared.literals.NumberRead.TheVariants as Numbers
+use Rattle.strings.specs.declared.chars.Fault.{Fault}
+use Rattle.tokens.specs.declared.literals.Number.{Number}
 
 -- the bytes from place a to p, the last first: what the machine has gathered at p of a number that began at a
 unfoldable pub gathered : List ℕ → ℕ → ℕ → List ℕ
@@ -52,10 +50,9 @@ module _ (s : List ℕ) where
     pub runs : (lim a : ℕ) (k : Stack) → a ≤ i
         → scan message lim (InNumber a f i) k i (drop i s) ≡ scan message lim (After (leaf a e (num integer (take (e - a) (drop a s))))) k e (drop e s)
 
-  abbrev pub NumberTold : NumberState → ℕ → NumberRead → Type 0
-  NumberTold f i (Numbers.Integer e) = NumberEnds f i e true
-  NumberTold f i (Numbers.Other e) = NumberEnds f i e false
-  NumberTold f i (Numbers.Fault e) = NumberStops f i e
+  abbrev pub NumberTold : NumberState → ℕ → Result Number Fault → Type 0
+  NumberTold f i (Ok r) = NumberEnds f i r.end r.integer
+  NumberTold f i (Err e) = NumberStops f i e.at
 
   -- at place i stands no digit
   abbrev pub NoDigit : ℕ → Type 0
@@ -76,9 +73,9 @@ module _ (s : List ℕ) where
     pub more : Loops t
 
   -- one digit or more from place i to e, and none after them
-  abbrev pub DigitsTold : NumberState → ℕ → NumberState → TokenRead → Type 0
-  DigitsTold f i t (Tokens.Past e) = NumberRuns f i t e × NoDigit e
-  DigitsTold f i t (Tokens.Fault e) = NumberStops f i e
+  abbrev pub DigitsTold : NumberState → ℕ → NumberState → Result ℕ Fault → Type 0
+  DigitsTold f i t (Ok e) = NumberRuns f i t e × NoDigit e
+  DigitsTold f i t (Err e) = NumberStops f i e.at
 
   -- at place i the number may end in state f, or an exponent may follow
   pub record BeforePower (i : ℕ) (integer : Bool) (f : NumberState) : Type 0 where
@@ -97,29 +94,29 @@ module _ (s : List ℕ) where
     pub other : (i < length s → get_or s i 0 ≡ code "0" → ⊥) → Leads i f in_int
 
   -- the integer part from place i to e
-  abbrev pub IntTold : NumberState → ℕ → TokenRead → Type 0
-  IntTold f i (Tokens.Past e) = (t : NumberState) × NumberRuns f i t e × BeforePoint e t
-  IntTold f i (Tokens.Fault e) = NumberStops f i e
+  abbrev pub IntTold : NumberState → ℕ → Result ℕ Fault → Type 0
+  IntTold f i (Ok e) = (t : NumberState) × NumberRuns f i t e × BeforePoint e t
+  IntTold f i (Err e) = NumberStops f i e.at
 
   -- the exponent after its e
-  abbrev pub PowerTold : ℕ → TokenRead → Type 0
-  PowerTold i (Tokens.Past e) = NumberEnds after_e i e false
-  PowerTold i (Tokens.Fault e) = NumberStops after_e i e
+  abbrev pub PowerTold : ℕ → Result ℕ Fault → Type 0
+  PowerTold i (Ok e) = NumberEnds after_e i e false
+  PowerTold i (Err e) = NumberStops after_e i e.at
 
 -- what each reader answers at place i
-pub record ReadsDigits (s : List ℕ) (i : ℕ) (r : TokenRead) : Type 0 where
+pub record ReadsDigits (s : List ℕ) (i : ℕ) (r : Result ℕ Fault) : Type 0 where
   pub told : (f t : NumberState) → Leads s i f t → DigitsTold s f i t r
 
-pub record ReadsInt (s : List ℕ) (i : ℕ) (r : TokenRead) : Type 0 where
+pub record ReadsInt (s : List ℕ) (i : ℕ) (r : Result ℕ Fault) : Type 0 where
   pub told : (f : NumberState) → BeforeInt s i f → IntTold s f i r
 
-pub record ReadsPower (s : List ℕ) (i : ℕ) (r : TokenRead) : Type 0 where
+pub record ReadsPower (s : List ℕ) (i : ℕ) (r : Result ℕ Fault) : Type 0 where
   pub told : PowerTold s i r
 
 -- of the rest of a number, in any state in P
-pub record ReadsRest (s : List ℕ) (i : ℕ) (P : NumberState → Type 0) (r : NumberRead) : Type 0 where
+pub record ReadsRest (s : List ℕ) (i : ℕ) (P : NumberState → Type 0) (r : Result Number Fault) : Type 0 where
   pub told : (f : NumberState) → P f → NumberTold s f i r
 
 -- of a whole number
-pub record ReadsNumber (s : List ℕ) (i : ℕ) (r : NumberRead) : Type 0 where
+pub record ReadsNumber (s : List ℕ) (i : ℕ) (r : Result Number Fault) : Type 0 where
   pub told : NumberTold s begin i r

@@ -1,25 +1,18 @@
 -- Serves contracts: parts of tokens, in terms of the byte machine. Nobody has to believe it: the text reader's contract cites the grammar.
-use Rattle.std.specs.Prelude.{ℕ, suc, ◌+◌, ◌≤◌, ◌<◌, ◌≡◌, false, List, [], ◌∷◌, eqb, length, get_or, drop}
+use Rattle.std.specs.Prelude.{ℕ, suc, ◌+◌, ◌≤◌, ◌<◌, ◌≡◌, Bool, false, ◌||◌, Result, Ok, Err, List, [], ◌∷◌, eqb, length, get_or, drop}
 use Prim.Native.Char.{code}
 use Rattle.grammar.specs.Tree.{Fields}
+use Rattle.grammar.specs.Notation.{digit}
 use Rattle.grammar.specs.Lexis.{Spells}
 use Rattle.grammar.specs.Serving.Machine.{Dialect, Stack, Control, scan}
 use Rattle.grammar.specs.Serving.Machine.Stack.{in_object}
 use Rattle.grammar.specs.Serving.Machine.Control.{AtValue, AtColon, InComment}
 use Rattle.strings.specs.Strings.{grammar_of, StopsAt}
 use Rattle.strings.specs.declared.dialects.Dialect as Dialects
-use Rattle.strings.specs.declared.strings.StringRead.{StringRead}
-use Rattle.strings.specs.declared.strings.StringRead.TheVariants as Strings
-use Rattle.tokens.specs.NodeKinds.{integer_node, other_number_node, plain_string_node, other_string_node}
+use Rattle.strings.specs.Chars.{FaultAt}
+use Rattle.strings.specs.declared.chars.Fault.{Fault}
 use Rattle.tokens.specs.Tokens.{ReadsScalar}
-use Rattle.tokens.specs.declared.literals.TokenRead.{TokenRead}
-use Rattle.tokens.specs.declared.literals.TokenRead.TheVariants as Tokens
-use Rattle.tokens.specs.declared.literals.NumberRead.{NumberRead}
-use Rattle.tokens.specs.declared.literals.NumberRead.TheVariants as Numbers
-use Rattle.tokens.specs.declared.scalars.ScalarRead.{ScalarRead}
-use Rattle.tokens.specs.declared.scalars.ScalarRead.TheVariants as Scalars
-use Rattle.tokens.specs.declared.separators.KeyRead.{KeyRead}
-use Rattle.tokens.specs.declared.separators.KeyRead.TheVariants as Keys
+use Rattle.tokens.specs.declared.scalars.Scalar.{Scalar}
 
 -- at place p, where l is left, the bytes w do not stand: the first that differs, or the end of l, is at place e
 pub data Misspells : List ℕ → ℕ → List ℕ → ℕ → Type 0 where
@@ -27,32 +20,28 @@ pub data Misspells : List ℕ → ℕ → List ℕ → ℕ → Type 0 where
   differs : {p b c : ℕ} {w l : List ℕ} → eqb c b ≡ false → Misspells (b ∷ w) p (c ∷ l) p
   later : {p b e : ℕ} {w l : List ℕ} → Misspells w (suc p) l e → Misspells (b ∷ w) p (b ∷ l) e
 
-abbrev pub WordTold : List ℕ → ℕ → List ℕ → TokenRead → Type 0
-WordTold s i w (Tokens.Past e) = (e ≡ i + length w) × (e ≤ length s) × Spells w i (drop i s) e (drop e s)
-WordTold s i w (Tokens.Fault e) = Misspells w i (drop i s) e
+abbrev pub WordTold : List ℕ → ℕ → List ℕ → Result ℕ Fault → Type 0
+WordTold s i w (Ok e) = (e ≡ i + length w) × (e ≤ length s) × Spells w i (drop i s) e (drop e s)
+WordTold s i w (Err f) = Misspells w i (drop i s) f.at
 
 -- what the reader of the bytes w at place i answers
-pub record ReadsWord (s : List ℕ) (i : ℕ) (w : List ℕ) (r : TokenRead) : Type 0 where
+pub record ReadsWord (s : List ℕ) (i : ℕ) (w : List ℕ) (r : Result ℕ Fault) : Type 0 where
   pub told : WordTold s i w r
 
--- what was read as a value without brackets, with the kind of its node
-abbrev pub string_node : StringRead → ScalarRead
-string_node (Strings.Plain e) = Scalars.Found plain_string_node e
-string_node (Strings.Coded e) = Scalars.Found other_string_node e
-string_node (Strings.Fault e) = Scalars.Fault e
+abbrev pub begins_number : ℕ → Bool
+begins_number b = eqb b (code "-") || digit b
 
-abbrev pub number_node : NumberRead → ScalarRead
-number_node (Numbers.Integer e) = Scalars.Found integer_node e
-number_node (Numbers.Other e) = Scalars.Found other_number_node e
-number_node (Numbers.Fault e) = Scalars.Fault e
+abbrev pub KindTold : List ℕ → ℕ → List ℕ → ℕ → Result Scalar Fault → Type 0
+KindTold s i w kind (Ok r) = (r.kind ≡ kind) × WordTold s i w (Ok r.end)
+KindTold s i w kind (Err f) = WordTold s i w (Err f)
 
-abbrev pub word_node : TokenRead → ℕ → ScalarRead
-word_node (Tokens.Past e) kind = Scalars.Found kind e
-word_node (Tokens.Fault e) kind = Scalars.Fault e
+-- what the reader of these bytes as a node of that kind answers
+pub record ReadsKind (s : List ℕ) (i : ℕ) (w : List ℕ) (kind : ℕ) (r : Result Scalar Fault) : Type 0 where
+  pub told : KindTold s i w kind r
 
 -- what the reader of true and false answers, in either dialect, if no value stands at place i where neither begins
-pub record ReadsBool (s : List ℕ) (i : ℕ) (r : ScalarRead) : Type 0 where
-  pub told : (d : Dialects.Dialect) → ((get_or s i 0 ≡ code "t" → ⊥) → (get_or s i 0 ≡ code "f" → ⊥) → ReadsScalar (grammar_of d) s i (Scalars.Fault i)) → ReadsScalar (grammar_of d) s i r
+pub record ReadsBool (s : List ℕ) (i : ℕ) (r : Result Scalar Fault) : Type 0 where
+  pub told : (d : Dialects.Dialect) → ((get_or s i 0 ≡ code "t" → ⊥) → (get_or s i 0 ≡ code "f" → ⊥) → ReadsScalar (grammar_of d) s i (FaultAt i)) → ReadsScalar (grammar_of d) s i r
 
 module _ (D : Dialect) (s : List ℕ) where
   -- a comment goes on from place i to e
@@ -68,10 +57,10 @@ module _ (D : Dialect) (s : List ℕ) where
     pub runs : (lim o : ℕ) (fs : Fields) (cs : List ℕ) (k : Stack)
         → scan D lim (AtColon o fs a e cs) k e (drop e s) ≡ scan D lim AtValue (in_object o fs a e cs k) n (drop n s)
 
-  abbrev pub ColonTold : ℕ → ℕ → ℕ → KeyRead → Type 0
-  ColonTold a e kind (Keys.Key b f k n) = (b ≡ a) × (f ≡ e) × (k ≡ kind) × ColonRuns a e n
-  ColonTold a e kind (Keys.Fault f) = (o : ℕ) (fs : Fields) (cs : List ℕ) → StopsAt D s (AtColon o fs a e cs) e f
+  abbrev pub ColonTold : ℕ → Result ℕ Fault → Type 0
+  ColonTold e (Ok n) = (a : ℕ) → ColonRuns a e n
+  ColonTold e (Err f) = (a o : ℕ) (fs : Fields) (cs : List ℕ) → StopsAt D s (AtColon o fs a e cs) e f.at
 
--- what the reader of the colon after the key from a to e answers
-pub record ReadsColon (D : Dialect) (s : List ℕ) (a e kind : ℕ) (r : KeyRead) : Type 0 where
-  pub told : ColonTold D s a e kind r
+-- what the reader of the colon after a key that ends at e answers
+pub record ReadsColon (D : Dialect) (s : List ℕ) (e : ℕ) (r : Result ℕ Fault) : Type 0 where
+  pub told : ColonTold D s e r

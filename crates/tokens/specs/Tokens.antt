@@ -1,5 +1,5 @@
 -- Serves contracts: what a reader of tokens found, in terms of the byte machine. Nobody has to believe it: the text reader's contract cites the grammar.
-use Rattle.std.specs.Prelude.{ℕ, ◌+◌, ◌-◌, ◌≤◌, ◌<◌, ◌≡◌, false, cond, List, length, get_or, take, drop}
+use Rattle.std.specs.Prelude.{ℕ, ◌+◌, ◌-◌, ◌≤◌, ◌<◌, ◌≡◌, Bool, false, cond, Result, Ok, Err, List, length, get_or, take, drop}
 use Prim.Native.Char.{code}
 use Rattle.grammar.specs.Tree.{Scalar, Json, Fields}
 use Rattle.grammar.specs.Tree.Scalar.{null, bool, num, str}
@@ -9,22 +9,31 @@ use Rattle.grammar.specs.Serving.Machine.Stack.{in_object}
 use Rattle.grammar.specs.Serving.Machine.Control.{AtObject, AtValue, AtElement, After, AtFirstKey, AtKey, AtColon}
 use Rattle.strings.specs.Strings.{plain_string, StopsAt, Means}
 use Rattle.tokens.specs.NodeKinds.{null_node, false_node, true_node, integer_node, other_number_node, plain_string_node, other_string_node, plain_key_node, other_key_node}
-use Rattle.tokens.specs.declared.scalars.ScalarRead.{ScalarRead}
-use Rattle.tokens.specs.declared.scalars.ScalarRead.TheVariants as Scalars
-use Rattle.tokens.specs.declared.separators.KeyRead.{KeyRead}
-use Rattle.tokens.specs.declared.separators.KeyRead.TheVariants as Keys
+use Rattle.strings.specs.declared.chars.Fault.{Fault}
+use Rattle.tokens.specs.declared.scalars.Scalar.{Scalar as ScalarEnd}
+use Rattle.tokens.specs.declared.separators.Key.{Key}
 use Rattle.tokens.specs.declared.separators.Following.{Following}
-use Rattle.tokens.specs.declared.separators.Following.TheVariants as Follow
+use Rattle.tokens.specs.declared.separators.Following.TheVariants.{Comma, Close}
+
+-- the kinds of the nodes of strings and keys, plain or not, and of numbers, integers or not
+abbrev pub string_node : Bool → ℕ
+string_node plain = cond plain plain_string_node other_string_node
+
+abbrev pub key_kind : Bool → ℕ
+key_kind plain = cond plain plain_key_node other_key_node
+
+abbrev pub number_node : Bool → ℕ
+number_node integer = cond integer integer_node other_number_node
 
 -- the kind of the node of a value without brackets, and of a key
 abbrev pub scalar_node : List ℕ → ℕ → ℕ → Scalar → ℕ
 scalar_node s a e null = null_node
 scalar_node s a e (bool b) = cond b true_node false_node
-scalar_node s a e (num i token) = cond i integer_node other_number_node
-scalar_node s a e (str cs) = cond (plain_string s a e) plain_string_node other_string_node
+scalar_node s a e (num i token) = number_node i
+scalar_node s a e (str cs) = string_node (plain_string s a e)
 
 abbrev pub key_node : List ℕ → ℕ → ℕ → ℕ
-key_node s a e = cond (plain_string s a e) plain_key_node other_key_node
+key_node s a e = key_kind (plain_string s a e)
 
 module _ (D : Dialect) (s : List ℕ) where
   -- the bytes from place a to e are what v was read from: a number is its token, a string means its code points
@@ -62,9 +71,9 @@ module _ (D : Dialect) (s : List ℕ) where
     pub spelled : ScalarAt i e v
     pub runs : (lim : ℕ) (k : Stack) → scan D lim AtValue k i (drop i s) ≡ scan D lim (After (leaf i e v)) k e (drop e s)
 
-  abbrev pub ScalarTold : ℕ → ScalarRead → Type 0
-  ScalarTold i (Scalars.Found n e) = (v : Scalar) × ScalarRuns i e v × (n ≡ scalar_node s i e v)
-  ScalarTold i (Scalars.Fault e) = StopsAt D s AtValue i e
+  abbrev pub ScalarTold : ℕ → Result ScalarEnd Fault → Type 0
+  ScalarTold i (Ok r) = (v : Scalar) × ScalarRuns i r.end v × (r.kind ≡ scalar_node s i r.end v)
+  ScalarTold i (Err f) = StopsAt D s AtValue i f.at
 
   -- from place i on: a key from a to e that means cs, a colon, and a value from n on
   pub record KeyRuns (i a e n : ℕ) (cs : List ℕ) : Type 0 where
@@ -74,24 +83,24 @@ module _ (D : Dialect) (s : List ℕ) where
     pub within : n ≤ length s
     pub runs : (lim o : ℕ) (fs : Fields) (k : Stack) → scan D lim (AtKey o fs) k i (drop i s) ≡ scan D lim AtValue (in_object o fs a e cs k) n (drop n s)
 
-  abbrev pub KeyTold : ℕ → KeyRead → Type 0
-  KeyTold i (Keys.Key a e kind n) = (cs : List ℕ) × KeyRuns i a e n cs × (kind ≡ key_node s a e)
-  KeyTold i (Keys.Fault e) = (o : ℕ) (fs : Fields) → StopsAt D s (AtKey o fs) i e
+  abbrev pub KeyTold : ℕ → Result Key Fault → Type 0
+  KeyTold i (Ok k) = (cs : List ℕ) × KeyRuns i k.start k.end k.past cs × (k.kind ≡ key_node s k.start k.end)
+  KeyTold i (Err f) = (o : ℕ) (fs : Fields) → StopsAt D s (AtKey o fs) i f.at
 
   -- after blanks and comments from place i on: a comma, the closing bracket, or neither, and then the place past it or of what stands there
-  abbrev pub FollowingTold : ℕ → ℕ → Following → Type 0
-  FollowingTold i close (Follow.Comma n) = (e : ℕ) × Skipped i e × (e < length s) × (get_or s e 0 ≡ code ",") × (n ≡ e + 1)
-  FollowingTold i close (Follow.Close n) = (e : ℕ) × Skipped i e × (e < length s) × (get_or s e 0 ≡ close) × (n ≡ e + 1)
-  FollowingTold i close (Follow.Neither e) = Skipped i e × (e < length s → (get_or s e 0 ≡ code "," → ⊥) × (get_or s e 0 ≡ close → ⊥))
+  abbrev pub FollowingTold : ℕ → ℕ → Result Following Fault → Type 0
+  FollowingTold i close (Ok (Comma n)) = (e : ℕ) × Skipped i e × (e < length s) × (get_or s e 0 ≡ code ",") × (n ≡ e + 1)
+  FollowingTold i close (Ok (Close n)) = (e : ℕ) × Skipped i e × (e < length s) × (get_or s e 0 ≡ close) × (n ≡ e + 1)
+  FollowingTold i close (Err f) = Skipped i f.at × (f.at < length s → (get_or s f.at 0 ≡ code "," → ⊥) × (get_or s f.at 0 ≡ close → ⊥))
 
 -- what each reader answers
-pub record ReadsScalar (D : Dialect) (s : List ℕ) (i : ℕ) (r : ScalarRead) : Type 0 where
+pub record ReadsScalar (D : Dialect) (s : List ℕ) (i : ℕ) (r : Result ScalarEnd Fault) : Type 0 where
   pub told : ScalarTold D s i r
 
-pub record ReadsKey (D : Dialect) (s : List ℕ) (i : ℕ) (r : KeyRead) : Type 0 where
+pub record ReadsKey (D : Dialect) (s : List ℕ) (i : ℕ) (r : Result Key Fault) : Type 0 where
   pub told : KeyTold D s i r
 
-pub record Follows (D : Dialect) (s : List ℕ) (i close : ℕ) (r : Following) : Type 0 where
+pub record Follows (D : Dialect) (s : List ℕ) (i close : ℕ) (r : Result Following Fault) : Type 0 where
   pub told : FollowingTold D s i close r
 
 -- where a value without brackets may be asked for: at the end, or at a byte that is no blank, no comment and no opening bracket

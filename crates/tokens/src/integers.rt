@@ -2,49 +2,30 @@
 ghost use Rattle.std.specs.Prelude.{◌≡◌, cond, ◌-◌, leb, take, drop};
 ghost use Rattle.grammar.specs.Integers.{negative, unsigned_part, decimal};
 
+use strings::bytes::part_of;
+
 // What a byte counts as a digit; one below the digits counts 0.
 fn digit_value(b: u8) -> u64
     ensures { result ≡ b - 48 }
 {
-    if b < b'0' {
-        return 0;
-    }
-    (b - b'0') as u64
+    b.saturating_sub(b'0') as u64
 }
 
-// Whether the bytes from a to e begin with a minus.
-fn has_minus(s: &[u8], a: usize, e: usize) -> bool
-    ensures { result ≡ negative (take (e - a) (drop a s.now)) }
-{
-    if e <= a {
-        return false;
-    }
-    if s.len() <= a {
-        return false;
-    }
-    s[a] == b'-'
-}
-
-// Whether the digits from a to e mean a number up to `most`. It is known as soon as the value so far is above.
-fn at_most(s: &[u8], a: usize, e: usize, most: u64) -> bool
-    ensures { result ≡ leb (decimal 0 (take (e - a) (drop a s.now))) most }
+// Whether the digits mean a number up to `most`. It is known as soon as the value so far is above.
+fn at_most(digits: &[u8], most: u64) -> bool
+    ensures { result ≡ leb (decimal 0 digits.now) most }
 {
     let tenth = most / 10;
     let mut value = 0u64;
-    let mut i = a;
-    while i < e {
-        if s.len() <= i {
-            return true;
-        }
+    for b in digits {
         if tenth < value {
             return false;
         }
-        let d = digit_value(s[i]);
+        let d = digit_value(*b);
         if most - value * 10 < d {
             return false;
         }
         value = value * 10 + d;
-        i += 1;
     }
     true
 }
@@ -53,8 +34,9 @@ fn at_most(s: &[u8], a: usize, e: usize, most: u64) -> bool
 pub fn in_range(s: &[u8], a: usize, e: usize, low: u64, high: u64) -> bool
     ensures { result ≡ leb (decimal 0 (unsigned_part (take (e - a) (drop a s.now)))) (cond (negative (take (e - a) (drop a s.now))) low high) }
 {
-    if has_minus(s, a, e) {
-        return at_most(s, a + 1, e, low);
+    let token = part_of(s, a, e.saturating_sub(a));
+    match token {
+        [b'-', digits @ ..] => at_most(digits, low),
+        _ => at_most(token, high),
     }
-    at_most(s, a, e, high)
 }

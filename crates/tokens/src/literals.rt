@@ -1,163 +1,133 @@
 // Words and numbers.
 ghost use Rattle.std.specs.Prelude.{◌≡◌, ◌<◌, ◌≤◌, length};
-ghost use Rattle.strings.specs.Classes.{class_of, tabulate};
+ghost use Rattle.grammar.specs.MessageText.{letter_e, sign};
 ghost use Rattle.tokens.specs.TokenParts.{ReadsWord};
 ghost use Rattle.tokens.specs.Numbers.{DigitsRun, BeforePower, BeforePoint, BeforeInt};
 ghost use Rattle.tokens.specs.Numbers.{ReadsDigits, ReadsInt, ReadsPower, ReadsRest, ReadsNumber};
 
-use strings::class;
-use strings::classes::class_in;
+use strings::chars::Fault;
+use strings::sources::Source;
 
-// The place past what was read, or the place of the first byte that could not stand there.
-#[derive(Clone, Copy)]
-pub enum TokenRead {
-    Past(usize),
-    Fault(usize),
-}
-
-// The place past a number, which is an integer or not; or the place of the first byte that could not stand there.
-#[derive(Clone, Copy)]
-pub enum NumberRead {
-    Integer(usize),
-    Other(usize),
-    Fault(usize),
+// Whether a number is an integer, and the place past it.
+#[derive(Clone, Copy, PartialEq, Eq)]
+pub struct Number {
+    pub integer: bool,
+    pub end: usize,
 }
 
 // The first place from `from` on that holds no digit.
-fn digits_end(s: &[u8], classes: &[u8; 256], from: usize) -> usize
-    requires { classes.now ≡ tabulate class_of 0 256 }
-    ensures { DigitsRun s.now from result }
+fn digits_end(source: Source, from: usize) -> usize
+    ensures { DigitsRun source.entry.bytes.now from result }
 {
-    let mut i = from;
-    while i < s.len() {
-        if class_in(classes, s[i]) != class::DIGIT {
+    for i in from..source.bytes.len() {
+        if !source.classes.is_digit(source.bytes[i]) {
             return i;
         }
-        i += 1;
     }
-    i
+    from.max(source.bytes.len())
 }
 
 // One digit or more at `from`.
-fn some_digits(s: &[u8], classes: &[u8; 256], from: usize) -> TokenRead
-    requires { classes.now ≡ tabulate class_of 0 256 }
-    ensures { ReadsDigits s.now from result }
+fn some_digits(source: Source, from: usize) -> Result<usize, Fault>
+    ensures { ReadsDigits source.entry.bytes.now from result }
 {
-    if s.len() <= from {
-        return TokenRead::Fault(from);
+    let s = source.bytes;
+    if s.len() <= from || !source.classes.is_digit(s[from]) {
+        return Err(Fault { at: from });
     }
-    if class_in(classes, s[from]) != class::DIGIT {
-        return TokenRead::Fault(from);
-    }
-    TokenRead::Past(digits_end(s, classes, from + 1))
+    Ok(digits_end(source, from + 1))
 }
 
 // The integer part at `from`: a zero alone, or digits that begin with another.
-fn int_end(s: &[u8], classes: &[u8; 256], from: usize) -> TokenRead
-    requires { classes.now ≡ tabulate class_of 0 256 }
-    ensures { ReadsInt s.now from result }
+fn int_end(source: Source, from: usize) -> Result<usize, Fault>
+    ensures { ReadsInt source.entry.bytes.now from result }
 {
-    if from < s.len() {
-        if s[from] == b'0' {
-            return TokenRead::Past(from + 1);
-        }
+    let s = source.bytes;
+    if from < s.len() && s[from] == b'0' {
+        return Ok(from + 1);
     }
-    some_digits(s, classes, from)
+    some_digits(source, from)
+}
+
+fn is_sign(b: u8) -> bool
+    ensures { result ≡ sign b }
+{
+    b == b'-' || b == b'+'
 }
 
 // The exponent at `from`, past its e.
-fn exponent_end(s: &[u8], classes: &[u8; 256], from: usize) -> TokenRead
-    requires { classes.now ≡ tabulate class_of 0 256 }
-    ensures { ReadsPower s.now from result }
+fn exponent_end(source: Source, from: usize) -> Result<usize, Fault>
+    ensures { ReadsPower source.entry.bytes.now from result }
 {
-    if from < s.len() {
-        let b = s[from];
-        match b {
-            b'+' | b'-' => {
-                return some_digits(s, classes, from + 1);
-            }
-            _ => {}
-        }
+    let s = source.bytes;
+    if from < s.len() && is_sign(s[from]) {
+        return some_digits(source, from + 1);
     }
-    some_digits(s, classes, from)
+    some_digits(source, from)
+}
+
+fn opens_exponent(b: u8) -> bool
+    ensures { result ≡ letter_e b }
+{
+    b == b'e' || b == b'E'
 }
 
 // What may follow the integer part or the fraction at `from`: an exponent.
-fn exponent(s: &[u8], classes: &[u8; 256], from: usize, integer: bool) -> NumberRead
-    requires { classes.now ≡ tabulate class_of 0 256 }
-    ensures { ReadsRest s.now from (BeforePower s.now from integer) result }
+fn exponent(source: Source, from: usize, integer: bool) -> Result<Number, Fault>
+    ensures { ReadsRest source.entry.bytes.now from (BeforePower source.entry.bytes.now from integer) result }
 {
-    if from < s.len() {
-        let b = s[from];
-        match b {
-            b'e' | b'E' => {
-                return match exponent_end(s, classes, from + 1) {
-                    TokenRead::Past(e) => NumberRead::Other(e),
-                    TokenRead::Fault(e) => NumberRead::Fault(e),
-                };
-            }
-            _ => {}
-        }
+    let s = source.bytes;
+    if from < s.len() && opens_exponent(s[from]) {
+        let end = exponent_end(source, from + 1)?;
+        return Ok(Number {
+            integer: false,
+            end,
+        });
     }
-    if integer {
-        return NumberRead::Integer(from);
-    }
-    NumberRead::Other(from)
+    Ok(Number { integer, end: from })
 }
 
 // What may follow the integer part at `from`: a fraction, an exponent.
-fn fraction(s: &[u8], classes: &[u8; 256], from: usize) -> NumberRead
-    requires { classes.now ≡ tabulate class_of 0 256 }
-    ensures { ReadsRest s.now from (BeforePoint s.now from) result }
+fn fraction(source: Source, from: usize) -> Result<Number, Fault>
+    ensures { ReadsRest source.entry.bytes.now from (BeforePoint source.entry.bytes.now from) result }
 {
-    if from < s.len() {
-        if s[from] == b'.' {
-            return match some_digits(s, classes, from + 1) {
-                TokenRead::Past(e) => exponent(s, classes, e, false),
-                TokenRead::Fault(e) => NumberRead::Fault(e),
-            };
-        }
+    let s = source.bytes;
+    if from < s.len() && s[from] == b'.' {
+        let end = some_digits(source, from + 1)?;
+        return exponent(source, end, false);
     }
-    exponent(s, classes, from, true)
+    exponent(source, from, true)
 }
 
 // The number at `from`, past its sign.
-fn unsigned(s: &[u8], classes: &[u8; 256], from: usize) -> NumberRead
-    requires { classes.now ≡ tabulate class_of 0 256 }
-    ensures { ReadsRest s.now from (BeforeInt s.now from) result }
+fn unsigned(source: Source, from: usize) -> Result<Number, Fault>
+    ensures { ReadsRest source.entry.bytes.now from (BeforeInt source.entry.bytes.now from) result }
 {
-    match int_end(s, classes, from) {
-        TokenRead::Past(e) => fraction(s, classes, e),
-        TokenRead::Fault(e) => NumberRead::Fault(e),
-    }
+    let end = int_end(source, from)?;
+    fraction(source, end)
 }
 
 // The number that begins at `from` with a minus or a digit.
-pub fn read_number(s: &[u8], classes: &[u8; 256], from: usize) -> NumberRead
-    requires { (classes.now ≡ tabulate class_of 0 256) × (from < length s.now) }
-    ensures { ReadsNumber s.now from result }
+pub fn read_number(source: Source, from: usize) -> Result<Number, Fault>
+    requires { from < length source.bytes.now }
+    ensures { ReadsNumber source.entry.bytes.now from result }
 {
-    if s[from] == b'-' {
-        return unsigned(s, classes, from + 1);
+    if source.bytes[from] == b'-' {
+        return unsigned(source, from + 1);
     }
-    unsigned(s, classes, from)
+    unsigned(source, from)
 }
 
-// The rest w of a word at `from`.
-pub fn read_word(s: &[u8], from: usize, w: &[u8]) -> TokenRead
+// The rest w of a word at `from`, and the place past it.
+pub fn read_word(s: &[u8], from: usize, w: &[u8]) -> Result<usize, Fault>
     requires { from ≤ length s.now }
     ensures { ReadsWord s.now from w.now result }
 {
-    let mut i = 0;
-    while i < w.len() {
+    for i in 0..w.len() {
         let at = from + i;
-        if s.len() <= at {
-            return TokenRead::Fault(at);
+        if s.len() <= at || s[at] != w[i] {
+            return Err(Fault { at });
         }
-        if s[at] != w[i] {
-            return TokenRead::Fault(at);
-        }
-        i += 1;
     }
-    TokenRead::Past(from + i)
+    Ok(from + w.len())
 }

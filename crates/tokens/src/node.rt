@@ -1,4 +1,5 @@
 // The kinds of nodes, as specs/NodeKinds names them: of each value and each key of a text. A plain string or key has neither a backslash nor a byte above 0x7F.
+// Numbers and no enum: the contract of `read_message` speaks of lent words, which C also sees through the probe.
 pub const NULL: u32 = 1;
 
 pub const FALSE: u32 = 2;

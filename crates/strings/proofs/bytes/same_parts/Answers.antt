@@ -1,10 +1,13 @@
--- `bytes::same_parts` compares two parts: last bytes that differ refuse early.
+-- `bytes::same_parts` compares two parts as slices.
 use native.Mathlib.Omega.{arith}
-use Rattle.strings.proofs.Parts.{parts_none, parts_differ}
+use Prim.Native.Nat.{◌+◌, ◌-◌}
+use mathlib.Core.Path.{◌≡◌}
+use Rattle.strings.specs.Bytes.{same_parts}
 use Rattle.strings.proofs.bytes.same_parts.Goals as goal
 
-pub returns-then-n-eq0 : goal.returns-then-n-eq0
-returns-then-n-eq0 c = parts_none _ _ _ _ c.if-n-eq0.true
-
-pub returns-then-s-i : goal.returns-then-s-i
-returns-then-s-i c = parts_differ _ _ _ _ _ _ (omega arith) c.if-s-i.true
+pub returns : goal.returns
+unfolding same_parts
+returns c =
+    let p : c.args.i + c.args.n - c.args.i ≡ c.args.n = omega arith in
+    let q : c.args.j + c.args.n - c.args.j ≡ c.args.n = omega arith in
+    rw (p, q) at c.same_bytes.ensures

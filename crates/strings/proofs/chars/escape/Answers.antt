@@ -1,5 +1,6 @@
--- `text::chars::escape` reads what follows a backslash as the machine does.
+-- `chars::escape` reads what follows a backslash as the machine does.
 -- One way out for each byte of the grammar's table, one for `u`, and one for all others.
+use native.Mathlib.Omega.{arith}
 use mathlib.Core.Path.{refl, ◌∙◌}
 use Rattle.grammar.specs.MessageText.Escape.{quotation_mark, reverse_solidus, solidus, backspace, form_feed, line_feed, carriage_return, tab}
 use Rattle.grammar.specs.Serving.Machine.Message.{message}
@@ -39,5 +40,5 @@ returns-in-116 c = escape-char _ _ c.if-s-i.false tab c.in-116.is
 
 pub returns-in_default : goal.returns-in_default
 returns-in_default c =
-    let n = c.in_default.in_default-own.rest in escape-other _ _ c.if-s-i.false refl n.0.0.0.0.0.0.0.0.1 n.0.0.0.0.0.0.0.1
-    n.0.0.0.0.0.0.1 n.0.0.0.0.0.1 n.0.0.0.0.1 n.0.0.0.1 n.0.0.1 n.0.1 n.1
+    escape-other _ _ c.if-s-i.false refl (omega arith) (omega arith) (omega arith) (omega arith) (omega arith) (omega arith)
+    (omega arith) (omega arith) (omega arith)

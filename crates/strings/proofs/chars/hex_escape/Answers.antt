@@ -1,42 +1,32 @@
--- `text::chars::hex_escape` goes through the digits of `\u` as the machine does.
+-- `chars::hex_escape` goes through the digits of `\u` as the machine does.
 -- Two digits that begin no low surrogate, two more, and after a high surrogate its low one.
 use native.Mathlib.Omega.{arith}
-use mathlib.Core.Path.{sym, ◌∙◌}
-use Rattle.grammar.proofs.Booleans.{within-true}
-use Rattle.strings.proofs.MessageChars.{digits-refused, digits-told, leads-first, leads-last, low-start, half, high, alone}
+use mathlib.Core.Path.{◌∙◌}
+use Rattle.grammar.proofs.Booleans.Outside.{below, above}
+use Rattle.strings.proofs.CharRuns.{handed_on}
+use Rattle.strings.proofs.MessageChars.{digits-fault, leads-first, leads-last, low-start, half, high, alone}
 use Rattle.strings.proofs.chars.hex_escape.Goals as goal
+use Rattle.strings.proofs.chars.hex_escape.Goals.{else-first-ge220-via-then-first-ge220+else-first-le223, else-first-ge220-via-else-first-ge220, else-unit-ge55296-via-then-unit-ge55296+else-unit-le56319, else-unit-ge55296-via-else-unit-ge55296}
 
-pub returns-in_default : goal.returns-in_default
-returns-in_default c = c.in_default.is ∙ digits-refused c.two_digits-first.ensures leads-first c.in_default.is
+pub returns-in_err-first : goal.returns-in_err-first
+returns-in_err-first c = handed_on c.from_residual.result c.from_residual.ensures.1 ∙ digits-fault leads-first c.in_err-first.ensures
 
-pub overflow_add-result : goal.overflow_add-result
-overflow_add-result c = omega (arith, digits-told c.two_digits-first.ensures c.in-Code.is)
+pub returns-then-first-le223 : goal.returns-then-first-le223
+returns-then-first-le223 c = low-start c.in_ok-first.ensures (omega arith) (omega arith)
 
-pub returns-then-within : goal.returns-then-within
-returns-then-within c =
-    low-start c.two_digits-first.ensures c.in-Code.is c.within.ensures c.if-within.true
+pub returns-in_err-unit : goal.returns-in_err-unit
+returns-in_err-unit c =
+    handed_on c.from_residual-in_err-unit.result c.from_residual-in_err-unit.ensures.1
+    ∙ digits-fault (leads-last _) c.in_err-unit.ensures
+    ∙ half c.in_ok-first.ensures (elim c.else-first-ge220.branch [ else-first-ge220-via-then-first-ge220+else-first-le223 w ↦ above w.if-first-le223.false | else-first-ge220-via-else-first-ge220 w ↦ below w.if-first-ge220.false ])
 
-pub two_digits-last-requires : goal.two_digits-last-requires
-two_digits-last-requires c =
-    omega (arith, digits-told c.two_digits-first.ensures c.in-Code.is)
-
-pub returns-in_default-last : goal.returns-in_default-last
-returns-in_default-last c =
-    c.in_default-last.is
-    ∙ digits-refused c.two_digits-last.ensures (leads-last _) c.in_default-last.is
-    ∙ half c.two_digits-first.ensures c.in-Code.is c.within.ensures c.if-within.false
-
-pub low_surrogate-requires : goal.low_surrogate-requires
-low_surrogate-requires c =
-    within-true 0xD800 0xDBFF c.in-Code-last.u (sym c.within-2.ensures ∙ c.if-within-2.true)
-
-pub returns-then-within-2 : goal.returns-then-within-2
-returns-then-within-2 c =
+pub returns-then-unit-le56319 : goal.returns-then-unit-le56319
+returns-then-unit-le56319 c =
     c.low_surrogate.ensures
-    ∙ high c.two_digits-last.ensures c.in-Code-last.is c.within-2.ensures c.if-within-2.true
-    ∙ half c.two_digits-first.ensures c.in-Code.is c.within.ensures c.if-within.false
+    ∙ high c.in_ok-unit.ensures (omega arith) (omega arith)
+    ∙ half c.in_ok-first.ensures (elim c.else-first-ge220.branch [ else-first-ge220-via-then-first-ge220+else-first-le223 w ↦ above w.if-first-le223.false | else-first-ge220-via-else-first-ge220 w ↦ below w.if-first-ge220.false ])
 
 pub returns : goal.returns
 returns c =
-    alone c.two_digits-last.ensures c.in-Code-last.is c.within-2.ensures c.if-within-2.false
-    ∙ half c.two_digits-first.ensures c.in-Code.is c.within.ensures c.if-within.false
+    alone c.in_ok-unit.ensures (elim c.else-unit-ge55296.branch [ else-unit-ge55296-via-then-unit-ge55296+else-unit-le56319 w ↦ above w.if-unit-le56319.false | else-unit-ge55296-via-else-unit-ge55296 w ↦ below w.if-unit-ge55296.false ])
+    ∙ half c.in_ok-first.ensures (elim c.else-first-ge220.branch [ else-first-ge220-via-then-first-ge220+else-first-le223 w ↦ above w.if-first-le223.false | else-first-ge220-via-else-first-ge220 w ↦ below w.if-first-ge220.false ])

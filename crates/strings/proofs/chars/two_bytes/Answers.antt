@@ -1,15 +1,12 @@
--- `text::chars::two_bytes` reads two bytes of UTF-8.
+-- `chars::two_bytes` reads two bytes of UTF-8.
 -- The first byte is the last of one, and the second of the same after it.
-use native.Mathlib.Omega.{arith}
 use mathlib.Core.Path.{◌∙◌}
-use Rattle.strings.proofs.Utf8.{one_byte, bytes-refused, bytes_on, byte_low}
+use Rattle.strings.proofs.CharRuns.{handed_on}
+use Rattle.strings.proofs.Utf8.{one_byte, bytes-fault, bytes-code}
 use Rattle.strings.proofs.chars.two_bytes.Goals as goal
 
-pub last_byte-requires-in-Code : goal.last_byte-requires-in-Code
-last_byte-requires-in-Code c = omega (arith, byte_low c.last_byte.ensures c.in-Code.is)
+pub returns-in_err-first : goal.returns-in_err-first
+returns-in_err-first c = handed_on c.from_residual.result c.from_residual.ensures.1 ∙ bytes-fault 1 c.in_err-first.ensures
 
-pub returns-in-Fault : goal.returns-in-Fault
-returns-in-Fault c = bytes-refused c.last_byte.ensures 1 c.in-Fault.is
-
-pub returns-in-Code : goal.returns-in-Code
-returns-in-Code c = one_byte c.last_byte-in-Code.ensures ∙ bytes_on c.last_byte.ensures 1 c.in-Code.is
+pub returns : goal.returns
+returns c = one_byte c.last_byte-2.ensures ∙ bytes-code 1 c.in_ok-first.ensures

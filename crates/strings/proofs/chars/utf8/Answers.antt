@@ -1,7 +1,7 @@
--- `text::chars::utf8` reads UTF-8 after its lead byte as the machine does.
+-- `chars::utf8` reads UTF-8 after its lead byte as the machine does.
 -- One way out for each state that a lead byte leads to, and two for the bytes that lead to none.
 use native.Mathlib.Omega.{arith}
-use mathlib.Core.Path.{sym, ◌∙◌}
+use mathlib.Core.Path.{refl, sym, ◌∙◌}
 use Rattle.grammar.specs.Serving.Machine.Message.Want.{one, two, two_E0, two_ED, three, three_F0, three_F4}
 use Rattle.grammar.proofs.Booleans.Outside.{below, above}
 use Rattle.grammar.proofs.StringsComplete.{lead-two, lead-three, lead-four, lead_E0, lead_ED, lead_F0, lead_F4}
@@ -22,13 +22,13 @@ pub returns-in-244 : goal.returns-in-244
 returns-in-244 c = c.three_bytes-in-244.ensures ∙ lead-bytes three_F4 _ _ (sym c.in-244.is) lead_F4
 
 pub returns-in-194-to-223 : goal.returns-in-194-to-223
-returns-in-194-to-223 c = one_byte c.last_byte.ensures ∙ lead-bytes one _ _ c.wide.ensures (lead-two _ (omega arith) (omega arith))
+returns-in-194-to-223 c = one_byte c.last_byte.ensures ∙ lead-bytes one _ _ refl (lead-two _ (omega arith) (omega arith))
 
 pub returns-in-225-to-239 : goal.returns-in-225-to-239
-returns-in-225-to-239 c = c.two_bytes-in-225-to-239.ensures ∙ lead-bytes two _ _ c.wide-in-225-to-239.ensures (lead-three _ (omega arith) (omega arith) (omega arith))
+returns-in-225-to-239 c = c.two_bytes-in-225-to-239.ensures ∙ lead-bytes two _ _ refl (lead-three _ (omega arith) (omega arith) (omega arith))
 
 pub returns-in-241-to-243 : goal.returns-in-241-to-243
-returns-in-241-to-243 c = c.three_bytes-in-241-to-243.ensures ∙ lead-bytes three _ _ c.wide-in-241-to-243.ensures (lead-four _ (omega arith) (omega arith))
+returns-in-241-to-243 c = c.three_bytes-in-241-to-243.ensures ∙ lead-bytes three _ _ refl (lead-four _ (omega arith) (omega arith))
 
 pub returns-in_default : goal.returns-in_default
 returns-in_default c = lead-none _ _ _ c.requires.1 (below (omega arith))

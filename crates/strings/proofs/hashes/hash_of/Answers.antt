@@ -1,10 +1,9 @@
 -- `hashes::hash_of` gives the hash of what a string means.
 -- A plain string means its bytes.
-use Rattle.strings.proofs.HashLaws.{hash-plain, hash-coded}
+use mathlib.Core.Path.{ap, ◌∙◌}
+use Rattle.strings.specs.Hashes.{hash_of}
+use Rattle.strings.proofs.HashLaws.{hash-plain}
 use Rattle.strings.proofs.hashes.hash_of.Goals as goal
 
 pub returns-then-plain : goal.returns-then-plain
-returns-then-plain c = hash-plain c.args.dialect c.if-plain.true c.bytes_hash.ensures
-
-pub returns : goal.returns
-returns c = hash-coded _ c.codes_hash.ensures
+returns-then-plain c = hash-plain c.args.dialect c.if-plain.true (c.bytes_hash.ensures ∙ ap hash_of c.inside.ensures)

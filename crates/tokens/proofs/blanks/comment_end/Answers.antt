@@ -1,11 +1,8 @@
 -- `blanks::comment_end` meets its contract: the machine leaves the comment at its LF or at the end.
 -- The invariant: up to `i` the machine stays inside the comment.
 use native.Mathlib.Omega.{arith}
-use Rattle.tokens.proofs.BlankRuns.{commented_none, commented_more, comment_line, comment-text}
+use Rattle.tokens.proofs.BlankRuns.{commented_more, comment_line, comment-text}
 use Rattle.tokens.proofs.blanks.comment_end.Goals as goal
-
-pub loop-i-init : goal.loop-i-init
-loop-i-init c = commented_none _ _ _
 
 pub returns-then-s-i-eq10 : goal.returns-then-s-i-eq10
 returns-then-s-i-eq10 c = comment_line c.loop-i.invariant (omega arith) c.if-s-i-eq10.true
@@ -14,4 +11,4 @@ pub loop-i-preserved : goal.loop-i-preserved
 loop-i-preserved c = commented_more c.loop-i.invariant (omega arith) c.if-s-i-eq10.false
 
 pub returns : goal.returns
-returns c = comment-text c.loop-i.invariant (omega arith)
+returns c = rw c.max.ensures (comment-text c.loop-i.invariant (omega arith))

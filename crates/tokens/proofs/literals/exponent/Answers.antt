@@ -1,27 +1,20 @@
 -- `literals::exponent` meets its contract: an exponent, or the end of the number.
--- By the first byte, and without an exponent by what the number is so far.
+-- By the first byte.
 use native.Mathlib.Omega.{arith}
-use Rattle.tokens.proofs.NumberRuns.{exponent-past, exponent-fault, integer-ends, fraction-ends}
-use Rattle.tokens.proofs.NumberStates.{one_of_two, neither}
+use mathlib.Core.Path.{sym, ◌∙◌}
+use Rattle.strings.proofs.CharRuns.{handed_on}
+use Rattle.tokens.proofs.NumberRuns.{exponent-past, exponent-fault, number-ends}
 use Rattle.tokens.proofs.literals.exponent.Goals as goal
-use Rattle.tokens.proofs.literals.exponent.Goals.{then-from-s+in_default, else-from-s}
+use Rattle.tokens.proofs.literals.exponent.Goals.{else-from-s-via-then-from-s+else-opens_exponent, else-from-s-via-else-from-s}
 
-pub returns-in-Past : goal.returns-in-Past
-returns-in-Past c =
-    exponent-past (omega arith) (one_of_two _ 69 101 c.in-101.is)
-    c.exponent_end.ensures c.in-Past.is
+pub returns-in_err-end : goal.returns-in_err-end
+returns-in_err-end c =
+    rw (handed_on c.from_residual.result c.from_residual.ensures.1)
+    (exponent-fault c.if-from-s.true (sym c.opens_exponent.ensures ∙ c.if-opens_exponent.true) c.in_err-end.ensures)
 
-pub returns-in-Fault : goal.returns-in-Fault
-returns-in-Fault c =
-    exponent-fault (omega arith) (one_of_two _ 69 101 c.in-101.is)
-    c.exponent_end.ensures c.in-Fault.is
-
-pub returns-then-integer : goal.returns-then-integer
-returns-then-integer c =
-    integer-ends c.if-integer.true
-    (elim c.if-from-s.branch [ then-from-s+in_default w ↦ λ _. neither _ 69 101 w.in_default.in_default-own.rest.1 | else-from-s w ↦ λ h. absurd (omega (arith, w.if-from-s.false)) ])
+pub returns-then-opens_exponent : goal.returns-then-opens_exponent
+returns-then-opens_exponent c = exponent-past c.if-from-s.true (sym c.opens_exponent.ensures ∙ c.if-opens_exponent.true) c.in_ok-end.ensures
 
 pub returns : goal.returns
 returns c =
-    fraction-ends c.if-integer.false
-    (elim c.if-from-s.branch [ then-from-s+in_default w ↦ λ _. neither _ 69 101 w.in_default.in_default-own.rest.1 | else-from-s w ↦ λ h. absurd (omega (arith, w.if-from-s.false)) ])
+    number-ends (elim c.else-from-s.branch [ else-from-s-via-then-from-s+else-opens_exponent w ↦ λ _. sym w.opens_exponent.ensures ∙ w.if-opens_exponent.false | else-from-s-via-else-from-s w ↦ λ h. absurd (omega (arith, w.if-from-s.false)) ])

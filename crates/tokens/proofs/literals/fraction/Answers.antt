@@ -1,17 +1,12 @@
 -- `literals::fraction` meets its contract: a fraction and what `exponent` reads, or that alone.
 -- By the first byte.
-use native.Mathlib.Omega.{arith}
-use Rattle.tokens.proofs.NumberRuns.{fraction-past, fraction-fault, no_fraction}
+use Rattle.strings.proofs.CharRuns.{handed_on}
+use Rattle.tokens.proofs.NumberRuns.{fraction-past, fraction-fault}
 use Rattle.tokens.proofs.literals.fraction.Goals as goal
-use Rattle.tokens.proofs.literals.fraction.Goals.{then-from-s+else-s-from-eq46, else-from-s}
 
-pub returns-in-Past : goal.returns-in-Past
-returns-in-Past c =
-    fraction-past (omega arith) c.if-s-from-eq46.true c.some_digits.ensures
-    c.in-Past.is c.exponent.ensures
+pub returns-in_err-end : goal.returns-in_err-end
+returns-in_err-end c =
+    rw (handed_on c.from_residual.result c.from_residual.ensures.1) (fraction-fault c.if-from-s.true c.if-s-from-eq46.true c.in_err-end.ensures)
 
-pub returns-in-Fault : goal.returns-in-Fault
-returns-in-Fault c = fraction-fault (omega arith) c.if-s-from-eq46.true c.some_digits.ensures c.in-Fault.is
-
-pub returns : goal.returns
-returns c = no_fraction (elim c.if-from-s.branch [ then-from-s+else-s-from-eq46 w ↦ λ _. w.if-s-from-eq46.false | else-from-s w ↦ λ h. absurd (omega (arith, w.if-from-s.false)) ]) c.exponent-2.ensures
+pub returns-then-s-from-eq46 : goal.returns-then-s-from-eq46
+returns-then-s-from-eq46 c = fraction-past c.if-from-s.true c.if-s-from-eq46.true c.in_ok-end.ensures c.exponent.ensures

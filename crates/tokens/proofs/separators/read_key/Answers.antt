@@ -1,34 +1,33 @@
--- `separators::read_key` meets its contract: after blanks a string and a colon stand there, or the machine stops where one of them fails.
--- By what the readers of its parts answer.
-use native.Mathlib.Omega.{arith}
+-- `separators::read_key` meets its contract: the key after blanks, with its colon.
+-- By the byte after the blanks, the string there, and the colon.
 use mathlib.Core.Path.{sym, ◌∙◌}
-use Rattle.tokens.proofs.KeyReads.{key-end, no_key, plain-key, coded-key, key-fault}
+use Rattle.strings.proofs.CharRuns.{handed_on}
+use Rattle.tokens.proofs.KeyReads.{key-end, no_key, key-fault, colon-fault, a-key}
 use Rattle.tokens.proofs.StringTokens.{dialect_complete}
 use Rattle.tokens.proofs.separators.read_key.Goals as goal
+use Rattle.tokens.proofs.separators.read_key.Goals.{then-s-start-via-then-s-start, then-s-start-via-else-s-start+then-not-opens_string}
 
-pub returns-then-s-a : goal.returns-then-s-a
-returns-then-s-a c = key-end c.skip_blanks-a.ensures (omega arith)
+pub returns-then-s-start : goal.returns-then-s-start
+returns-then-s-start c =
+    elim c.then-s-start.branch [
+      | then-s-start-via-then-s-start w ↦ key-end c.skip_blanks-start.ensures w.if-s-start.true
+      | then-s-start-via-else-s-start+then-not-opens_string w ↦ no_key c.skip_blanks-start.ensures w.if-s-start.false (sym w.opens_string.ensures ∙ w.if-not-opens_string.true)
+    ]
 
-pub returns-then-not-opens_string : goal.returns-then-not-opens_string
-returns-then-not-opens_string c = no_key c.skip_blanks-a.ensures (omega arith) (sym c.opens_string.ensures ∙ c.if-not-opens_string.true)
+pub returns-in_err-string : goal.returns-in_err-string
+returns-in_err-string c =
+    rw (handed_on c.from_residual.result c.from_residual.ensures.1)
+    (key-fault c.skip_blanks-start.ensures c.if-s-start.false (dialect_complete c.args.source.dialect) (sym c.opens_string.ensures ∙ c.if-not-opens_string.false)
+    c.in_err-string.ensures)
 
-pub returns-in-Plain : goal.returns-in-Plain
-returns-in-Plain c =
-    let w = c.skip_blanks-a.ensures in
-    let t = sym c.opens_string.ensures ∙ c.if-not-opens_string.false in
-    plain-key w (omega arith) (dialect_complete c.args.dialect) t
-    c.read_string.ensures c.in-Plain.is c.colon.ensures
+pub returns-in_err-past : goal.returns-in_err-past
+returns-in_err-past c =
+    rw (handed_on c.from_residual-in_err-past.result c.from_residual-in_err-past.ensures.1)
+    (colon-fault c.skip_blanks-start.ensures c.if-s-start.false (dialect_complete c.args.source.dialect) (sym c.opens_string.ensures ∙ c.if-not-opens_string.false)
+    c.in_ok-string.ensures c.in_err-past.ensures)
 
-pub returns-in-Coded : goal.returns-in-Coded
-returns-in-Coded c =
-    let w = c.skip_blanks-a.ensures in
-    let t = sym c.opens_string.ensures ∙ c.if-not-opens_string.false in
-    coded-key w (omega arith) (dialect_complete c.args.dialect) t
-    c.read_string.ensures c.in-Coded.is c.colon-in-Coded.ensures
-
-pub returns-in-Fault : goal.returns-in-Fault
-returns-in-Fault c =
-    let w = c.skip_blanks-a.ensures in
-    let t = sym c.opens_string.ensures ∙ c.if-not-opens_string.false in
-    key-fault w (omega arith) (dialect_complete c.args.dialect) t
-    c.read_string.ensures c.in-Fault.is
+pub returns : goal.returns
+returns c =
+    rw c.key_kind.ensures
+    (a-key c.skip_blanks-start.ensures c.if-s-start.false (dialect_complete c.args.source.dialect) (sym c.opens_string.ensures ∙ c.if-not-opens_string.false)
+    c.in_ok-string.ensures c.in_ok-past.ensures)

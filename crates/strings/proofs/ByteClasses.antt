@@ -1,16 +1,17 @@
 -- What the class of a byte says of it: whether it is a blank, whether it is a digit.
 -- By the tests of the rule, in their order.
-use Prim.Native.Nat.{ℕ, ◌≤◌, ◌<◌}
+use Prim.Native.Nat.{ℕ, ◌<◌}
 use Prim.Native.Char.{code}
 use native.Mathlib.Omega.{arith}
-use mathlib.Core.Path.{◌≡◌, refl, ◌∙◌}
+use mathlib.Core.Path.{◌≡◌, refl}
 use mathlib.Core.Bool.{true, false, ◌||◌}
 use lib.Dec.{eqb, leb}
-use borrow.Author.Tests.{eqb-true, leb-true, eq-eqb, ne_eqb}
-use Rattle.grammar.specs.Notation.{within, digit}
+use borrow.Author.Tests.{eqb-true, leb-true}
+use Rattle.grammar.specs.Notation.{digit}
 use Rattle.grammar.specs.Lexis.{blank}
-use Rattle.grammar.proofs.Booleans.{by, either, within-is, within-below, within-above}
-use Rattle.strings.specs.Classes.{named, class_of, break_class, space_class, digit_class}
+use Rattle.grammar.proofs.Booleans.{by, either, within-below, within-above}
+use Rattle.strings.specs.declared.class.Class.{Class}
+use Rattle.strings.specs.Classes.{named, class_of, blank_class, digit_class}
 
 module _ (b : ℕ) where
   space-blank : eqb b (code " ") ≡ true → blank b ≡ true
@@ -35,30 +36,13 @@ module _ (b : ℕ) where
   above h = within-above (code "0") (code "9") b h
 
   -- the classes of breaks and the space are the blanks, that of digits the digits
-  tells : (blank b ≡ within break_class space_class (class_of b)) × (digit b ≡ eqb (class_of b) digit_class)
+  pub tells : (blank b ≡ blank_class (class_of b)) × (digit b ≡ digit_class (class_of b))
   unfolding class_of
   tells =
-      let P : ℕ → Type 0 = λ c. (blank b ≡ within break_class space_class c) × (digit b ≡ eqb c digit_class) in
+      let P : Class → Type 0 = λ c. (blank b ≡ blank_class c) × (digit b ≡ digit_class c) in
       by P (eqb b (code " ")) (λ t. (space-blank t, blank-no_digit (space-blank t)))
       (λ _. by P (blank b) (λ t. (t, blank-no_digit t))
       (λ f. by P (leb b 0x1F) (λ t. let e = leb-true b 0x1F t in (f, below (omega arith)))
       (λ _. by P (leb 0x80 b) (λ t. let e = leb-true 0x80 b t in (f, above (omega arith)))
       (λ _. by P (eqb b (code "\"")) (λ t. let e = eqb-true b (code "\"") t in (f, below (omega arith)))
       (λ _. by P (eqb b (code "\\")) (λ t. let e = eqb-true b (code "\\") t in (f, above (omega arith))) (λ _. by P (digit b) (λ t. (f, t)) (λ t. by P (named b) (λ _. (f, t)) (λ _. (f, t)))))))))
-
--- the class c that was read for b
-module _ (b : ℕ) {c : ℕ} (e : c ≡ class_of b) where
-  pub class_blank : break_class ≤ c → c ≤ space_class → blank b ≡ true
-  class_blank h g = (tells b).0 ∙ rw (← e) (within-is break_class space_class c h g)
-
-  pub class_below : c < break_class → blank b ≡ false
-  class_below h = (tells b).0 ∙ rw (← e) (within-below break_class space_class c h)
-
-  pub class_above : space_class < c → blank b ≡ false
-  class_above h = (tells b).0 ∙ rw (← e) (within-above break_class space_class c h)
-
-  pub class_digit : c ≡ digit_class → digit b ≡ true
-  class_digit h = (tells b).1 ∙ rw (← e) (eq-eqb c digit_class h)
-
-  pub class_no_digit : (c ≡ digit_class → ⊥) → digit b ≡ false
-  class_no_digit n = (tells b).1 ∙ rw (← e) (ne_eqb c digit_class n)
