@@ -6,8 +6,8 @@ use native.Mathlib.Numerals.{add-one}
 use mathlib.Core.Path.{◌≡◌, subst}
 use mathlib.Core.Logic.{◌↔◌}
 use borrow.Author.Count.{below_more}
-use Rattle.sorted.specs.declared.repeats.Found.{Found}
-use Rattle.sorted.specs.declared.repeats.Found.TheVariants.{Never, At, GivenUp}
+use Rattle.std.specs.Prelude.{Option, Some, None, Result, Ok, Err}
+use Rattle.sorted.specs.declared.repeats.GivenUp.{GivenUp}
 use Rattle.sorted.specs.Repeats.{Repeat, NoneTo, Tells, Finds}
 
 -- two ways to tell the numbers below n apart
@@ -21,12 +21,12 @@ module _ {A B : Type 0} {f : ℕ → A} {g : ℕ → B} {n : ℕ} (t : (i j : �
         new = λ i k r. v.new i k (record { other = r.other; before = r.before; same = (t r.other i (omega (arith, r.before)) (omega arith)).1 r.same });
       }
 
-  tells_as : (r : Found) → Tells f n r → Tells g n r
-  tells_as Never v = none_as (omega arith) v
-  tells_as (At i) v = (v.0, repeat_as v.0 v.1, none_as (omega (arith, v.0)) v.2)
-  tells_as GivenUp v = tt
+  tells_as : (r : Result (Option ℕ) GivenUp) → Tells f n r → Tells g n r
+  tells_as (Ok None) v = none_as (omega arith) v
+  tells_as (Ok (Some i)) v = (v.0, repeat_as v.0 v.1, none_as (omega (arith, v.0)) v.2)
+  tells_as (Err e) v = tt
 
-  pub finds_as : {r : Found} → Finds f n r → Finds g n r
+  pub finds_as : {r : Result (Option ℕ) GivenUp} → Finds f n r → Finds g n r
   finds_as {r} v = record { told = tells_as r v.told }
 
 module _ {A : Type 0} {f : ℕ → A} where
@@ -39,5 +39,5 @@ module _ {A : Type 0} {f : ℕ → A} where
   pub none_end : {i n : ℕ} → n ≤ i → NoneTo f i → NoneTo f n
   none_end h v = record { new = λ m k. v.new m (omega arith) }
 
-  pub finds-nothing : {n : ℕ} → Finds f n GivenUp
-  finds-nothing = record { told = tt }
+  pub finds-nothing : {n : ℕ} → (e : GivenUp) → Finds f n (Err e)
+  finds-nothing e = record { told = tt }

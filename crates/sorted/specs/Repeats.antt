@@ -1,11 +1,6 @@
 -- The first number that repeats one before it. Number i stands for f i.
-use Rattle.std.specs.Prelude.{ℕ, ◌<◌, ◌≡◌, cond, ltb}
-use Rattle.sorted.specs.declared.repeats.Found.{Found}
-use Rattle.sorted.specs.declared.repeats.Found.TheVariants.{Never, At, GivenUp}
-
--- the number, if it is below n
-abbrev pub found_below : ℕ → ℕ → Found
-found_below i n = cond (ltb i n) (At i) Never
+use Rattle.std.specs.Prelude.{ℕ, ◌<◌, ◌≡◌, Option, Some, None, Result, Ok, Err}
+use Rattle.sorted.specs.declared.repeats.GivenUp.{GivenUp}
 
 module _ {A : Type 0} (f : ℕ → A) where
   -- i stands for what a number before it does
@@ -18,11 +13,11 @@ module _ {A : Type 0} (f : ℕ → A) where
   pub record NoneTo (n : ℕ) : Type 0 where
     pub new : (i : ℕ) → i < n → Repeat i → ⊥
 
-  abbrev pub Tells : ℕ → Found → Type 0
-  Tells n Never = NoneTo n
-  Tells n (At i) = (i < n) × Repeat i × NoneTo i
-  Tells n GivenUp = Unit {0}
+  abbrev pub Tells : ℕ → Result (Option ℕ) GivenUp → Type 0
+  Tells n (Ok None) = NoneTo n
+  Tells n (Ok (Some i)) = (i < n) × Repeat i × NoneTo i
+  Tells n (Err e) = Unit {0}
 
   -- what a search finds among the numbers below n
-  pub record Finds (n : ℕ) (r : Found) : Type 0 where
+  pub record Finds (n : ℕ) (r : Result (Option ℕ) GivenUp) : Type 0 where
     pub told : Tells n r

@@ -5,5 +5,4 @@
 pub mod lists;
 pub mod orders;
 pub mod repeats;
-pub mod sorting;
 pub mod spans;

@@ -1,43 +1,43 @@
-// Where the numbers of a list stand: a list with a place for each number below n has all of them.
-ghost use Rattle.std.specs.Prelude.{◌≡◌, true, ◌^◌, ◌<◌};
+// Lists of the numbers of spans, and where each stands: a list with a place for each number below its length has all of them.
+ghost use Rattle.std.specs.Prelude.{◌≡◌, true, ◌^◌, ◌<◌, length};
 ghost use Rattle.sorted.specs.Lists.{Placed};
 
+use crate::spans::Spans;
 use words::number_at;
 
-// Notes that number i stands at k, if there is room for the note.
-fn note_place(places: &mut [u32], i: usize, k: usize)
-    requires { k < 2 ^ 32 }
+// The numbers below the length in the order of their spans, the same ones in their own. No more is promised than that the words are there: whoever uses the list checks it.
+pub fn sort(spans: Spans, list: &mut [u32])
+    requires { length list.old < 2 ^ 32 }
 {
-    if i < places.len() {
-        places[i] = k as u32;
+    for (i, number) in list.iter_mut().enumerate() {
+        *number = i as u32;
+    }
+    list.sort_unstable_by(|a, b| spans.order(*a as usize, *b as usize).then(a.cmp(b)));
+}
+
+// Notes for each number of the list where it stands, if there is room for the note.
+pub fn note_places(list: &[u32], places: &mut [u32])
+    requires { length list.now < 2 ^ 32 }
+{
+    for (k, number) in list.iter().enumerate() {
+        if let Some(place) = places.get_mut(*number as usize) {
+            *place = k as u32;
+        }
     }
 }
 
-// Notes for each number of the list where it stands.
-pub fn note_places(list: &[u32], n: usize, places: &mut [u32])
-    requires { n < 2 ^ 32 }
+// Whether each number below the list's length stands in the list where its place says.
+pub fn all_placed(list: &[u32], places: &[u32]) -> bool
+    ensures { result ≡ true → Placed list.now (length list.now) places.now }
 {
-    let mut k = 0;
-    while k < n {
-        note_place(places, number_at(list, k), k);
-        k += 1;
-    }
-}
-
-// Whether each number below n stands in the list, below n, where its place says.
-pub fn all_placed(list: &[u32], n: usize, places: &[u32]) -> bool
-    ensures { result ≡ true → Placed list.now n places.now }
-{
-    let mut i = 0;
-    while i < n {
+    for i in 0..list.len() {
         let k = number_at(places, i);
-        if n <= k {
+        if list.len() <= k {
             return false;
         }
-        if number_at(list, k) != i {
+        if list[k] as usize != i {
             return false;
         }
-        i += 1;
     }
     true
 }

@@ -1,8 +1,11 @@
 // Spans of a text: two words each in a lent slice, a start and a length. Any words may be asked: what lies past the end of the text is left out.
-ghost use Rattle.std.specs.Prelude.{◌≡◌, take, drop};
-ghost use Rattle.grammar.specs.Notation.{word_of};
+ghost use Rattle.std.specs.Prelude.{◌≡◌};
+ghost use Rattle.sorted.specs.Orders.{order, stands_at};
 ghost use Rattle.sorted.specs.Spans.{span_at};
 
+use crate::orders::{Sense, order_of};
+use std::cmp::Ordering;
+use strings::bytes::part_of;
 use words::word_of;
 
 // The words of a span, counted from 0.
@@ -12,33 +15,29 @@ const SPAN_LENGTH: usize = 1;
 
 const SPAN_WORDS: usize = 2;
 
-// Word i of span k, as a number; 0 past the end.
-fn span_number(spans: &[u32], k: usize, i: usize) -> usize
-    ensures { result ≡ word_of 2 spans.now k i }
-{
-    word_of(spans, SPAN_WORDS, k, i) as usize
+#[derive(Clone, Copy)]
+pub struct Spans<'a> {
+    pub text: &'a [u8],
+    pub words: &'a [u32],
+    pub sense: Sense,
 }
 
-// The n bytes from a on, or those of them that there are.
-pub fn part_of(s: &[u8], a: usize, n: usize) -> &[u8]
-    ensures { result.now ≡ take n (drop a s.now) }
-{
-    let m = s.len();
-    if m <= a {
-        return &s[m..];
+impl<'a> Spans<'a> {
+    // The bytes of span k.
+    #[tactic(auto, unfolding(crate::specs::Spans::span_at))]
+    fn span(self, k: usize) -> &'a [u8]
+        ensures { result.now ≡ span_at self.entry.text.now self.entry.words.now k }
+    {
+        let start = word_of(self.words, SPAN_WORDS, k, SPAN_START) as usize;
+        let length = word_of(self.words, SPAN_WORDS, k, SPAN_LENGTH) as usize;
+        part_of(self.text, start, length)
     }
-    if m - a <= n {
-        return &s[a..];
-    }
-    let e = a + n;
-    &s[a..e]
-}
 
-// The bytes of span k.
-pub fn span<'a>(s: &'a [u8], spans: &[u32], k: usize) -> &'a [u8]
-    ensures { result.now ≡ span_at s.now spans.now k }
-{
-    let a = span_number(spans, k, SPAN_START);
-    let n = span_number(spans, k, SPAN_LENGTH);
-    part_of(s, a, n)
+    // How span i stands to span j.
+    #[tactic(auto, unfolding(crate::specs::Orders::stands_at))]
+    pub fn order(self, i: usize, j: usize) -> Ordering
+        ensures { result ≡ order (stands_at self.entry.sense self.entry.text.now self.entry.words.now i) (stands_at self.entry.sense self.entry.text.now self.entry.words.now j) }
+    {
+        order_of(self.sense, self.span(i), self.span(j))
+    }
 }

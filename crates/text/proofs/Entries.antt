@@ -15,15 +15,18 @@ use Rattle.tokens.specs.Tokens.{Skips.after_value, Skipped, Follows}
 use Rattle.text.specs.Nodes.{node_words, put_node, HoldsItems, HoldsFields}
 use Rattle.text.specs.Containers.{opening, closing, container_node, Entries, KeyOf, no_entries, entry, reverse_entries, container, HoldsEntries, at_first, at_entry, around_entry, around_value}
 use Rattle.text.specs.Readers.{Wrote, value_spare, spare, ValueRead, ValueEnds, ReadsValue, EntryRead, EntryEnds, ReadsEntry, Opens}
-use Rattle.text.specs.declared.reader.Read.{Read}
-use Rattle.text.specs.declared.reader.Read.TheVariants.{Past, Fault, Deep}
+use Rattle.std.specs.Prelude.{Result, Ok, Err}
+use Rattle.strings.specs.declared.chars.Fault.{Fault as Faulty}
+use Rattle.text.specs.declared.reader.Past.{Past}
+use Rattle.text.specs.declared.reader.TextError.{TextError}
+use Rattle.text.specs.declared.reader.TextError.TheVariants.{Fault, Deep}
 use Rattle.text.specs.declared.containers.Container.{Container}
 use Rattle.text.specs.declared.containers.Container.TheVariants.{Array, Object}
 use Rattle.tokens.specs.declared.separators.Following.{Following}
 use Rattle.tokens.specs.declared.separators.Following.TheVariants as Follow
 use Rattle.text.proofs.Frames.{put-wrote, Agree, items_rise, fields_rise, frame-entries, container-held}
 use Rattle.text.proofs.Places.{Runs, then, then-ends, blanks, container-opens, container-deep, no_entry, first_entry, entry_comma, entry-close, entry_neither, at_first_lem}
-use Rattle.text.proofs.Inside.{Stopped, stopped, entry-told, told-on, at_comma, at-close, at_neither}
+use Rattle.text.proofs.Inside.{Read, past, entry-told, told-on, at_comma, at-close, at_neither}
 use Rattle.text.proofs.Inside.{Reached, spare-most, reached-first, reached-entry, reached-past, reached-moved, reached-put}
 
 module _ (D : Dialect) (s : List ℕ) where
@@ -63,11 +66,11 @@ module _ (D : Dialect) (s : List ℕ) where
 container-read : (c : Container) {D : Dialect} {s old w put : List ℕ} {at k levels e n kind : ℕ} (es : Entries c) → 0 < levels → Reached s old w at k e n (spare (opening c))
     → ((lim : ℕ) (K : Stack) → depth K + levels ≡ lim → Runs D s lim AtValue K at (After (container c at e es)) K e)
     → (node_words * n ≤ length w → (w' : List ℕ) → Agree w w' (suc k) n → HoldsEntries D s w' c es (levels - 1) (suc k) n) → kind ≡ container_node c
-    → put ≡ put_node w k kind at e n → ReadsValue (spare (opening c)) D s old put at k levels (Past e n)
+    → put ≡ put_node w k kind at e n → ReadsValue (spare (opening c)) D s old put at k levels (past e n)
 container-read c {D} {s} {old} {w} {put} {at} {k} {levels} {e} {n} es l r run held g q =
     let new : List ℕ = put_node w k (container_node c) at e n in
     let u = put-wrote w k (container_node c) at e n in
-    subst (λ (x : List ℕ). ReadsValue (spare (opening c)) D s old x at k levels (Past e n)) (sym (q ∙ ap (λ (x : ℕ). put_node w k x at e n) g))
+    subst (λ (x : List ℕ). ReadsValue (spare (opening c)) D s old x at k levels (past e n)) (sym (q ∙ ap (λ (x : ℕ). put_node w k x at e n) g))
     record {
       told =
           record {
@@ -103,7 +106,7 @@ pub record EntriesPast (c : Container) (close : ℕ) (D : Dialect) (s old w : Li
   pub held : node_words * n ≤ length w → HeldEntries D s w c (entry c key tree entries) (levels - 1) (suc k) n
 
 module _ {c : Container} {D : Dialect} (L : TokensComplete D) {s : List ℕ} {at k levels : ℕ} (o : Opens c s at k) where
-  pub container-too_deep : {w : List ℕ} → levels ≡ 0 → ReadsValue (spare (opening c)) D s w w at k levels (Deep at)
+  pub container-too_deep : {w : List ℕ} → levels ≡ 0 → ReadsValue (spare (opening c)) D s w w at k levels (Err (Deep at))
   container-too_deep z = record { told = (refl, λ lim K d. (container-deep L {lim = lim} {K = K} o.here c (omega arith) o.byte).path) }
 
   module _ {first close : ℕ} (l : levels ≡ 0 → ⊥) (x : Skipped D s (at + 1) first) (q : close ≡ closing c) where
@@ -111,7 +114,7 @@ module _ {c : Container} {D : Dialect} (L : TokensComplete D) {s : List ℕ} {at
     container-begins d = then (container-opens L o.here c (omega arith) o.byte) (blanks (at_first_lem D s c at) x)
 
     pub entries_none : {w put : List ℕ} {kind : ℕ} → (first < length s) × (get_or s first 0 ≡ close) → kind ≡ container_node c → put ≡ put_node w k kind at (first + 1) (k + 1)
-        → ReadsValue (spare (opening c)) D s w put at k levels (Past (first + 1) (k + 1))
+        → ReadsValue (spare (opening c)) D s w put at k levels (past (first + 1) (k + 1))
     entries_none y =
         container-read c (no_entries c) (omega arith) (reached-past (reached-first o x) (omega arith) (omega arith) (omega arith))
         (λ lim K d. then (container-begins d) (no_entry L y.0 c at (y.1 ∙ q)))
@@ -131,8 +134,9 @@ module _ {c : Container} {D : Dialect} (L : TokensComplete D) {s : List ℕ} {at
 
 module _ {c : Container} {close : ℕ} {D : Dialect} {s old w : List ℕ} {at k levels i n : ℕ} where
   module _ {new : List ℕ} {r : Read} (a : EntriesAt c close D s old w at k levels i n) (f : ReadsEntry c D s w new i n (levels - 1) r) where
-    pub entries-past : {e m : ℕ} → r ≡ Past e m → EntriesPast c close D s old new at k levels e m
-    entries-past {e} {m} g =
+    pub entries-past : {y : Past} → r ≡ Ok y → EntriesPast c close D s old new at k levels y.end y.next
+    entries-past {y} g =
+        let m = y.next in
         let v = entry-told f g in
         record {
           laws = a.laws;
@@ -147,17 +151,17 @@ module _ {c : Container} {close : ℕ} {D : Dialect} {s old w : List ℕ} {at k 
               (a.held (omega (arith, v.moved.nodes, v.moved.wrote.same_length))) (v.holds z);
         }
 
-    pub entries-stop : {x : Read} → r ≡ x → Stopped x → ReadsValue (spare (opening c)) D s old new at k levels x
-    entries-stop {x} g t =
+    pub entries-stop : {x : TextError} → r ≡ Err x → ReadsValue (spare (opening c)) D s old new at k levels (Err x)
+    entries-stop {x} g =
         record {
           told =
               told-on (EntryRead c D s w new i n (levels - 1)) (ValueRead (spare (opening c)) D s old new at k levels) (EntryEnds c D s i (levels - 1)) (ValueEnds D s at levels)
-              old w new x a.reached.wrote.same_length (λ e m y _. stopped t e m y)
+              old w new (Err x) a.reached.wrote.same_length (λ y z _. cc)
               (λ o h lim K d. (a.runs lim K d).path ∙ h lim K at a.entries (omega (arith, a.deep))) (entry-told f g);
         }
 
-  module _ {p : ℕ} {r : Following} (a : EntriesPast c close D s old w at k levels i n) (f : Follows D s i close r) where
-    pub entries_comma : r ≡ Follow.Comma p → EntriesAt c close D s old w at k levels p n
+  module _ {p : ℕ} {r : Result Following Faulty} (a : EntriesPast c close D s old w at k levels i n) (f : Follows D s i close r) where
+    pub entries_comma : r ≡ Ok (Follow.Comma p) → EntriesAt c close D s old w at k levels p n
     entries_comma g = at_comma f g (λ p. EntriesAt c close D s old w at k levels p n) go
       where
         go : (e : ℕ) → Skipped D s i e → e < length s → get_or s e 0 ≡ code "," → EntriesAt c close D s old w at k levels (e + 1) n
@@ -172,22 +176,23 @@ module _ {c : Container} {close : ℕ} {D : Dialect} {s old w : List ℕ} {at k 
               held = a.held;
             }
 
-    pub entries-close : {put : List ℕ} {kind : ℕ} → r ≡ Follow.Close p → kind ≡ container_node c → put ≡ put_node w k kind at p n → ReadsValue (spare (opening c)) D s old put at k levels (Past p n)
-    entries-close {put} {kind} g j t = at-close f g (λ p. put ≡ put_node w k kind at p n → ReadsValue (spare (opening c)) D s old put at k levels (Past p n)) go t
+    pub entries-close : {put : List ℕ} {kind : ℕ} → r ≡ Ok (Follow.Close p) → kind ≡ container_node c → put ≡ put_node w k kind at p n → ReadsValue (spare (opening c)) D s old put at k levels (past p n)
+    entries-close {put} {kind} g j t = at-close f g (λ p. put ≡ put_node w k kind at p n → ReadsValue (spare (opening c)) D s old put at k levels (past p n)) go t
       where
-        go : (e : ℕ) → Skipped D s i e → e < length s → get_or s e 0 ≡ close → put ≡ put_node w k kind at (e + 1) n → ReadsValue (spare (opening c)) D s old put at k levels (Past (e + 1) n)
+        go : (e : ℕ) → Skipped D s i e → e < length s → get_or s e 0 ≡ close → put ≡ put_node w k kind at (e + 1) n → ReadsValue (spare (opening c)) D s old put at k levels (past (e + 1) n)
         go e x h z =
             container-read c (reverse_entries c (entry c a.key a.tree a.entries) (no_entries c)) a.deep
             (reached-past a.reached (omega arith) (omega arith) (omega arith))
             (λ lim K d. then (a.runs lim K d) (then (blanks after_value x) (entry-close at K a.laws h c a.entries a.key (z ∙ a.closes))))
             (λ l w' y. a.held l w' y (no_entries c) n (holds-none D s w' c (levels - 1) n n refl)) j
 
-    pub entries_neither : r ≡ Follow.Neither p → ReadsValue (spare (opening c)) D s old w at k levels (Fault p)
-    entries_neither g =
-        let t = at_neither f g in
-        record {
-          told = (
-            a.reached.wrote.same_length,
-            λ lim K d. (then-ends (a.runs lim K d) (then-ends (blanks after_value t.0) (entry_neither at K t.0.solid c a.entries a.key (λ h. ((t.1 h).0, λ z. (t.1 h).1 (z ∙ sym a.closes)))))).path,
-          );
-        }
+  pub entries_neither : {r : Result Following Faulty} {v : Faulty} → EntriesPast c close D s old w at k levels i n → Follows D s i close r → r ≡ Err v
+      → ReadsValue (spare (opening c)) D s old w at k levels (Err (Fault v.at))
+  entries_neither a f g =
+      let t = at_neither f g in
+      record {
+        told = (
+          a.reached.wrote.same_length,
+          λ lim K d. (then-ends (a.runs lim K d) (then-ends (blanks after_value t.0) (entry_neither at K t.0.solid c a.entries a.key (λ h. ((t.1 h).0, λ z. (t.1 h).1 (z ∙ sym a.closes)))))).path,
+        );
+      }

@@ -17,21 +17,17 @@ use Rattle.grammar.proofs.Booleans.{clash, both}
 use Rattle.grammar.proofs.Lists.{same_true, same-is, different}
 use Rattle.buckets.specs.Buckets.{buckets, bucket_of, Added, All, Free, Chain, in_bucket, Indexed}
 use Rattle.buckets.proofs.BucketLaws.{chain-end, chain-step, bucket-kept, bucket-all, index_empty, index-walk, index-added, index_kept}
-use Rattle.sorted.specs.declared.repeats.Found.TheVariants as Found
+use Rattle.std.specs.Prelude.{Some, None, Result, Ok, Err}
+use Rattle.sorted.specs.declared.repeats.GivenUp.{GivenUp}
 use Rattle.sorted.specs.Repeats.{Repeat, NoneTo}
 use Rattle.sorted.proofs.RepeatLaws.{none-start, none_more, none_end}
 use Rattle.strings.specs.Hashes.{hash_of}
-use Rattle.text.specs.declared.index.Lookup.{Lookup}
-use Rattle.text.specs.declared.index.Lookup.TheVariants.{New, Again, GivenUp}
 use Rattle.text.specs.Nodes.{next}
 use Rattle.text.specs.Fields.{SameKeys, KeyHash, node_of, Keys, FindsKey}
 use Rattle.text.specs.Index.{item_of, SameAfter, Listed, none_means, Sees, LooksUp}
 use Rattle.text.proofs.FieldKeys.{node-first, node-next, nodes_rise, number-within, number_same, node-above, node-below, key_at_lem}
 
 -- ---- two keys
-
-pub same_first : {D : Dialect} {s w : List ℕ} {b i a : ℕ} {r : Bool} → a ≤ b → SameAfter D s w b i a r
-same_first h = record { told = λ g. absurd (omega arith) }
 
 pub same-past : {D : Dialect} {s w : List ℕ} {b i a : ℕ} {r : Bool} → a - b ≤ i → SameAfter D s w b i a r
 same-past h = record { told = λ g. absurd (omega arith) }
@@ -56,11 +52,11 @@ module _ {D : Dialect} {s w : List ℕ} {b a hash : ℕ} {links : List ℕ} {hea
   pub walk_start : Walked D s w b a hash links head head
   walk_start = record { told = λ n f count m v k e q ps c l. record { rest = ps; chain = c; listed = l; same_so = refl } }
 
-  pub walk_out : LooksUp D s w b a hash links head GivenUp
+  pub walk_out : {e : GivenUp} → LooksUp D s w b a hash links head (Err e)
   walk_out = record { told = λ n f count m v k e q ps c l. tt }
 
   module _ {x : ℕ} (z : Walked D s w b a hash links head x) where
-    pub walk_end : x ≡ 0 → LooksUp D s w b a hash links head New
+    pub walk_end : x ≡ 0 → LooksUp D s w b a hash links head (Ok false)
     walk_end o =
         record {
           told = λ n f count m v k e q ps c l.
@@ -69,7 +65,7 @@ module _ {D : Dialect} {s w : List ℕ} {b a hash : ℕ} {links : List ℕ} {hea
         }
 
     module _ (h : 0 < x) where
-      pub walk_hit : {r : Bool} → SameAfter D s w b (x - 1) a r → r ≡ true → LooksUp D s w b a hash links head Again
+      pub walk_hit : {r : Bool} → SameAfter D s w b (x - 1) a r → r ≡ true → LooksUp D s w b a hash links head (Ok true)
       walk_hit {r} g t =
           record {
             told = λ n f count m v k e q ps c l.
@@ -160,7 +156,7 @@ module _ {D : Dialect} {s w : List ℕ} {b n : ℕ} where
             record { below = omega arith; none = none-start; index = index_empty (item_of w b) (hash_at w b f) links e; listed = λ p h. absurd (omega arith) };
       }
 
-  pub listing-given : FindsKey D s w b n Found.GivenUp
+  pub listing-given : {e : GivenUp} → FindsKey D s w b n (Err e)
   listing-given = record { told = λ f count v. tt }
 
   module _ {heads links : List ℕ} {i : ℕ} (p : Listing D s w b n heads links i) where
@@ -172,21 +168,21 @@ module _ {D : Dialect} {s w : List ℕ} {b n : ℕ} where
       hash-is : (f : ℕ → List ℕ) (count : ℕ) → Keys D s w b n f count → hash ≡ hash_of (f p.number)
       hash-is f count v = g.told (f p.number) (key_at_lem v p.number (within h f count v) p.node)
 
-      seen : {r : Lookup} → LooksUp D s w b i hash links head r → (f : ℕ → List ℕ) (count : ℕ) → Keys D s w b n f count
+      seen : {r : Result Bool GivenUp} → LooksUp D s w b i hash links head r → (f : ℕ → List ℕ) (count : ℕ) → Keys D s w b n f count
           → Sees f p.number (in_bucket (hash_at w b f) (bucket_of hash) (down p.number)) r
       seen q f count v =
           let x = p.told f count v in
           q.told n f count p.number v (within h f count v) p.node (hash-is f count v) (in_bucket (hash_at w b f) (bucket_of hash) (down p.number))
           (index-walk (item_of w b) (hash_at w b f) x.index hash e) (all_listed w b f x (bucket_of hash))
 
-      pub listing_hit : LooksUp D s w b i hash links head Again → FindsKey D s w b n (Found.At i)
+      pub listing_hit : LooksUp D s w b i hash links head (Ok true) → FindsKey D s w b n (Ok (Some i))
       listing_hit q =
           record {
             told = λ f count v.
                 (record { number = p.number; below = within h f count v; node = p.node; repeats = seen q f count v }, (p.told f count v).none);
           }
 
-      fresh : LooksUp D s w b i hash links head New → (f : ℕ → List ℕ) (count : ℕ) → Keys D s w b n f count → Repeat f p.number → ⊥
+      fresh : LooksUp D s w b i hash links head (Ok false) → (f : ℕ → List ℕ) (count : ℕ) → Keys D s w b n f count → Repeat f p.number → ⊥
       fresh q f count v r =
           let t =
           sym (bucket-all (hash_at w b f) (λ k. not (same (f k) (f p.number))) hash
@@ -194,7 +190,7 @@ module _ {D : Dialect} {s w : List ℕ} {b n : ℕ} where
           clash (all-down (λ k. not (same (f k) (f p.number))) p.number r.other t r.before) (ap not (same-is (f r.other) (f p.number) r.same))
 
       -- the key is put into the index, and its hash into the word after its link
-      module _ {heads' links' : List ℕ} (q : LooksUp D s w b i hash links head New) (room : n ≤ b + length links) (a : Added heads links hash (i - b) heads' links') where
+      module _ {heads' links' : List ℕ} (q : LooksUp D s w b i hash links head (Ok false)) (room : n ≤ b + length links) (a : Added heads links hash (i - b) heads' links') where
         module _ (f : ℕ → List ℕ) (count : ℕ) (v : Keys D s w b n f count) where
           -- nodes are counted from node b on; that of the key is i
           from : b ≤ i
@@ -260,7 +256,7 @@ module _ {D : Dialect} {s w : List ℕ} {b n : ℕ} where
               told = λ f count v. subst (λ (l : List ℕ). InIndex w b f heads' l count (suc p.number)) (sym e) (in_index f count v);
             }
 
-    pub listing_stuck : {j : ℕ} → i < n → j ≡ next w i → j ≤ i → FindsKey D s w b n Found.Never
+    pub listing_stuck : {j : ℕ} → i < n → j ≡ next w i → j ≤ i → FindsKey D s w b n (Ok None)
     listing_stuck h q l =
         record {
           told = λ f count v.
@@ -268,7 +264,7 @@ module _ {D : Dialect} {s w : List ℕ} {b n : ℕ} where
               absurd (omega (arith, v.on p.number k, p.node, node-next w b p.number p.node q));
         }
 
-    pub listing-end : n ≤ i → FindsKey D s w b n Found.Never
+    pub listing-end : n ≤ i → FindsKey D s w b n (Ok None)
     listing-end h =
         record {
           told = λ f count v.

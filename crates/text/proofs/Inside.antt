@@ -3,7 +3,7 @@
 use Prim.Native.Nat.{ℕ, suc, ◌+◌, ◌*◌, ◌^◌, ◌≤◌, ◌<◌}
 use Prim.Native.Char.{code}
 use native.Mathlib.Omega.{arith}
-use mathlib.Core.Path.{◌≡◌, refl, sym, ◌∙◌, subst}
+use mathlib.Core.Path.{◌≡◌, refl, sym, ap, ◌∙◌, subst}
 use mathlib.Core.List.{List}
 use lib.ListN.{length, get_or}
 use lib.Dec.{eqb}
@@ -13,22 +13,29 @@ use Rattle.tokens.specs.Tokens.{Skipped, FollowingTold, Follows}
 use Rattle.text.specs.Nodes.{node_words, put_node}
 use Rattle.text.specs.Containers.{opening}
 use Rattle.text.specs.Readers.{Wrote, Moved, value_spare, spare, Told, ValueRead, ValueEnds, ReadsValue, EntryRead, EntryEnds, ReadsEntry, Ready, Opens}
-use Rattle.text.specs.declared.reader.Read.{Read}
-use Rattle.text.specs.declared.reader.Read.TheVariants.{Past, Fault, Deep}
+use Rattle.std.specs.Prelude.{Result, Ok, Err}
+use Rattle.std.specs.Result.{IsErrAnd}
+use Rattle.std.proofs.lemmas.Result.{err_from_is_err_and}
+use Rattle.strings.specs.declared.chars.Fault.{Fault as Faulty}
+use Rattle.text.specs.declared.reader.Past.{Past}
+use Rattle.text.specs.declared.reader.TextError.{TextError}
+use Rattle.text.specs.declared.reader.TextError.TheVariants.{Fault, Deep, TooLong}
 use Rattle.text.specs.declared.containers.Container.{Container}
 use Rattle.text.specs.declared.containers.Container.TheVariants.{Object}
 use Rattle.tokens.specs.declared.separators.Following.{Following}
 use Rattle.tokens.specs.declared.separators.Following.TheVariants as Follow
 use Rattle.text.proofs.Frames.{Put, put-wrote, put-there}
 
--- an answer that nothing was read
-abbrev pub Stopped : Read → Type 0
-Stopped (Past e n) = ⊥
-Stopped (Fault e) = Unit {0}
-Stopped (Deep e) = Unit {0}
+-- what a reader answers
+abbrev pub Read : Type 0
+Read = Result Past TextError
 
-pub stopped : {A : Type 0} {r : Read} → Stopped r → (e n : ℕ) → r ≡ Past e n → A
-stopped t e n g = absurd (subst Stopped g t)
+abbrev pub past : ℕ → ℕ → Read
+past e n = Ok (record { end = e; next = n })
+
+-- an error that is handed on
+pub handed_on : {A E : Type 0} {f : E} (r : Result A E) → IsErrAnd r (λ e. e ≡ f) → r ≡ Err f
+handed_on r h = let p = err_from_is_err_and r h in p.1 ∙ ap Err p.2
 
 -- what an answer tells, once it is known which one it is
 pub value-told : {spare : ℕ} {D : Dialect} {s old new : List ℕ} {i k levels : ℕ} {r x : Read} → ReadsValue spare D s old new i k levels r → r ≡ x
@@ -43,26 +50,28 @@ entry-told {c} {D} {s} {old} {new} {i} {k} {levels} v g =
 
 -- an answer on a part is the answer on the whole, if what was read and how the machine ends is
 pub told-on : (Was Was' : ℕ → ℕ → Type 0) (Ends Ends' : Out → Type 0) (old mid new : List ℕ) (r : Read) → length mid ≡ length old
-    → ((e n : ℕ) → r ≡ Past e n → Was e n → Was' e n) → ((o : Out) → Ends o → Ends' o) → Told Was Ends mid new r → Told Was' Ends' old new r
-told-on Was Was' Ends Ends' old mid new (Past e n) q f g h = f e n refl h
-told-on Was Was' Ends Ends' old mid new (Fault e) q f g h = (h.0 ∙ q, g (fault e) h.1)
-told-on Was Was' Ends Ends' old mid new (Deep e) q f g h = (h.0 ∙ q, g (deep e) h.1)
+    → ((p : Past) → r ≡ Ok p → Was p.end p.next → Was' p.end p.next) → ((o : Out) → Ends o → Ends' o) → Told Was Ends mid new r → Told Was' Ends' old new r
+told-on Was Was' Ends Ends' old mid new (Ok p) q f g h = f p refl h
+told-on Was Was' Ends Ends' old mid new (Err (Fault e)) q f g h = (h.0 ∙ q, g (fault e) h.1)
+told-on Was Was' Ends Ends' old mid new (Err (Deep e)) q f g h = (h.0 ∙ q, g (deep e) h.1)
+told-on Was Was' Ends Ends' old mid new (Err TooLong) q f g h = absurd h
 
-module _ {D : Dialect} {s : List ℕ} {i close p : ℕ} {r : Following} (f : Follows D s i close r) where
-  pub at_comma : r ≡ Follow.Comma p → (P : ℕ → Type 0) → ((e : ℕ) → Skipped D s i e → e < length s → get_or s e 0 ≡ code "," → P (e + 1)) → P p
-  at_comma g P h = let t = subst (λ (x : Following). FollowingTold D s i close x) g f.told in subst P (sym t.4) (h t.0 t.1 t.2 t.3)
+module _ {D : Dialect} {s : List ℕ} {i close p : ℕ} {r : Result Following Faulty} (f : Follows D s i close r) where
+  pub at_comma : r ≡ Ok (Follow.Comma p) → (P : ℕ → Type 0) → ((e : ℕ) → Skipped D s i e → e < length s → get_or s e 0 ≡ code "," → P (e + 1)) → P p
+  at_comma g P h = let t = subst (λ (x : Result Following Faulty). FollowingTold D s i close x) g f.told in subst P (sym t.4) (h t.0 t.1 t.2 t.3)
 
-  pub at-close : r ≡ Follow.Close p → (P : ℕ → Type 0) → ((e : ℕ) → Skipped D s i e → e < length s → get_or s e 0 ≡ close → P (e + 1)) → P p
-  at-close g P h = let t = subst (λ (x : Following). FollowingTold D s i close x) g f.told in subst P (sym t.4) (h t.0 t.1 t.2 t.3)
+  pub at-close : r ≡ Ok (Follow.Close p) → (P : ℕ → Type 0) → ((e : ℕ) → Skipped D s i e → e < length s → get_or s e 0 ≡ close → P (e + 1)) → P p
+  at-close g P h = let t = subst (λ (x : Result Following Faulty). FollowingTold D s i close x) g f.told in subst P (sym t.4) (h t.0 t.1 t.2 t.3)
 
-  pub at_neither : r ≡ Follow.Neither p → Skipped D s i p × (p < length s → (get_or s p 0 ≡ code "," → ⊥) × (get_or s p 0 ≡ close → ⊥))
-  at_neither g = subst (λ (x : Following). FollowingTold D s i close x) g f.told
-
-  pub comma_on : r ≡ Follow.Comma p → (i < p) × (p ≤ length s)
+  pub comma_on : r ≡ Ok (Follow.Comma p) → (i < p) × (p ≤ length s)
   comma_on g = at_comma g (λ p. (i < p) × (p ≤ length s)) (λ e x h z. (omega (arith, x.on), omega arith))
 
-  pub close-on : r ≡ Follow.Close p → (i < p) × (p ≤ length s)
+  pub close-on : r ≡ Ok (Follow.Close p) → (i < p) × (p ≤ length s)
   close-on g = at-close g (λ p. (i < p) × (p ≤ length s)) (λ e x h z. (omega (arith, x.on), omega arith))
+
+pub at_neither : {D : Dialect} {s : List ℕ} {i close : ℕ} {r : Result Following Faulty} {v : Faulty} → Follows D s i close r → r ≡ Err v
+    → Skipped D s i v.at × (v.at < length s → (get_or s v.at 0 ≡ code "," → ⊥) × (get_or s v.at 0 ≡ close → ⊥))
+at_neither {D} {s} {i} {close} f g = subst (λ (x : Result Following Faulty). FollowingTold D s i close x) g f.told
 
 pub wrote_none : {w : List ℕ} {k n : ℕ} → Wrote w w k n
 wrote_none = record { same_length = refl; below = λ x h. refl; above = λ x h. refl }

@@ -3,18 +3,17 @@
 use Prim.Native.Nat.{ℕ, suc, ◌≤◌, ◌<◌}
 use native.Mathlib.Omega.{arith}
 use native.Mathlib.Decide.{dec_lt}
-use mathlib.Core.Path.{◌≡◌, refl, sym, ap, ◌∙◌, subst}
+use mathlib.Core.Path.{◌≡◌, sym, ap, ◌∙◌, subst}
 use mathlib.Core.Bool.{Bool, true, false}
 use mathlib.Core.List.{List}
 use Rattle.grammar.specs.Notation.{same}
 use Rattle.grammar.specs.Serving.Machine.{Dialect}
 use Rattle.grammar.proofs.Lists.{same_true, same_false}
-use Rattle.sorted.specs.declared.repeats.Found.{Found}
-use Rattle.sorted.specs.declared.repeats.Found.TheVariants.{Never, At}
+use Rattle.std.specs.Prelude.{Some, None, Ok}
 use Rattle.sorted.specs.Repeats.{NoneTo}
 use Rattle.sorted.proofs.RepeatLaws.{none-start, none_more, none_end}
 use Rattle.text.specs.Nodes.{next}
-use Rattle.text.specs.Fields.{SameKeys, node_of, Keys, IsNew, NewKey, FindsKey, is_given_up, FindsSurely}
+use Rattle.text.specs.Fields.{SameKeys, node_of, Keys, IsNew, NewKey, FindsKey}
 use Rattle.text.proofs.FieldKeys.{node-first, node-next, number-within, number-before, number_same, key_at_lem}
 
 -- ---- a key against those before it
@@ -85,9 +84,6 @@ module _ {D : Dialect} {s w : List ℕ} {b a : ℕ} where
 
 -- ---- each key in turn
 
-surely : {D : Dialect} {s w : List ℕ} {b n : ℕ} {r : Found} → FindsKey D s w b n r → is_given_up r ≡ false → FindsSurely D s w b n r
-surely h t = record { finds = h; sure = t }
-
 -- the keys before node i repeat none
 pub record Turned (D : Dialect) (s w : List ℕ) (b n i : ℕ) : Type 0 where
   pub number : ℕ
@@ -103,14 +99,14 @@ module _ {D : Dialect} {s w : List ℕ} {b n : ℕ} where
     within h f count v = number-within v p.number (p.told f count v).0 (omega (arith, p.node))
 
     module _ {r : Bool} (h : i < n) (g : NewKey D s w b i r) where
-      pub turned_hit : r ≡ false → FindsSurely D s w b n (At i)
-      turned_hit t = surely (record {
+      pub turned_hit : r ≡ false → FindsKey D s w b n (Ok (Some i))
+      turned_hit t = record {
         told = λ f count v.
             let k = within h f count v in (
               record { number = p.number; below = k; node = p.node; repeats = subst (IsNew f p.number) t (g.told n f count p.number v k p.node) },
               (p.told f count v).1,
             );
-      }) refl
+      }
 
       pub turned_on : {j : ℕ} → r ≡ true → j ≡ next w i → Turned D s w b n j
       turned_on t q =
@@ -122,17 +118,17 @@ module _ {D : Dialect} {s w : List ℕ} {b n : ℕ} where
                 (k, none_more (p.told f count v).1 (subst (IsNew f p.number) t (g.told n f count p.number v k p.node)));
           }
 
-    pub turned_stuck : {j : ℕ} → i < n → j ≡ next w i → j ≤ i → FindsSurely D s w b n Never
-    turned_stuck h q l = surely (record {
+    pub turned_stuck : {j : ℕ} → i < n → j ≡ next w i → j ≤ i → FindsKey D s w b n (Ok None)
+    turned_stuck h q l = record {
       told = λ f count v.
           let k = within h f count v in
           absurd (omega (arith, v.on p.number k, p.node, node-next w b p.number p.node q));
-    }) refl
+    }
 
-    pub turned-end : n ≤ i → FindsSurely D s w b n Never
-    turned-end h = surely (record {
+    pub turned-end : n ≤ i → FindsKey D s w b n (Ok None)
+    turned-end h = record {
       told = λ f count v.
           let o = p.told f count v in
           let q = number_same v p.number count o.0 (omega arith) (omega (arith, p.node, v.end)) in
           none_end (omega arith) o.1;
-    }) refl
+    }

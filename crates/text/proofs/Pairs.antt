@@ -12,13 +12,15 @@ use Rattle.strings.specs.Strings.{Means}
 use Rattle.tokens.specs.Tokens.{key_node, KeyRuns, KeyTold, ReadsKey}
 use Rattle.text.specs.Nodes.{node_words, put_node, next, Holds, HoldsFields}
 use Rattle.text.specs.Readers.{value_spare, ValueRead, ValueEnds, ReadsValue, EntryRead, EntryEnds, ReadsEntry, Ready}
-use Rattle.text.specs.declared.reader.Read.{Read}
-use Rattle.text.specs.declared.reader.Read.TheVariants.{Past, Fault}
+use Rattle.std.specs.Prelude.{Result, Ok, Err}
+use Rattle.strings.specs.declared.chars.Fault.{Fault as Faulty}
+use Rattle.text.specs.declared.reader.Past.{Past}
+use Rattle.text.specs.declared.reader.TextError.{TextError}
+use Rattle.text.specs.declared.reader.TextError.TheVariants.{Fault}
 use Rattle.text.specs.declared.containers.Container.TheVariants.{Object}
-use Rattle.tokens.specs.declared.separators.KeyRead.{KeyRead}
-use Rattle.tokens.specs.declared.separators.KeyRead.TheVariants as Keys
+use Rattle.tokens.specs.declared.separators.Key.{Key}
 use Rattle.text.proofs.Frames.{Put, put-wrote, put-there, Agree, word_same, frame}
-use Rattle.text.proofs.Inside.{Stopped, stopped, value-told, told-on, wrote-put}
+use Rattle.text.proofs.Inside.{Read, past, value-told, told-on, wrote-put}
 
 -- the key's node and the value's
 pair_held : (D : Dialect) (s w new : List ℕ) (a e : ℕ) (cs : List ℕ) (v : Json) (left k n : ℕ) → Put new k (key_node s a e) a e n → Means D s a e cs
@@ -34,9 +36,18 @@ record KeyPlaces (s : List ℕ) (i a e p : ℕ) : Type 0 where
   past : e < p
   within : p ≤ length s
 
-module _ {D : Dialect} {s : List ℕ} {i a e kind p : ℕ} {r : KeyRead} (f : ReadsKey D s i r) (g : r ≡ Keys.Key a e kind p) where
-  key-told : (cs : List ℕ) × KeyRuns D s i a e p cs × (kind ≡ key_node s a e)
-  key-told = subst (λ (x : KeyRead). KeyTold D s i x) g f.told
+module _ {D : Dialect} {s : List ℕ} {i : ℕ} {r : Result Key Faulty} {key : Key} (f : ReadsKey D s i r) (g : r ≡ Ok key) where
+  abbrev a : ℕ
+  a = key.start
+
+  abbrev e : ℕ
+  e = key.end
+
+  abbrev p : ℕ
+  p = key.past
+
+  key-told : (cs : List ℕ) × KeyRuns D s i a e p cs × (key.kind ≡ key_node s a e)
+  key-told = subst (λ (x : Result Key Faulty). KeyTold D s i x) g f.told
 
   key_places : KeyPlaces s i a e p
   key_places = let t = key-told.1 in record { on = t.on; wide = t.means.wide; past = t.past; within = t.within }
@@ -45,11 +56,14 @@ module _ {D : Dialect} {s : List ℕ} {i a e kind p : ℕ} {r : KeyRead} (f : Re
   key-ready x = let t = key_places in record { short = x.short; within = t.within; few = omega arith }
 
   module _ {old w : List ℕ} {k left : ℕ} {y : Read} where
-    pub pair_fits : {q m : ℕ} → Ready s i k → ReadsValue value_spare D s old w p (k + 1) left y → y ≡ Past q m → (k < 2 ^ 32) × (a < 2 ^ 32) × (e < 2 ^ 32) × (m < 2 ^ 32)
+    pub pair_fits : {v : Past} → Ready s i k → ReadsValue value_spare D s old w p (k + 1) left y → y ≡ Ok v → (k < 2 ^ 32) × (a < 2 ^ 32) × (e < 2 ^ 32) × (v.next < 2 ^ 32)
     pair_fits x v h = let t = key_places in let u = (value-told v h).moved in omega arith
 
-    pub pair_read : {put : List ℕ} {q m : ℕ} → ReadsValue value_spare D s old w p (k + 1) left y → y ≡ Past q m → put ≡ put_node w k kind a e m → ReadsEntry Object D s old put i k left (Past q m)
-    pair_read {q = q} {m = m} v h eq =
+    pub pair_read : {put : List ℕ} {z : Past} → ReadsValue value_spare D s old w p (k + 1) left y → y ≡ Ok z → put ≡ put_node w k key.kind a e z.next → ReadsEntry Object D s old put i k left (past z.end z.next)
+    pair_read {z = z} v h eq =
+        let kind = key.kind in
+        let q = z.end in
+        let m = z.next in
         let t = key-told in
         let l = key_places in
         let x : ValueRead value_spare D s old w p (suc k) left q m = subst (λ (u : ℕ). ValueRead value_spare D s old w p u left q m) (add-one k) (value-told v h) in
@@ -57,7 +71,7 @@ module _ {D : Dialect} {s : List ℕ} {i a e kind p : ℕ} {r : KeyRead} (f : Re
         let new : List ℕ = put_node w k kind a e m in
         let n : k < m = omega (arith, x.moved.nodes) in
         let put : node_words * m ≤ length w → Put new k (key_node s a e) a e m = λ z. subst (λ (j : ℕ). Put new k j a e m) t.2 (put-there w k kind a e m (omega arith)) in
-        subst (λ (j : List ℕ). ReadsEntry Object D s old j i k left (Past q m)) (sym eq)
+        subst (λ (j : List ℕ). ReadsEntry Object D s old j i k left (past q m)) (sym eq)
         record {
           told =
               record {
@@ -78,15 +92,15 @@ module _ {D : Dialect} {s : List ℕ} {i a e kind p : ℕ} {r : KeyRead} (f : Re
               };
         }
 
-    pub pair-stop : {x : Read} → ReadsValue value_spare D s old w p (k + 1) left y → y ≡ x → Stopped x → ReadsEntry Object D s old w i k left x
-    pair-stop {x} v h z =
+    pub pair-stop : {x : TextError} → ReadsValue value_spare D s old w p (k + 1) left y → y ≡ Err x → ReadsEntry Object D s old w i k left (Err x)
+    pair-stop {x} v h =
         let t = key-told in
         record {
           told =
               told-on (ValueRead value_spare D s old w p (k + 1) left) (EntryRead Object D s old w i k left) (ValueEnds D s p left) (EntryEnds Object D s i left)
-              old old w x refl (λ q m g _. stopped z q m g) (λ _ f lim K o fs d. t.1.runs lim o fs K ∙ f lim (in_object o fs a e t.0 K) d) (value-told v h);
+              old old w (Err x) refl (λ z g _. cc) (λ _ f lim K o fs d. t.1.runs lim o fs K ∙ f lim (in_object o fs a e t.0 K) d) (value-told v h);
         }
 
 -- no key
-pub key-stop : {D : Dialect} {s w : List ℕ} {i k left e : ℕ} {r : KeyRead} → ReadsKey D s i r → r ≡ Keys.Fault e → ReadsEntry Object D s w w i k left (Fault e)
-key-stop {D} {s} {i = i} f g = let t = subst (λ (x : KeyRead). KeyTold D s i x) g f.told in record { told = (refl, λ lim K o fs d. t o fs lim K) }
+pub key-stop : {D : Dialect} {s w : List ℕ} {i k left : ℕ} {r : Result Key Faulty} {v : Faulty} → ReadsKey D s i r → r ≡ Err v → ReadsEntry Object D s w w i k left (Err (Fault v.at))
+key-stop {D} {s} {i = i} f g = let t = subst (λ (x : Result Key Faulty). KeyTold D s i x) g f.told in record { told = (refl, λ lim K o fs d. t o fs lim K) }

@@ -10,9 +10,7 @@ use mathlib.Core.Bool.{Bool, true, false, not, cond}
 use mathlib.Core.Logic.{⊎_elim, ◌⊎◌, inl, inr}
 use mathlib.Core.List.{List, [], ◌∷◌, Memᴰ}
 use mathlib.Core.Option.{Option, some, none}
-use lib.Dec.{ltb}
 use lib.ListN.{length}
-use borrow.Author.Tests.{ltb-true, ltb-false}
 use Rattle.grammar.specs.Notation.{same, all}
 use Rattle.grammar.specs.Tree.{Json, Items, Fields}
 use Rattle.grammar.specs.Tree.Json.{leaf, arr, obj}
@@ -21,17 +19,16 @@ use Rattle.grammar.specs.Tree.Fields.{no_fields, field}
 use Rattle.grammar.specs.Keys.{keys_of}
 use Rattle.grammar.specs.Serving.Machine.{Dialect}
 use Rattle.grammar.specs.Serving.Repeats.{first_of, repeat_at, first_repeat, first_repeat_i, first_repeat_f}
-use Rattle.grammar.proofs.Booleans.{clash, by}
+use Rattle.grammar.proofs.Booleans.{clash}
 use Rattle.grammar.proofs.Lists.{same-is, different, all_true, all_of}
-use Rattle.sorted.specs.declared.repeats.Found.{Found}
-use Rattle.sorted.specs.declared.repeats.Found.TheVariants.{Never, At, GivenUp}
+use Rattle.std.specs.Prelude as Code
+use Rattle.std.specs.Prelude.{min, Some, None, Result, Ok}
+use Rattle.sorted.specs.declared.repeats.GivenUp.{GivenUp}
 use Rattle.sorted.specs.Repeats.{Repeat}
 use Rattle.tokens.specs.NodeKinds.{object_node}
-use Rattle.text.specs.declared.keys.Repeated.{Repeated}
-use Rattle.text.specs.declared.keys.Progress.{Progress}
 use Rattle.text.specs.Nodes.{next, Holds, HoldsItems, HoldsFields, node_kind, node_start}
-use Rattle.text.specs.Fields.{node_of, Keys, RepeatAt, TellsKey, FindsKey, is_given_up}
-use Rattle.text.specs.Search.{lesser_of, FindsAt, NoneBefore, Searched, LeastNode, SearchesOn, EndsAt}
+use Rattle.text.specs.Fields.{node_of, Keys, RepeatAt, TellsKey, FindsKey}
+use Rattle.text.specs.Search.{lesser_of, FindsAt, NoneBefore, Searched, LeastNode}
 use Rattle.text.specs.Keys.{FirstRepeat}
 use Rattle.text.proofs.Frames.{goes_on, items_rise, fields_rise}
 use Rattle.text.proofs.KeyLaws.{lt_or_ge, scalar-no_object, key-no_object}
@@ -61,7 +58,7 @@ module _ {D : Dialect} {s w : List ℕ} where
 
   module _ {n at best end : ℕ} (v : Searched D s w n at best) (h : at < best) (o : node_kind w at ≡ object_node) (e : end ≡ next w at) where
     -- what the search of the object's own keys says of them
-    own : {found : Found} → FindsKey D s w (at + 1) end found → (f : ℕ → List ℕ) (count : ℕ) → Keys D s w (suc at) (next w at) f count → TellsKey w (suc at) f count found
+    own : {found : Result (Code.Option ℕ) GivenUp} → FindsKey D s w (at + 1) end found → (f : ℕ → List ℕ) (count : ℕ) → Keys D s w (suc at) (next w at) f count → TellsKey w (suc at) f count found
     own {found} g f count u =
         subst (λ (b : ℕ). TellsKey w b f count found) (add-one at) (g.told f count (subst₂ (λ (b q : ℕ). Keys D s w b q f count) (sym (add-one at)) (sym e) u))
 
@@ -72,16 +69,16 @@ module _ {D : Dialect} {s w : List ℕ} where
         subst (λ (i : ℕ). (f : ℕ → List ℕ) (count : ℕ) → Keys D s w (suc i) (next w i) f count → (m : ℕ) → m < count → Repeat f m → least ≤ node_of w (suc i) m) q g f count u m c r
 
     -- a key that repeats one has no lesser node than the first of its object
-    from_first : {i : ℕ} → FindsKey D s w (at + 1) end (At i) → (f : ℕ → List ℕ) (count : ℕ) → Keys D s w (suc at) (next w at) f count → (m : ℕ) → m < count → Repeat f m → i ≤ node_of w (suc at) m
+    from_first : {i : ℕ} → FindsKey D s w (at + 1) end (Ok (Some i)) → (f : ℕ → List ℕ) (count : ℕ) → Keys D s w (suc at) (next w at) f count → (m : ℕ) → m < count → Repeat f m → i ≤ node_of w (suc at) m
     from_first {i} g f count u m c r = go (own g f count u) (lt_or_ge m (own g f count u).0.number)
       where
-        go : (z : TellsKey w (suc at) f count (At i)) → (m < z.0.number) ⊎ (z.0.number ≤ m) → i ≤ node_of w (suc at) m
+        go : (z : TellsKey w (suc at) f count (Ok (Some i))) → (m < z.0.number) ⊎ (z.0.number ≤ m) → i ≤ node_of w (suc at) m
         go z (inl l) = absurd (z.1.new m l r)
         go z (inr l) =
             ⊎_elim (λ q. omega (arith, z.0.node, ap (node_of w (suc at)) q)) (λ q. omega (arith, z.0.node, nodes_rise u z.0.number m q (omega arith))) (eq-or-lt_of_le l)
 
-    search-at : {i : ℕ} → FindsKey D s w (at + 1) end (At i) → Searched D s w n (at + 1) (cond (ltb i best) i best)
-    search-at {i} g = by (Searched D s w n (at + 1)) (ltb i best) (λ t. less (ltb-true i best t)) (λ t. more (ltb-false i best t))
+    search-at : {i : ℕ} → FindsKey D s w (at + 1) end (Ok (Some i)) → Searched D s w n (at + 1) (min best i)
+    search-at {i} g = ⊎_elim (λ l. subst (Searched D s w n (at + 1)) {x = i} {y = min best i} (omega arith) (less l)) (λ l. subst (Searched D s w n (at + 1)) {x = best} {y = min best i} (omega arith) (more l)) (lt_or_ge i best)
       where
         more : best ≤ i → Searched D s w n (at + 1) best
         more l =
@@ -95,78 +92,31 @@ module _ {D : Dialect} {s w : List ℕ} where
               found = λ _. record { k = at; below = omega (arith, v.upto); object = o; told = λ f count u. (own g f count u).0 };
             }
 
-    search-never : FindsKey D s w (at + 1) end Never → Searched D s w n (at + 1) best
-    search-never g =
+    search-none_here : FindsKey D s w (at + 1) end (Ok None) → Searched D s w n (at + 1) best
+    search-none_here g =
         record { upto = v.upto; none = none_more v.none (here (λ f count u m c r. absurd ((own g f count u).new m c r))); found = v.found }
 
-    pub search-more : {found : Found} {least : ℕ} → FindsKey D s w (at + 1) end found → is_given_up found ≡ false → least ≡ lesser_of best found → Searched D s w n (at + 1) least
-    search-more {found} {least} g t p = subst (Searched D s w n (at + 1)) (sym p) (go found g t)
-      where
-        go : (r : Found) → FindsKey D s w (at + 1) end r → is_given_up r ≡ false → Searched D s w n (at + 1) (lesser_of best r)
-        go Never g t = search-never g
-        go (At i) g t = search-at g
-        go GivenUp g t = clash refl t
+    search-more : (found : Code.Option ℕ) → FindsKey D s w (at + 1) end (Ok found) → Searched D s w n (at + 1) (lesser_of best found)
+    search-more None g = search-none_here g
+    search-more (Some i) g = search-at g
 
 -- the node is an object, or not
 module _ {D : Dialect} {s w : List ℕ} {k kind : ℕ} (e : kind ≡ node_kind w k) where
-  pub at_other : (kind ≡ object_node → ⊥) → FindsAt D s w k Never
+  pub at_other : (kind ≡ object_node → ⊥) → FindsAt D s w k None
   at_other h = record { told = inl ((λ o. h (e ∙ o)), refl) }
 
-  pub at_object : {end : ℕ} {r : Found} → kind ≡ object_node → end ≡ next w k → FindsKey D s w (k + 1) end r → FindsAt D s w k r
-  at_object {r = r} o q f = record { told = inr (sym e ∙ o, subst (λ (n : ℕ). FindsKey D s w (k + 1) n r) q f) }
+  pub at_object : {end : ℕ} {r : Code.Option ℕ} → kind ≡ object_node → end ≡ next w k → FindsKey D s w (k + 1) end (Ok r) → FindsAt D s w k r
+  at_object {r = r} o q f = record { told = inr (sym e ∙ o, subst (λ (n : ℕ). FindsKey D s w (k + 1) n (Ok r)) q f) }
 
-pub lesser_upto : (best : ℕ) {least : ℕ} (found : Found) → least ≡ lesser_of best found → least ≤ best
-lesser_upto best {least} found p = subst (λ (n : ℕ). n ≤ best) (sym p) (go found)
-  where
-    go : (r : Found) → lesser_of best r ≤ best
-    go Never = omega arith
-    go (At i) = by (λ (n : ℕ). n ≤ best) (ltb i best) (λ t. omega (arith, ltb-true i best t)) (λ t. omega arith)
-    go GivenUp = omega arith
+module _ {D : Dialect} {s w : List ℕ} {n at best : ℕ} (v : Searched D s w n at best) where
+  pub search-on : {found : Code.Option ℕ} {least : ℕ} → at < best → FindsAt D s w at found → least ≡ lesser_of best found → Searched D s w n (at + 1) least
+  search-on {found} {least} h k p = subst (Searched D s w n (at + 1)) (sym p) (⊎_elim past (λ q. search-more v h q.0 refl found q.1) k.told)
+    where
+      past : (node_kind w at ≡ object_node → ⊥) × (found ≡ None) → Searched D s w n (at + 1) (lesser_of best found)
+      past q = subst (Searched D s w n (at + 1)) (sym (ap (lesser_of best) q.1)) (search-past v q.0)
 
--- the search went on, from node a with the least node b
-pub record Going (D : Dialect) (s w : List ℕ) (a b at best : ℕ) : Type 0 where
-  pub told : (n : ℕ) → Searched D s w n a b → Searched D s w n at best
-  pub on : a ≤ at
-  pub upto : best ≤ b
-
-module _ {D : Dialect} {s w : List ℕ} {a b : ℕ} where
-  pub going_start : Going D s w a b a b
-  going_start = record { told = λ n v. v; on = omega arith; upto = omega arith }
-
-  module _ {at best : ℕ} (g : Going D s w a b at best) where
-    pub going_more : {end least : ℕ} {found : Found} → at < best → node_kind w at ≡ object_node → end ≡ next w at → FindsKey D s w (at + 1) end found → is_given_up found ≡ false
-        → least ≡ lesser_of best found → Going D s w a b (at + 1) least
-    going_more {found = found} h o e k t p =
-        record { told = λ n v. search-more (g.told n v) h o e k t p; on = omega (arith, g.on); upto = omega (arith, g.upto, lesser_upto best found p) }
-
-    module _ {found : Found} {given : Bool} (k : FindsAt D s w at found) (u : given ≡ is_given_up found) where
-      pub going_on : {least : ℕ} → at < best → given ≡ false → least ≡ lesser_of best found → Going D s w a b (at + 1) least
-      going_on {least} h t p = ⊎_elim past (λ q. going_more h q.0 refl q.1 (sym u ∙ t) p) k.told
-        where
-          past : (node_kind w at ≡ object_node → ⊥) × (found ≡ Never) → Going D s w a b (at + 1) least
-          past q =
-              subst (Going D s w a b (at + 1)) (sym (p ∙ ap (lesser_of best) q.1)) (record { told = λ n v. search-past (g.told n v) q.0; on = omega (arith, g.on); upto = g.upto })
-
-      pub going-stops : given ≡ true → SearchesOn D s w a b (record { at = at; best = best })
-      going-stops t =
-          record { told = g.told; on = g.on; upto = g.upto; stopped = λ _. ⊎_elim (λ z. clash t (u ∙ ap is_given_up z.1)) (λ z. z.0) k.told }
-
-    pub going_done : best ≤ at → SearchesOn D s w a b (record { at = at; best = best })
-    going_done h = record { told = g.told; on = g.on; upto = g.upto; stopped = λ l. absurd (omega arith) }
-
-    pub going-from : {to : Progress} → SearchesOn D s w at best to → Going D s w a b to.at to.best
-    going-from x = record { told = λ n v. x.told n (g.told n v); on = omega (arith, g.on, x.on); upto = omega (arith, g.upto, x.upto) }
-
-    pub going-ends : best ≤ at → EndsAt D s w a b best
-    going-ends h = record { told = λ n v. record { at = at; searched = g.told n v; done = h } }
-
--- from the start to the end
-module _ {D : Dialect} {s w : List ℕ} {n : ℕ} {to : Progress} (x : SearchesOn D s w 0 n to) where
-  pub least_quick : to.best ≤ to.at → LeastNode D s w n to.best
-  least_quick h = record { at = to.at; searched = x.told n (search-start n); done = h }
-
-  pub least_on : {r : ℕ} → EndsAt D s w to.at to.best r → LeastNode D s w n r
-  least_on y = y.told n (x.told n (search-start n))
+  pub search-ends : best ≤ at → LeastNode D s w n best
+  search-ends h = record { at = at; searched = v; done = h }
 
 -- ---- a key among those before it
 
@@ -359,10 +309,10 @@ module _ {D : Dialect} {s w : List ℕ} {n best : ℕ} (y : LeastNode D s w n be
   none_at_all k a l o f count u m c r =
       ⊎_elim (λ z. y.searched.none k a z o f count u m c r) (λ z. omega (arith, node-above u m (omega arith), y.done)) (lt_or_ge k y.at)
 
-  pub search-found : {place : ℕ} → best < n → place ≡ node_start w best → FirstRepeat D s w n (Repeated.At place)
+  pub search-found : {place : ℕ} → best < n → place ≡ node_start w best → FirstRepeat D s w n (Some place)
   search-found l p =
       let x = y.searched.found l in
       record { told = λ js levels t. ap some p ∙ sym (items_hit D s w best x.k x.object x.told js levels 0 n t none_at_all (omega arith) x.below).1 }
 
-  pub search-none : n ≤ best → FirstRepeat D s w n Repeated.Never
+  pub search-none : n ≤ best → FirstRepeat D s w n None
   search-none l = record { told = λ js levels t. sym (items-none D s w best js levels 0 n t none_at_all l) }

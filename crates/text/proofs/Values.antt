@@ -17,16 +17,14 @@ use Rattle.tokens.specs.Tokens.{scalar_node, Skips.at_value, Solid, Skipped, Sca
 use Rattle.text.specs.Nodes.{node_words, put_node}
 use Rattle.text.specs.Containers.{opening, OpeningTold, OpeningAt}
 use Rattle.text.specs.Readers.{StandsTold, Stands, Wrote, value_spare, spare, ValueRead, ValueEnds, ReadsValue, EntryRead, EntryEnds, ReadsEntry, ReadsLeaf, Ready, Opens}
-use Rattle.text.specs.declared.reader.Read.{Read}
-use Rattle.text.specs.declared.reader.Read.TheVariants.{Past, Fault}
+use Rattle.std.specs.Prelude.{Option, Some, None, Result, Ok, Err}
+use Rattle.strings.specs.declared.chars.Fault.{Fault as Faulty}
+use Rattle.text.specs.declared.reader.TextError.TheVariants.{Fault}
 use Rattle.text.specs.declared.containers.Container.{Container}
 use Rattle.text.specs.declared.containers.Container.TheVariants.{Array, Object}
-use Rattle.text.specs.declared.containers.Opening.{Opening}
-use Rattle.text.specs.declared.containers.Opening.TheVariants as Openings
-use Rattle.tokens.specs.declared.scalars.ScalarRead.{ScalarRead}
-use Rattle.tokens.specs.declared.scalars.ScalarRead.TheVariants as Scalars
+use Rattle.tokens.specs.declared.scalars.Scalar.{Scalar}
 use Rattle.text.proofs.Frames.{Put, put-wrote, put-there}
-use Rattle.text.proofs.Inside.{told-on, spare-most}
+use Rattle.text.proofs.Inside.{Read, past, told-on, spare-most}
 
 -- a byte that stands at a place
 pub stands-byte : (s : List ℕ) (i b : ℕ) → i < length s → Stands s i b (eqb (get_or s i 0) b)
@@ -44,19 +42,21 @@ module _ {s : List ℕ} {i b : ℕ} {r : Bool} (f : Stands s i b r) where
   missed e = subst (λ (t : Bool). StandsTold s i b t) e f.told
 
 -- a value without brackets
-module _ {D : Dialect} {s : List ℕ} {i : ℕ} {r : ScalarRead} (f : ReadsScalar D s i r) where
-  pub leaf-fits : {k kind e n : ℕ} → Ready s i k → r ≡ Scalars.Found kind e → n ≤ k + 2 → (k < 2 ^ 32) × (i < 2 ^ 32) × (e < 2 ^ 32) × (n < 2 ^ 32)
-  leaf-fits x g h = let t = subst (λ (y : ScalarRead). ScalarTold D s i y) g f.told in let l = t.1.within in omega arith
+module _ {D : Dialect} {s : List ℕ} {i : ℕ} {r : Result Scalar Faulty} (f : ReadsScalar D s i r) where
+  pub leaf-fits : {k n : ℕ} {v : Scalar} → Ready s i k → r ≡ Ok v → n ≤ k + 2 → (k < 2 ^ 32) × (i < 2 ^ 32) × (v.end < 2 ^ 32) × (n < 2 ^ 32)
+  leaf-fits x g h = let t = subst (λ (y : Result Scalar Faulty). ScalarTold D s i y) g f.told in let l = t.1.within in omega arith
 
-  pub leaf-read : {w new : List ℕ} {k kind e : ℕ} → r ≡ Scalars.Found kind e → new ≡ put_node w k kind i e (k + 1) → ReadsLeaf D s w new i k (Past e (k + 1))
-  leaf-read {w} {k = k} {kind = kind} {e = e} g q =
-      let t = subst (λ (y : ScalarRead). ScalarTold D s i y) g f.told in
+  pub leaf-read : {w new : List ℕ} {k : ℕ} {y : Scalar} → r ≡ Ok y → new ≡ put_node w k y.kind i y.end (k + 1) → ReadsLeaf D s w new i k (past y.end (k + 1))
+  leaf-read {w} {k = k} {y = y} g q =
+      let kind = y.kind in
+      let e = y.end in
+      let t = subst (λ (y : Result Scalar Faulty). ScalarTold D s i y) g f.told in
       let v = t.0 in
       let new : List ℕ = put_node w k kind i e (k + 1) in
       let u = put-wrote w k kind i e (k + 1) in
       let put : node_words * (k + 1) ≤ length new → Put new k (scalar_node s i e v) i e (k + 1) =
       λ z. subst (λ (j : ℕ). Put new k j i e (k + 1)) t.2 (put-there w k kind i e (k + 1) (omega (arith, u.same_length))) in
-      subst (λ (x : List ℕ). ReadsLeaf D s w x i k (Past e (k + 1))) (sym q)
+      subst (λ (x : List ℕ). ReadsLeaf D s w x i k (past e (k + 1))) (sym q)
       record {
         told = λ levels.
             record {
@@ -78,14 +78,14 @@ module _ {D : Dialect} {s : List ℕ} {i : ℕ} {r : ScalarRead} (f : ReadsScala
             };
       }
 
-  pub leaf-stop : {w : List ℕ} {k e : ℕ} → r ≡ Scalars.Fault e → ReadsLeaf D s w w i k (Fault e)
-  leaf-stop g = let t = subst (λ (y : ScalarRead). ScalarTold D s i y) g f.told in record { told = λ levels. record { told = (refl, λ lim K d. t lim K) } }
+  pub leaf-stop : {w : List ℕ} {k : ℕ} {v : Faulty} → r ≡ Err v → ReadsLeaf D s w w i k (Err (Fault v.at))
+  leaf-stop g = let t = subst (λ (y : Result Scalar Faulty). ScalarTold D s i y) g f.told in record { told = λ levels. record { told = (refl, λ lim K d. t lim K) } }
 
 -- what opens at a place, once it is known which it is
-module _ {s : List ℕ} {p : ℕ} {r : Opening} (f : OpeningAt s p r) where
-  module _ {c : Container} (e : r ≡ Openings.Bracket c) where
+module _ {s : List ℕ} {p : ℕ} {r : Option Container} (f : OpeningAt s p r) where
+  module _ {c : Container} (e : r ≡ Some c) where
     bracket : (p < length s) × (get_or s p 0 ≡ opening c)
-    bracket = subst (λ (t : Opening). OpeningTold s p t) e f.told
+    bracket = subst (λ (t : Option Container). OpeningTold s p t) e f.told
 
     pub opens : {k : ℕ} → Ready s p k → Opens c s p k
     opens y = record { ready = y; here = bracket.0; byte = bracket.1 }
@@ -94,9 +94,9 @@ module _ {s : List ℕ} {p : ℕ} {r : Opening} (f : OpeningAt s p r) where
         → ReadsValue (spare (get_or s p 0)) D s old new p k levels v
     container-at {D} {old} {new} {k} {levels} {v} h = subst (λ (b : ℕ). ReadsValue (spare b) D s old new p k levels v) (sym bracket.1) h
 
-  module _ (e : r ≡ Openings.Other) where
+  module _ (e : r ≡ None) where
     other : (p < length s → get_or s p 0 ≡ opening Array → ⊥) × (p < length s → get_or s p 0 ≡ opening Object → ⊥)
-    other = subst (λ (t : Opening). OpeningTold s p t) e f.told
+    other = subst (λ (t : Option Container). OpeningTold s p t) e f.told
 
     pub unbracketed : {D : Dialect} → Solid D s p → Unbracketed D s p
     unbracketed x = record { solid = x; no_array = other.0; no_object = other.1 }
@@ -121,7 +121,7 @@ module _ {D : Dialect} {s : List ℕ} {i p : ℕ} (x : Skipped D s i p) where
       record {
         told =
             told-on (ValueRead (spare (get_or s p 0)) D s old new p k levels) (ValueRead value_spare D s old new i k levels) (ValueEnds D s p levels) (ValueEnds D s i levels) old old new r refl
-            (λ e n _ h. record {
+            (λ y _ h. record {
               moved =
                   record {
                     on = omega (arith, x.on, h.moved.on);
@@ -144,7 +144,7 @@ value-entry {D} {s} {old} {new} {i} {k} {levels} {r} v =
     record {
       told =
           told-on (ValueRead value_spare D s old new i k levels) (EntryRead Array D s old new i k levels) (ValueEnds D s i levels) (EntryEnds Array D s i levels) old old new r refl
-          (λ e n _ h. record {
+          (λ y _ h. record {
             moved = h.moved;
             key = tt;
             tree = h.tree;

@@ -20,12 +20,13 @@ use Rattle.grammar.proofs.Texts.{schema-sound, schema-fault, schema-deep, messag
 use Rattle.tokens.specs.Tokens.{Skips, Skips.at_object, Skips.after_value, Skipped}
 use Rattle.text.specs.Readers.{Stands, value_spare, spare, ReadsValue, Ready}
 use Rattle.text.specs.Texts.{ReadsMessage, ReadsSchema}
-use Rattle.text.specs.declared.reader.Read.{Read}
-use Rattle.text.specs.declared.reader.Read.TheVariants as Reader
+use Rattle.std.specs.Prelude.{Ok, Err}
+use Rattle.text.specs.declared.reader.Past.{Past}
+use Rattle.text.specs.declared.reader.TextError.{TextError}
+use Rattle.text.specs.declared.reader.TextError.TheVariants.{Fault, Deep, TooLong}
 use Rattle.text.specs.declared.containers.Container.TheVariants.{Array}
-use Rattle.text.specs.declared.texts.Text.TheVariants as Texts
 use Rattle.text.proofs.Places.{Runs, Ends, then, then-ends, blanks, byte_alike, byte_stuck, at-end}
-use Rattle.text.proofs.Inside.{value-told}
+use Rattle.text.proofs.Inside.{Read, value-told}
 use Rattle.text.proofs.Values.{stood, missed}
 use Rattle.text.proofs.Entries.{HeldEntries, held_none, held-entry}
 use Rattle.text.specs.Nodes.{node_words, text_bound}
@@ -36,13 +37,13 @@ unfolding read_message read
 message-answers e = e.path
 
 module _ {s old new : List ℕ} {r : Read} (v : ReadsValue value_spare message s old new 0 0 message_levels r) where
-  module _ {e n p : ℕ} (g : r ≡ Reader.Past e n) (x : Skipped message s e p) where
+  module _ {y : Past} {p : ℕ} (g : r ≡ Ok y) (x : Skipped message s y.end p) where
     -- the value and the blanks after it
     message-past : Runs message s message_levels AtValue (bottom no_items) 0 (After (value-told v g).tree) (bottom no_items) p
     message-past =
         then (record { path = (value-told v g).runs message_levels (bottom no_items) refl }) (blanks after_value x)
 
-    pub message-whole : length s ≤ p → ReadsMessage s old new (Texts.Whole n)
+    pub message-whole : length s ≤ p → ReadsMessage s old new (Ok y.next)
     message-whole h =
         let t = value-told v g in
         record {
@@ -57,7 +58,7 @@ module _ {s old new : List ℕ} {r : Read} (v : ReadsValue value_spare message s
               };
         }
 
-    pub message-more : p < length s → ReadsMessage s old new (Texts.Fault p)
+    pub message-more : p < length s → ReadsMessage s old new (Err (Fault p))
     message-more h =
         let l = x.solid h in
         record {
@@ -65,15 +66,14 @@ module _ {s old new : List ℕ} {r : Read} (v : ReadsValue value_spare message s
           told = message-fault (message-answers (then-ends message-past (byte_stuck h (simp l.0))));
         }
 
-  pub message_faulty : {e : ℕ} → r ≡ Reader.Fault e → ReadsMessage s old new (Texts.Fault e)
-  message_faulty g =
+  pub message-stops : (e : TextError) → r ≡ Err e → ReadsMessage s old new (Err e)
+  message-stops (Fault e) g =
       let t = value-told v g in
       record { same_length = t.0; told = message-fault (message-answers (record { path = t.1 message_levels (bottom no_items) refl })) }
-
-  pub message-deeper : {e : ℕ} → r ≡ Reader.Deep e → ReadsMessage s old new (Texts.Deep e)
-  message-deeper g =
+  message-stops (Deep e) g =
       let t = value-told v g in
       record { same_length = t.0; told = message-deep (message-answers (record { path = t.1 message_levels (bottom no_items) refl })) }
+  message-stops TooLong g = absurd (value-told v g)
 
 -- schemas: between the objects, those before in reverse
 abbrev between : Items → Control schema
@@ -122,7 +122,7 @@ module _ {s old w : List ℕ} {i n p : ℕ} (a : ObjectsAt s old w i n) (x : Ski
   objects-past : Runs schema s schema_levels AtObject (bottom no_items) 0 (between a.items) (below a.items) p
   objects-past = then a.runs (blanks (between_skips s a.items) x)
 
-  pub objects-whole : length s ≤ p → ReadsSchema s old w (Texts.Whole n)
+  pub objects-whole : length s ≤ p → ReadsSchema s old w (Ok n)
   objects-whole h =
       record {
         same_length = a.same_length;
@@ -135,14 +135,14 @@ module _ {s old w : List ℕ} {i n p : ℕ} (a : ObjectsAt s old w i n) (x : Ski
             };
       }
 
-  pub objects-other : {t : Bool} → p < length s → Stands s p (code "{") t → t ≡ false → ReadsSchema s old w (Texts.Fault p)
+  pub objects-other : {t : Bool} → p < length s → Stands s p (code "{") t → t ≡ false → ReadsSchema s old w (Err (Fault p))
   objects-other h f e =
       let l = x.solid h in
       let b = between_stuck a.items p (get_or s p 0) l.0 l.1 (missed f e h) in
       record { same_length = a.same_length; told = schema-fault (schema-answers (then-ends objects-past (byte_stuck h b))) }
 
-pub object-on : {D : Dialect} {s w new : List ℕ} {i n p q m spare levels : ℕ} {r : Read} → Skipped D s i p → ReadsValue spare D s w new p n levels r → r ≡ Reader.Past q m
-    → (i < q) × (q ≤ length s)
+pub object-on : {D : Dialect} {s w new : List ℕ} {i n p spare levels : ℕ} {r : Read} {y : Past} → Skipped D s i p → ReadsValue spare D s w new p n levels r → r ≡ Ok y
+    → (i < y.end) × (y.end ≤ length s)
 object-on x v g = let z = (value-told v g).moved in (omega (arith, x.on, z.on), z.within)
 
 -- where an object opens
@@ -155,8 +155,9 @@ module _ {s old w : List ℕ} {i n p : ℕ} {t : Bool} (a : ObjectsAt s old w i 
   object-ready h = record { short = h; within = omega (arith, stood f e); few = omega (arith, x.on, a.few) }
 
   module _ {new : List ℕ} {r : Read} (v : ReadsValue (spare (get_or s p 0)) schema s w new p n schema_levels r) where
-    pub object-past : {q m : ℕ} → r ≡ Reader.Past q m → ObjectsAt s old new q m
-    object-past {q} {m} g =
+    pub object-past : {y : Past} → r ≡ Ok y → ObjectsAt s old new y.end y.next
+    object-past {y} g =
+        let m = y.next in
         let z = value-told v g in
         record {
           within = z.moved.within;
@@ -164,16 +165,15 @@ module _ {s old w : List ℕ} {i n p : ℕ} {t : Bool} (a : ObjectsAt s old w i 
           same_length = z.moved.wrote.same_length ∙ a.same_length;
           items = item z.tree a.items;
           runs = then object-opens (record { path = z.runs schema_levels (bottom a.items) refl });
-          held = λ y. held-entry schema s w new Array a.items tt z.tree schema_levels 0 n m (omega arith) z.moved.nodes z.moved.wrote
-              (a.held (omega (arith, z.moved.nodes, z.moved.wrote.same_length))) (z.moved.nodes, z.holds y, z.ends y);
+          held = λ x. held-entry schema s w new Array a.items tt z.tree schema_levels 0 n m (omega arith) z.moved.nodes z.moved.wrote
+              (a.held (omega (arith, z.moved.nodes, z.moved.wrote.same_length))) (z.moved.nodes, z.holds x, z.ends x);
         }
 
-    pub object_faulty : {q : ℕ} → r ≡ Reader.Fault q → ReadsSchema s old new (Texts.Fault q)
-    object_faulty g =
+    pub object-stops : (e : TextError) → r ≡ Err e → ReadsSchema s old new (Err e)
+    object-stops (Fault e) g =
         let z = value-told v g in
         record { same_length = z.0 ∙ a.same_length; told = schema-fault (schema-answers (record { path = object-opens.path ∙ z.1 schema_levels (bottom a.items) refl })) }
-
-    pub object-deeper : {q : ℕ} → r ≡ Reader.Deep q → ReadsSchema s old new (Texts.Deep q)
-    object-deeper g =
+    object-stops (Deep e) g =
         let z = value-told v g in
         record { same_length = z.0 ∙ a.same_length; told = schema-deep (schema-answers (record { path = object-opens.path ∙ z.1 schema_levels (bottom a.items) refl })) }
+    object-stops TooLong g = absurd (value-told v g)

@@ -1,5 +1,5 @@
 -- Serves contracts and proofs: arrays and objects as one, by cases: their brackets and nodes, what is in them, and where the machine of the grammar stands inside them.
-use Rattle.std.specs.Prelude.{ℕ, ◌<◌, ◌≡◌, List, length, get_or}
+use Rattle.std.specs.Prelude.{ℕ, ◌<◌, ◌≡◌, List, length, get_or, Option, Some, None}
 use Prim.Native.Char.{code}
 use Rattle.grammar.specs.Tree.{Json, Json.arr, Json.obj, Items, Items.no_items, Items.item, Fields, Fields.no_fields, Fields.field}
 use Rattle.grammar.specs.Serving.Machine.{Dialect, Stack, Stack.in_array, Stack.in_object, Control, reverse_items, reverse_fields}
@@ -8,8 +8,6 @@ use Rattle.tokens.specs.NodeKinds.{array_node, object_node}
 use Rattle.text.specs.Nodes.{HoldsItems, HoldsFields}
 use Rattle.text.specs.declared.containers.Container.{Container}
 use Rattle.text.specs.declared.containers.Container.TheVariants.{Array, Object}
-use Rattle.text.specs.declared.containers.Opening.{Opening}
-use Rattle.text.specs.declared.containers.Opening.TheVariants.{Bracket, Other}
 
 -- the bracket that opens a container, and the one that closes it
 abbrev pub opening : Container → ℕ
@@ -26,11 +24,11 @@ container_node Array = array_node
 container_node Object = object_node
 
 -- a container opens at place i, or none does
-abbrev pub OpeningTold : List ℕ → ℕ → Opening → Type 0
-OpeningTold s i (Bracket c) = (i < length s) × (get_or s i 0 ≡ opening c)
-OpeningTold s i Other = (i < length s → get_or s i 0 ≡ opening Array → ⊥) × (i < length s → get_or s i 0 ≡ opening Object → ⊥)
+abbrev pub OpeningTold : List ℕ → ℕ → Option Container → Type 0
+OpeningTold s i (Some c) = (i < length s) × (get_or s i 0 ≡ opening c)
+OpeningTold s i None = (i < length s → get_or s i 0 ≡ opening Array → ⊥) × (i < length s → get_or s i 0 ≡ opening Object → ⊥)
 
-pub record OpeningAt (s : List ℕ) (i : ℕ) (r : Opening) : Type 0 where
+pub record OpeningAt (s : List ℕ) (i : ℕ) (r : Option Container) : Type 0 where
   pub told : OpeningTold s i r
 
 -- what is in a container: values, or members

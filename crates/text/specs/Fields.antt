@@ -1,12 +1,12 @@
 -- Serves contracts: the keys of one object by number, over its nodes, and the first of them that repeats one before it.
-use Rattle.std.specs.Prelude.{ℕ, zero, suc, ◌<◌, ◌≡◌, Bool, true, false, List}
+use Rattle.std.specs.Prelude.{ℕ, zero, suc, ◌<◌, ◌≡◌, Bool, true, false, eqb, List, Option, Some, None, Result, Ok, Err}
 use Rattle.grammar.specs.Notation.{same}
 use Rattle.grammar.specs.Serving.Machine.{Dialect}
-use Rattle.sorted.specs.declared.repeats.Found.{Found}
-use Rattle.sorted.specs.declared.repeats.Found.TheVariants.{Never, At, GivenUp}
+use Rattle.sorted.specs.declared.repeats.GivenUp.{GivenUp}
 use Rattle.sorted.specs.Repeats.{Repeat, NoneTo}
 use Rattle.strings.specs.Strings.{Means}
 use Rattle.strings.specs.Hashes.{hash_of}
+use Rattle.tokens.specs.NodeKinds.{plain_key_node}
 use Rattle.tokens.specs.Tokens.{key_node}
 use Rattle.text.specs.Nodes.{Node, next}
 
@@ -16,6 +16,10 @@ pub record KeyAt (D : Dialect) (s w : List ℕ) (a : ℕ) (cs : List ℕ) : Type
   pub end : ℕ
   pub node_is : Node w a (key_node s start end) start end
   pub means : Means D s start end cs
+
+-- whether a node's kind is that of a key whose bytes are its code points
+abbrev pub plain_key : ℕ → Bool
+plain_key kind = eqb kind plain_key_node
 
 -- two keys mean the same
 pub record SameKeys (D : Dialect) (s w : List ℕ) (a b : ℕ) (r : Bool) : Type 0 where
@@ -52,21 +56,11 @@ pub record RepeatAt (w : List ℕ) (b : ℕ) (f : ℕ → List ℕ) (count i : �
   pub node : i ≡ node_of w b number
   pub repeats : Repeat f number
 
-abbrev pub TellsKey : List ℕ → ℕ → (ℕ → List ℕ) → ℕ → Found → Type 0
-TellsKey w b f count Never = NoneTo f count
-TellsKey w b f count (At i) = (r : RepeatAt w b f count i) × NoneTo f r.number
-TellsKey w b f count GivenUp = Unit {0}
+abbrev pub TellsKey : List ℕ → ℕ → (ℕ → List ℕ) → ℕ → Result (Option ℕ) GivenUp → Type 0
+TellsKey w b f count (Ok None) = NoneTo f count
+TellsKey w b f count (Ok (Some i)) = (r : RepeatAt w b f count i) × NoneTo f r.number
+TellsKey w b f count (Err e) = Unit {0}
 
 -- what a search finds among the keys from node b up to node n
-pub record FindsKey (D : Dialect) (s w : List ℕ) (b n : ℕ) (r : Found) : Type 0 where
+pub record FindsKey (D : Dialect) (s w : List ℕ) (b n : ℕ) (r : Result (Option ℕ) GivenUp) : Type 0 where
   pub told : (f : ℕ → List ℕ) (count : ℕ) → Keys D s w b n f count → TellsKey w b f count r
-
-abbrev pub is_given_up : Found → Bool
-is_given_up Never = false
-is_given_up (At i) = false
-is_given_up GivenUp = true
-
--- what a search finds that isn't given up
-pub record FindsSurely (D : Dialect) (s w : List ℕ) (b n : ℕ) (r : Found) : Type 0 where
-  pub finds : FindsKey D s w b n r
-  pub sure : is_given_up r ≡ false

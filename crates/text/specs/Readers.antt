@@ -1,11 +1,12 @@
 -- Serves contracts: what the readers of values, containers and entries do, by the machine of the grammar.
-use Rattle.std.specs.Prelude.{ℕ, suc, ◌+◌, ◌*◌, ◌≤◌, ◌<◌, ◌≡◌, Bool, true, false, cond, List, eqb, length, get_or, drop}
+use Rattle.std.specs.Prelude.{ℕ, suc, ◌+◌, ◌*◌, ◌≤◌, ◌<◌, ◌≡◌, Bool, true, false, cond, List, eqb, length, get_or, drop, Result, Ok, Err}
 use Rattle.grammar.specs.Tree.{Json}
 use Rattle.grammar.specs.Serving.Machine.{Dialect, Stack, Out, depth, scan}
 use Rattle.grammar.specs.Serving.Machine.Control.{AtValue, After}
 use Rattle.grammar.specs.Serving.Machine.Out.{fault, deep}
-use Rattle.text.specs.declared.reader.Read.{Read}
-use Rattle.text.specs.declared.reader.Read.TheVariants.{Past, Fault, Deep}
+use Rattle.text.specs.declared.reader.Past.{Past}
+use Rattle.text.specs.declared.reader.TextError.{TextError}
+use Rattle.text.specs.declared.reader.TextError.TheVariants.{Fault, Deep, TooLong}
 use Rattle.text.specs.declared.containers.Container.{Container}
 use Rattle.text.specs.declared.containers.Container.TheVariants.{Object}
 use Rattle.text.specs.Nodes.{node_words, text_bound, next, Holds}
@@ -33,10 +34,11 @@ abbrev pub spare : ℕ → ℕ
 spare b = cond (eqb b (opening Object)) 0 value_spare
 
 -- an answer: what was read, or how the machine ends; the words keep their number
-abbrev pub Told : (ℕ → ℕ → Type 0) → (Out → Type 0) → (old new : List ℕ) → Read → Type 0
-Told Was Ends old new (Past e n) = Was e n
-Told Was Ends old new (Fault e) = (length new ≡ length old) × Ends (fault e)
-Told Was Ends old new (Deep e) = (length new ≡ length old) × Ends (deep e)
+abbrev pub Told : (ℕ → ℕ → Type 0) → (Out → Type 0) → (old new : List ℕ) → Result Past TextError → Type 0
+Told Was Ends old new (Ok p) = Was p.end p.next
+Told Was Ends old new (Err (Fault e)) = (length new ≡ length old) × Ends (fault e)
+Told Was Ends old new (Err (Deep e)) = (length new ≡ length old) × Ends (deep e)
+Told Was Ends old new (Err TooLong) = ⊥
 
 -- A value was read, with `levels` levels for it and what is inside it: its tree, the machine's run, and the nodes, where they fit.
 pub record ValueRead (spare : ℕ) (D : Dialect) (s old new : List ℕ) (i k levels e n : ℕ) : Type 0 where
@@ -50,11 +52,11 @@ pub record ValueRead (spare : ℕ) (D : Dialect) (s old new : List ℕ) (i k lev
 abbrev pub ValueEnds : Dialect → List ℕ → ℕ → ℕ → Out → Type 0
 ValueEnds D s i levels o = (lim : ℕ) (K : Stack) → depth K + levels ≡ lim → scan D lim AtValue K i (drop i s) ≡ o
 
-pub record ReadsValue (spare : ℕ) (D : Dialect) (s old new : List ℕ) (i k levels : ℕ) (r : Read) : Type 0 where
+pub record ReadsValue (spare : ℕ) (D : Dialect) (s old new : List ℕ) (i k levels : ℕ) (r : Result Past TextError) : Type 0 where
   pub told : Told (ValueRead spare D s old new i k levels) (ValueEnds D s i levels) old new r
 
 -- a value without brackets wants no level
-pub record ReadsLeaf (D : Dialect) (s old new : List ℕ) (i k : ℕ) (r : Read) : Type 0 where
+pub record ReadsLeaf (D : Dialect) (s old new : List ℕ) (i k : ℕ) (r : Result Past TextError) : Type 0 where
   pub told : (levels : ℕ) → ReadsValue value_spare D s old new i k levels r
 
 -- an entry was read: its key, its value's tree, the machine's run inside the container, and the nodes, where they fit
@@ -70,7 +72,7 @@ abbrev pub EntryEnds : Container → Dialect → List ℕ → ℕ → ℕ → Ou
 EntryEnds c D s i levels x =
     (lim : ℕ) (K : Stack) (o : ℕ) (es : Entries c) → suc (depth K) + levels ≡ lim → scan D lim (at_entry D c o es) (around_entry c o es K) i (drop i s) ≡ x
 
-pub record ReadsEntry (c : Container) (D : Dialect) (s old new : List ℕ) (i k levels : ℕ) (r : Read) : Type 0 where
+pub record ReadsEntry (c : Container) (D : Dialect) (s old new : List ℕ) (i k levels : ℕ) (r : Result Past TextError) : Type 0 where
   pub told : Told (EntryRead c D s old new i k levels) (EntryEnds c D s i levels) old new r
 
 -- where a reader may begin: the places of the text fit a word, and there are no more nodes than bytes so far

@@ -11,43 +11,38 @@ pub enum Container {
     Object,
 }
 
-// A bracket that opens a container; or another byte, or the end.
-#[derive(Clone, Copy)]
-pub enum Opening {
-    Bracket(Container),
-    Other,
+impl Container {
+    // The bracket that closes it.
+    pub fn closing(self) -> u8
+        ensures { result ≡ closing self }
+    {
+        match self {
+            Container::Array => b']',
+            Container::Object => b'}',
+        }
+    }
+
+    // The kind of its node.
+    pub fn node(self) -> u32
+        ensures { result ≡ container_node self }
+    {
+        match self {
+            Container::Array => node::ARRAY,
+            Container::Object => node::OBJECT,
+        }
+    }
 }
 
-// What opens at `i`.
-pub fn opening_at(s: &[u8], i: usize) -> Opening
+// What opens at `i`, if a bracket stands there that does.
+pub fn opening_at(s: &[u8], i: usize) -> Option<Container>
     ensures { OpeningAt s.now i result }
 {
     if s.len() <= i {
-        return Opening::Other;
+        return None;
     }
     match s[i] {
-        b'[' => Opening::Bracket(Container::Array),
-        b'{' => Opening::Bracket(Container::Object),
-        _ => Opening::Other,
-    }
-}
-
-// The bracket that closes a container.
-pub fn closing(shape: Container) -> u8
-    ensures { result ≡ closing shape }
-{
-    match shape {
-        Container::Array => b']',
-        Container::Object => b'}',
-    }
-}
-
-// The kind of a container's node.
-pub fn container_node(shape: Container) -> u32
-    ensures { result ≡ container_node shape }
-{
-    match shape {
-        Container::Array => node::ARRAY,
-        Container::Object => node::OBJECT,
+        b'[' => Some(Container::Array),
+        b'{' => Some(Container::Object),
+        _ => None,
     }
 }

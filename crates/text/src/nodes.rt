@@ -2,7 +2,8 @@
 ghost use Rattle.std.specs.Prelude.{◌≡◌, ◌^◌, ◌<◌};
 ghost use Rattle.text.specs.Nodes.{node, put_node};
 
-use words::{put_four, word_of};
+use strings::dialects::Dialect;
+use words::{put_item, word_of};
 
 // The words of a node, counted from 0.
 pub const NODE_KIND: usize = 0;
@@ -15,6 +16,14 @@ pub const NODE_END: usize = 2;
 pub const NODE_NEXT: usize = 3;
 
 pub const NODE_WORDS: usize = 4;
+
+// A text and the nodes of what it holds.
+#[derive(Clone, Copy)]
+pub struct Tree<'a> {
+    pub bytes: &'a [u8],
+    pub dialect: Dialect,
+    pub nodes: &'a [u32],
+}
 
 // Word i of node k; 0 past the end.
 pub fn node_word(nodes: &[u32], k: usize, i: usize) -> u32
@@ -35,5 +44,5 @@ pub fn put_node(nodes: &mut [u32], k: usize, kind: u32, start: usize, end: usize
     requires { (k < 2 ^ 32) × (start < 2 ^ 32) × (end < 2 ^ 32) × (next < 2 ^ 32) }
     ensures { nodes.new ≡ put_node nodes.old k kind start end next }
 {
-    put_four(nodes, k, kind, start as u32, end as u32, next as u32);
+    put_item(nodes, k, [kind, start as u32, end as u32, next as u32]);
 }

@@ -21,8 +21,8 @@ decreases-read_member l = 5 * l.left + 3
 abbrev pub decreases-read_value : goal.decreases-read_value
 decreases-read_value l = 5 * l.left + 2
 
-abbrev pub invariant-read_container-loop-e : goal.invariant-read_container-loop-e
-invariant-read_container-loop-e l = EntriesAt l.shape l.close (grammar_of l.dialect) l.s l.initial.nodes l.nodes l.at l.k l.left l.i l.n
+abbrev pub invariant-read_container-loop-entry : goal.invariant-read_container-loop-entry
+invariant-read_container-loop-entry l = EntriesAt l.shape l.close (grammar_of l.source.dialect) l.source.bytes.now l.initial.nodes l.nodes l.at l.k l.left l.i l.next
 
-abbrev pub decreases-read_container-loop-e : goal.decreases-read_container-loop-e
-decreases-read_container-loop-e l = length l.s - l.i
+abbrev pub decreases-read_container-loop-entry : goal.decreases-read_container-loop-entry
+decreases-read_container-loop-entry l = length l.source.bytes.now - l.i

@@ -5,8 +5,8 @@ use lib.ListN.{length}
 use Rattle.text.proofs.Wholes.{ObjectsAt}
 use Rattle.text.proofs.texts.read_objects.Given as goal
 
-abbrev pub invariant-loop-i : goal.invariant-loop-i
-invariant-loop-i l = ObjectsAt l.s l.initial.nodes l.nodes l.i l.n
+abbrev pub invariant-objects : goal.invariant-objects
+invariant-objects l = ObjectsAt l.s l.initial.nodes l.nodes l.i l.n
 
-abbrev pub decreases-loop-i : goal.decreases-loop-i
-decreases-loop-i l = length l.s - l.i
+abbrev pub decreases-objects : goal.decreases-objects
+decreases-objects l = length l.s - l.i

@@ -1,7 +1,0 @@
--- `sorting::fill` stays within its slice and ends.
-use native.Mathlib.Omega.{arith}
-use lib.ListN.{length-set}
-use Rattle.sorted.proofs.sorting.fill.Goals as goal
-
-pub loop-i-preserved : goal.loop-i-preserved
-loop-i-preserved c = simp length-set (omega arith)
