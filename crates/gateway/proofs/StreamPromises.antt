@@ -10,8 +10,7 @@ use Rattle.grammar.specs.Limits.{message_bytes}
 use Rattle.grammar.proofs.Booleans.{min_right}
 use Rattle.rules.specs.declared.MessageRefusal.{MessageRefusal}
 use Rattle.rules.specs.MessageAnswers as Messages
-use Rattle.stream.specs.declared.pieces.Said.{Said}
-use Rattle.stream.specs.Stream.{OfText, Output, Output.message, End, Stream, limit_of}
+use Rattle.stream.specs.Stream.{OfText, Output, Output.message, End, Said, Stream, limit_of}
 use Rattle.stream.specs.Serving.Feeding.{Standing, Call, Run, handing, run}
 use Rattle.stream.specs.Serving.States.{Normal}
 use Rattle.stream.proofs.Runs.{At, At.at_gap, At.at_skip, At.at_message, run_fits}

@@ -1,6 +1,6 @@
 -- Reference, Calls: what each exported call owes its caller, whatever bytes and words come. One record a call of the header; proofs/Promises has each, from the call's contract.
 -- `old` are the lent words before the call, `new` those after it. What calls of a stream one after the other owe is in StreamRuns.
-use Rattle.std.specs.Prelude.{ℕ, ◌*◌, ◌≤◌, ◌<◌, ◌≢◌, ◌≡◌, Bool, true, false, length, take, drop, replicate}
+use Rattle.std.specs.Prelude.{ℕ, ◌*◌, ◌≤◌, ◌<◌, ◌≢◌, ◌≡◌, Bool, true, false, Some, None, Ok, Err, length, take, drop, replicate}
 use mathlib.Core.List.{List, [], ◌∷◌, Memᴰ}
 use Rattle.grammar.specs.Limits.{table_rows, row_words, record_words}
 use Rattle.rules.specs.declared.SchemaRefusal.{SchemaRefusal}
@@ -17,9 +17,7 @@ use Rattle.rules.specs.SchemaAnswers.{SchemaPlace, SchemaOutcome}
 use Rattle.rules.specs.MessageAnswers as Messages
 use Rattle.rules.specs.MessageAnswers.{MessagePlace, MessageOutcome, Readable, Held}
 use Rattle.rules.specs.Demands.{DigitsApart, Gives}
-use Rattle.stream.specs.declared.pieces.Said.{Said}
-use Rattle.stream.specs.declared.pieces.Said.TheVariants.{Nothing, Message, Refused}
-use Rattle.stream.specs.Stream.{OfText, limit_of}
+use Rattle.stream.specs.Stream.{OfText, Said, limit_of}
 
 -- windosprio_compile_schema(schema S, rows, count, place): the number, the count of rows, the place
 pub record CompileCall (S old new : List ℕ) (number rows place : ℕ) : Type 0 where
@@ -76,14 +74,13 @@ fresh = 0 ∷ 0 ∷ 0 ∷ []
 
 -- what a call of a stream hands out, as its number and the bytes of a message: nothing, a message at the start of the buffer, or a refusal
 abbrev pub said_number : Said → ℕ
-said_number Nothing = 0
-said_number (Message n) = 0
-said_number (Refused x) = Messages.refusal_number x
+said_number (Ok o) = 0
+said_number (Err x) = Messages.refusal_number x
 
 abbrev pub said_bytes : Said → ℕ
-said_bytes Nothing = 0
-said_bytes (Message n) = n
-said_bytes (Refused x) = 0
+said_bytes (Ok None) = 0
+said_bytes (Ok (Some n)) = n
+said_bytes (Err x) = 0
 
 -- windosprio_stream_feed(state, buffer, piece, taken, message bytes, place): the number; `old` is the buffer before the call, `new` the one after it
 pub record FeedCall (old piece new : List ℕ) (number taken bytes place : ℕ) : Type 0 where
@@ -91,12 +88,12 @@ pub record FeedCall (old piece new : List ℕ) (number taken bytes place : ℕ) 
   pub number_is : number ≡ said_number said
   pub bytes_are : bytes ≡ said_bytes said
   -- a message has a byte at least, so that it is told from nothing, and no more than the limit; a refusal is 22, 23 or 24, at place 0
-  pub short : {n : ℕ} → said ≡ Message n → (0 < n) × (n ≤ limit_of (length old))
-  pub of_text : {x : MessageRefusal} → said ≡ Refused x → OfText x
+  pub short : {n : ℕ} → said ≡ Ok (Some n) → (0 < n) × (n ≤ limit_of (length old))
+  pub of_text : {x : MessageRefusal} → said ≡ Err x → OfText x
   pub place_is : place ≡ 0
   -- where nothing is handed out the whole piece is taken, else a byte of it at least
-  pub all_taken : said ≡ Nothing → taken ≡ length piece
-  pub some_taken : (said ≡ Nothing → ⊥) → 0 < taken
+  pub all_taken : said ≡ Ok None → taken ≡ length piece
+  pub some_taken : (said ≡ Ok None → ⊥) → 0 < taken
   pub within : taken ≤ length piece
   -- bytes of the buffer past the limit stay as they are
   pub same_length : length new ≡ length old

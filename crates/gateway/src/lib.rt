@@ -11,9 +11,8 @@ use numbers::{
     message_number, message_place, message_records, message_row, schema_number, schema_place,
     schema_rows,
 };
-use rules::{MessageAnswer, NOWHERE};
+use rules::{MessageAnswer, MessageRefusal, NOWHERE};
 use schema::compile::compile_schema;
-use stream::pieces::Said;
 use stream::reader::read_piece;
 use stream::state::{Words, start};
 use table::sound::is_sound;
@@ -66,24 +65,22 @@ pub extern "C" fn windosprio_is_sound(schema: &[u8], table: &[u32]) -> bool
 }
 
 // The number of what a stream hands out.
-fn said_number(said: Said) -> u32
+fn said_number(said: Result<Option<usize>, MessageRefusal>) -> u32
     ensures { result ≡ said_number said }
 {
     match said {
-        Said::Nothing => 0,
-        Said::Message(_n) => 0,
-        Said::Refused(x) => message_number(MessageAnswer::Refused(x, NOWHERE)),
+        Ok(_) => 0,
+        Err(x) => message_number(MessageAnswer::Refused(x, NOWHERE)),
     }
 }
 
 // The bytes of the message that a stream hands out.
-fn said_bytes(said: Said) -> usize
+fn said_bytes(said: Result<Option<usize>, MessageRefusal>) -> usize
     ensures { result ≡ said_bytes said }
 {
     match said {
-        Said::Nothing => 0,
-        Said::Message(n) => n,
-        Said::Refused(_x) => 0,
+        Ok(Some(n)) => n,
+        Ok(None) | Err(_) => 0,
     }
 }
 
@@ -114,11 +111,10 @@ pub extern "C" fn windosprio_stream_feed(
         len: state[2] as usize,
     };
     let r = read_piece(buffer, piece, kept);
-    let w = r.words;
-    let said = r.said;
+    let w = r.state;
     *state = [w.mode, w.nest, w.len as u64];
     *taken = r.taken;
-    *message_bytes = said_bytes(said);
+    *message_bytes = said_bytes(r.said);
     *place = NOWHERE;
-    said_number(said)
+    said_number(r.said)
 }

@@ -6,8 +6,8 @@ use mathlib.Core.Path.{◌≡◌, ap}
 use mathlib.Core.Bool.{Bool}
 use mathlib.Core.List.{List, ◌∷◌}
 use lib.ListN.{set}
+use Rattle.std.specs.Prelude.{Some, None, Ok, Err}
 use Rattle.rules.specs.declared.MessageRefusal.{MessageRefusal}
-use Rattle.stream.specs.declared.pieces.Said.TheVariants.{Nothing, Message, Refused}
 use Rattle.stream.specs.Serving.Modes.{Mode}
 use Rattle.stream.specs.Serving.Feeding.{Standing, length_of, Outcome, Outcome.pass, Outcome.keep, Outcome.ends, Outcome.refuse, Step, act, step, Call, later, stop, call}
 use Rattle.stream.specs.Serving.Contracts.{laters}
@@ -15,7 +15,7 @@ use Rattle.stream.proofs.Bytes.{Gives}
 
 -- the rest of a call, after a step
 abbrev pub called : ℕ → Step → List ℕ → Call
-called limit t l = elim t.said as (λ _. Call) [ Nothing ↦ later (call limit t.standing t.buffer l) | Message n ↦ stop t | Refused x ↦ stop t ]
+called limit t l = elim t.said as (λ _. Call) [ Ok None ↦ later (call limit t.standing t.buffer l) | Ok (Some n) ↦ stop t | Err x ↦ stop t ]
 
 module _ {limit : ℕ} {s : Standing} {b : ℕ} (buf l : List ℕ) where
   goes : {o : Outcome} → Gives limit s b o → call limit s buf (b ∷ l) ≡ called limit (act o (length_of s) buf b) l
@@ -29,10 +29,10 @@ module _ {limit : ℕ} {s : Standing} {b : ℕ} (buf l : List ℕ) where
   call-keep g = goes g
 
   pub call_ends : Gives limit s b ends
-      → call limit s buf (b ∷ l) ≡ record { said = Message (suc (length_of s)); taken = 1; standing = Standing.between; buffer = set buf (length_of s) b }
+      → call limit s buf (b ∷ l) ≡ record { said = Ok (Some (suc (length_of s))); taken = 1; standing = Standing.between; buffer = set buf (length_of s) b }
   call_ends g = goes g
 
-  pub call-refuse : {x : MessageRefusal} {t : Standing} → Gives limit s b (refuse x t) → call limit s buf (b ∷ l) ≡ record { said = Refused x; taken = 1; standing = t; buffer = buf }
+  pub call-refuse : {x : MessageRefusal} {t : Standing} → Gives limit s b (refuse x t) → call limit s buf (b ∷ l) ≡ record { said = Err x; taken = 1; standing = t; buffer = buf }
   call-refuse g = goes g
 
 -- so many bytes were taken before

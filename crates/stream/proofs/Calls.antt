@@ -8,12 +8,11 @@ use mathlib.Core.List.{List, [], ◌∷◌, ◌++◌}
 use lib.ListN.{length, take, drop, length-set}
 use lib.Seq.{drop-set-lt}
 use lib.Dec.{ltb}
+use Rattle.std.specs.Prelude.{Some, None, Ok, Err}
 use borrow.Author.Tests.{ltb-true}
 use Rattle.grammar.specs.Lexis.{blank}
 use Rattle.grammar.proofs.Booleans.{by}
-use Rattle.stream.specs.declared.pieces.Said.{Said}
-use Rattle.stream.specs.declared.pieces.Said.TheVariants.{Nothing, Message, Refused}
-use Rattle.stream.specs.Stream.{clears, opens, OfText, OfText.too_long, OfText.not_text, OfText.too_deep}
+use Rattle.stream.specs.Stream.{clears, opens, Said, OfText, OfText.too_long, OfText.not_text, OfText.too_deep}
 use Rattle.stream.specs.Serving.Modes.{Turn, turn}
 use Rattle.stream.specs.Serving.Feeding.{Standing, length_of, Outcome, outcome_of, byte, Step, act, step, Call, later, call, Run, handing, run}
 
@@ -21,9 +20,9 @@ use Rattle.stream.specs.Serving.Feeding.{Standing, length_of, Outcome, outcome_o
 abbrev going : Said → Standing → List ℕ → Call → Call
 going o u new c =
     elim o as (λ _. Call) [
-      | Nothing ↦ later c
-      | Message n ↦ record { said = o; taken = 1; standing = u; buffer = new }
-      | Refused x ↦ record { said = o; taken = 1; standing = u; buffer = new }
+      | Ok None ↦ later c
+      | Ok (Some n) ↦ record { said = o; taken = 1; standing = u; buffer = new }
+      | Err x ↦ record { said = o; taken = 1; standing = u; buffer = new }
     ]
 
 -- the bytes that a call takes, and then any others
@@ -44,20 +43,20 @@ call-then limit (b ∷ l) rest s buf =
     go : (o : Said) (u : Standing) (new : List ℕ) → step limit s buf b ≡ record { said = o; standing = u; buffer = new }
         → run limit u new (take (call limit u new l).taken l ++ rest) ≡ after limit (call limit u new l) rest
         → run limit s buf (take (going o u new (call limit u new l)).taken (b ∷ l) ++ rest) ≡ after limit (going o u new (call limit u new l)) rest
-    go Nothing u new e ih = run-byte limit s buf b (take (call limit u new l).taken l ++ rest) e ∙ ih
-    go (Message n) u new e ih = run-byte limit s buf b rest e
-    go (Refused x) u new e ih = run-byte limit s buf b rest e
+    go (Ok None) u new e ih = run-byte limit s buf b (take (call limit u new l).taken l ++ rest) e ∙ ih
+    go (Ok (Some n)) u new e ih = run-byte limit s buf b rest e
+    go (Err x) u new e ih = run-byte limit s buf b rest e
 
 -- What holds of each call. What is handed out has its limits
 abbrev pub Proper : ℕ → Said → Type 0
-Proper limit Nothing = Unit {0}
-Proper limit (Message n) = (0 < n) × (n ≤ limit)
-Proper limit (Refused x) = OfText x
+Proper limit (Ok None) = Unit {0}
+Proper limit (Ok (Some n)) = (0 < n) × (n ≤ limit)
+Proper limit (Err x) = OfText x
 
 pub record Holds (limit : ℕ) (old : List ℕ) (bytes : ℕ) (c : Call) : Type 0 where
   -- where nothing is handed out the whole piece is taken, else a byte of it at least
-  pub all_taken : c.said ≡ Nothing → c.taken ≡ bytes
-  pub some_taken : (c.said ≡ Nothing → ⊥) → 0 < c.taken
+  pub all_taken : c.said ≡ Ok None → c.taken ≡ bytes
+  pub some_taken : (c.said ≡ Ok None → ⊥) → 0 < c.taken
   pub within : c.taken ≤ bytes
   pub proper : Proper limit c.said
   -- the buffer keeps its length, and what is past the limit
@@ -105,7 +104,7 @@ unfolding call
 call-holds limit [] s buf = record { all_taken = λ e. refl; some_taken = λ h. absurd (h refl); within = omega arith; proper = tt; same_length = refl; rest_kept = refl }
 call-holds limit (b ∷ l) s buf = let t : Step = step limit s buf b in go t.said t.standing t.buffer (step-holds limit s buf b) (call-holds limit l t.standing t.buffer)
   where
-    over : {o : Said} {u : Standing} {new : List ℕ} → StepHolds limit buf (record { said = o; standing = u; buffer = new }) → (o ≡ Nothing → ⊥)
+    over : {o : Said} {u : Standing} {new : List ℕ} → StepHolds limit buf (record { said = o; standing = u; buffer = new }) → (o ≡ Ok None → ⊥)
         → Holds limit buf (suc (length l)) (record { said = o; taken = 1; standing = u; buffer = new })
     over y h =
         record {
@@ -119,7 +118,7 @@ call-holds limit (b ∷ l) s buf = let t : Step = step limit s buf b in go t.sai
 
     go : (o : Said) (u : Standing) (new : List ℕ) → StepHolds limit buf (record { said = o; standing = u; buffer = new }) → Holds limit new (length l) (call limit u new l)
         → Holds limit buf (suc (length l)) (going o u new (call limit u new l))
-    go Nothing u new y z =
+    go (Ok None) u new y z =
         record {
           all_taken = λ e. ap suc (z.all_taken e);
           some_taken = λ k. omega arith;
@@ -128,11 +127,5 @@ call-holds limit (b ∷ l) s buf = let t : Step = step limit s buf b in go t.sai
           same_length = z.same_length ∙ y.same_length;
           rest_kept = z.rest_kept ∙ y.rest_kept;
         }
-    go (Message n) u new y z = over y (λ e. no_message e)
-      where
-        no_message : Message n ≡ Nothing → ⊥
-        no_message e = let z : ◌≡◌ {A = ℕ} 0 1 = cc in omega arith
-    go (Refused x) u new y z = over y (λ e. no_refusal e)
-      where
-        no_refusal : Refused x ≡ Nothing → ⊥
-        no_refusal e = let z : ◌≡◌ {A = ℕ} 0 1 = cc in omega arith
+    go (Ok (Some n)) u new y z = over y (λ e. cc)
+    go (Err x) u new y z = over y (λ e. cc)

@@ -12,11 +12,8 @@ pub mod Splits
 pub mod Handed
 pub mod Calls
 pub mod Vectors
-pub mod Numbering
-pub mod CharLaws
-pub mod LiteralLaws
+pub mod Numbers
 pub mod Nests
-pub mod StepLaws
 pub mod StateLaws
 pub mod ByteLaws
 pub mod CallLaws

@@ -9,6 +9,8 @@ use lib.ListN.{length}
 use lib.Dec.{leb, ltb, eqb}
 use borrow.Author.Tests.{leb-true, leb-false, le-leb, lt-leb, ltb-true, ltb-false, lt-ltb, le-ltb, eq-eqb, ne_eqb}
 use Rattle.grammar.specs.Limits.{message_levels}
+use mir.Val.{bool_byte}
+use Rattle.stream.specs.Serving.Modes.{Turn, close_turn, Mode.at, Point.after}
 use Rattle.stream.specs.Serving.States.{bits, brackets_of, Nest}
 
 abbrev pub power : ℕ → ℕ
@@ -80,31 +82,32 @@ unfolding brackets_of
 innermost n h g = bits_cons 63 n h ∙ ap (λ (fs : List Bool). eqb (n % 2) 1 ∷ fs) (bits-more 63 (n / 2) (omega arith))
 
 module _ (n : ℕ) (z : Nest n) where
-  pub in_object : n % 2 ≡ 1 → brackets_of n ≡ true ∷ brackets_of (n / 2)
-  in_object e = let a = z.some_open in let b = z.levels in innermost n a (omega arith) ∙ ap (λ (t : Bool). t ∷ brackets_of (n / 2)) (eq-eqb (n % 2) 1 e)
-
-  pub in_array : (n % 2 ≡ 1 → ⊥) → brackets_of n ≡ false ∷ brackets_of (n / 2)
-  in_array e = let a = z.some_open in let b = z.levels in innermost n a (omega arith) ∙ ap (λ (t : Bool). t ∷ brackets_of (n / 2)) (ne_eqb (n % 2) 1 e)
-
   -- one is open
   pub one_open : n < 4 → brackets_of n ≡ eqb (n % 2) 1 ∷ []
   one_open h = let a = z.some_open in innermost n a (omega arith) ∙ ap (λ (fs : List Bool). eqb (n % 2) 1 ∷ fs) (none_open (n / 2) (omega arith))
 
-  -- and those around the innermost
-  pub outer : 4 ≤ n → Nest (n / 2)
-  outer h = let b = z.levels in record { some_open = omega arith; levels = omega arith }
-
   -- one more opens
-  pub array-opens : n < 2 ^ message_levels → brackets_of (2 * n) ≡ false ∷ brackets_of n
-  array-opens h =
+  pub one_more : (f : Bool) → n < 2 ^ message_levels → brackets_of (2 * n + bool_byte f) ≡ f ∷ brackets_of n
+  one_more false h =
       let a = z.some_open in
-      let c : 2 * n / 2 ≡ n = omega arith in
-      let b : 2 * n % 2 ≡ 1 → ⊥ = omega arith in
-      innermost (2 * n) (omega arith) (omega arith) ∙ ap (λ (t : Bool). t ∷ brackets_of (2 * n / 2)) (ne_eqb (2 * n % 2) 1 b) ∙ ap (λ (k : ℕ). false ∷ brackets_of k) c
-
-  pub object-opens : n < 2 ^ message_levels → brackets_of (2 * n + 1) ≡ true ∷ brackets_of n
-  object-opens h =
+      let c : (2 * n + 0) / 2 ≡ n = omega arith in
+      let b : (2 * n + 0) % 2 ≡ 1 → ⊥ = omega arith in
+      innermost (2 * n + 0) (omega arith) (omega arith) ∙ ap (λ (t : Bool). t ∷ brackets_of ((2 * n + 0) / 2)) (ne_eqb ((2 * n + 0) % 2) 1 b) ∙ ap (λ (k : ℕ). false ∷ brackets_of k) c
+  one_more true h =
       let a = z.some_open in
       let c : (2 * n + 1) / 2 ≡ n = omega arith in
       let b : (2 * n + 1) % 2 ≡ 1 = omega arith in
       innermost (2 * n + 1) (omega arith) (omega arith) ∙ ap (λ (t : Bool). t ∷ brackets_of ((2 * n + 1) / 2)) (eq-eqb ((2 * n + 1) % 2) 1 b) ∙ ap (λ (k : ℕ). true ∷ brackets_of k) c
+
+  -- and the innermost is closed
+  pub closes-last : n < 4 → close_turn (brackets_of n) ≡ Turn.ended
+  closes-last h = rw (one_open h)
+
+  pub closes_inner : 4 ≤ n → close_turn (brackets_of n) ≡ Turn.to (at after) (brackets_of (n / 2))
+  closes_inner h = let b = z.levels in rw (innermost n (omega arith) (omega arith), innermost (n / 2) (omega arith) (omega arith))
+
+-- one bracket
+pub only_one : (f : Bool) → brackets_of (2 + bool_byte f) ≡ f ∷ []
+unfolding brackets_of
+only_one false = refl
+only_one true = refl

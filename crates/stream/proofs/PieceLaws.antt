@@ -1,17 +1,18 @@
 -- The loops over the bytes of a piece, over plain lists: what is given from here is what is given from the start of the call, with the bytes taken on top.
 -- One law for each way through a loop; a byte that is kept goes to its index of the buffer, and the plain bytes after it likewise.
-use Prim.Native.Nat.{ℕ, suc, ◌+◌, ◌-◌, ◌≤◌, ◌<◌, min}
+use Prim.Native.Nat.{ℕ, suc, ◌+◌, ◌-◌, ◌≤◌, ◌<◌}
 use native.Mathlib.Omega.{arith}
 use native.Mathlib.Numerals.{add-one}
-use native.Mathlib.Nat.{add-zero, min-eq_left, min-eq_right, le_of_lt}
-use mathlib.Core.Path.{◌≡◌, refl, sym, ap, ◌∙◌, subst}
+use native.Mathlib.Nat.{add-zero}
+use mathlib.Core.Path.{◌≡◌, refl, sym, ap, ◌∙◌}
 use Prim.Native.Char.{code}
 use mathlib.Core.Bool.{Bool, true, false, cond, ◌||◌}
 use mathlib.Core.List.{List, [], ◌∷◌}
 use lib.ListN.{length, drop, get_or, set, length-set}
 use lib.Seq.{drop-cons, drop-length}
-use lib.Dec.{leb, ltb, eqb}
-use borrow.Author.Tests.{leb-true, leb-false, ltb-true}
+use lib.Dec.{ltb, eqb}
+use Rattle.std.specs.Prelude.{Some, None, Ok, Err}
+use borrow.Author.Tests.{ltb-true}
 use Rattle.grammar.specs.Limits.{message_bytes}
 use Rattle.grammar.specs.Lexis.{blank}
 use Rattle.grammar.proofs.Booleans.{clash, min_right}
@@ -19,19 +20,13 @@ use Rattle.rules.specs.declared.MessageRefusal.{MessageRefusal}
 use Rattle.rules.specs.declared.MessageRefusal.TheVariants.{TooLong, NotText}
 use Rattle.stream.specs.declared.state.State.{State}
 use Rattle.stream.specs.declared.state.State.TheVariants.{Between, Skipping, Inside}
-use Rattle.stream.specs.declared.pieces.Fed.{Fed}
-use Rattle.stream.specs.declared.pieces.Outcome.{Outcome}
-use Rattle.stream.specs.declared.pieces.Outcome.TheVariants.{ToBetween, ToSkipping, Keep, Whole, Lost, Cleared}
-use Rattle.stream.specs.declared.pieces.Said.{Said}
-use Rattle.stream.specs.declared.pieces.Said.TheVariants.{Nothing, Message, Refused}
-use Rattle.stream.specs.Stream.{clears, opens, limit_of}
+use Rattle.stream.specs.declared.steps.Place.{Place}
+use Rattle.stream.specs.Stream.{clears, opens, Said, limit_of}
 use Rattle.stream.specs.Serving.Modes.{Mode, opened_mode, turn}
 use Rattle.stream.specs.Serving.Feeding as feeding
 use Rattle.stream.specs.Serving.Feeding.{Standing, length_of, byte, outcome_of, Call, call}
-use Rattle.stream.specs.Serving.States.{first_string, key_string, first_number, mode_at, brackets_of}
-use Rattle.stream.specs.Serving.Contracts.{standing_of, InnerState, outcome_for, Does, plain, laters, Runs, RunsStrings, Feeds}
+use Rattle.stream.specs.Serving.Contracts.{mode_of, open_of, standing_of, plain, laters, Runs, RunsStrings, Feeds}
 use Rattle.stream.proofs.Bytes.{Gives}
-use Rattle.stream.proofs.Numbering.{string-mode}
 use Rattle.stream.proofs.ByteLaws.{plain-keeps}
 use Rattle.stream.proofs.CallLaws.{call-pass, call-keep, call_ends, call-refuse, laters-none, laters-add, laters-later}
 
@@ -73,58 +68,23 @@ module _ {md : Mode} {old piece : List ℕ} {from start limit : ℕ} {buf : List
         same_length = length-set buf (start + (i - from)) (get_or piece i 0) ∙ r.same_length;
       }
 
--- the loop over the plain bytes of a string: byte i of the piece goes to index k of the buffer
-pub record Copying (old piece : List ℕ) (from start limit end : ℕ) (buf : List ℕ) (i k : ℕ) : Type 0 where
-  pub runs : RunsStrings old piece from start limit buf i
-  pub rises : from ≤ i
-  pub before : i ≤ end
-  pub index : k ≡ start + (i - from)
-  pub same_length : length buf ≡ length old
+-- the loop over the plain bytes of a string: one more of them is kept
+pub copying_starts : (old piece : List ℕ) (from start limit : ℕ) → from ≤ length piece → start ≤ limit → RunsStrings old piece from start limit old from
+copying_starts old piece from start limit h g = record { runs = λ d. runs_none (Mode.in_string d) old piece from start limit h g }
 
-pub copying_starts : (old piece : List ℕ) (from start limit end : ℕ) → from ≤ length piece → start ≤ limit → from ≤ end → Copying old piece from start limit end old from start
-copying_starts old piece from start limit end h g f =
-    record { runs = record { runs = λ d. runs_none (Mode.in_string d) old piece from start limit h g }; rises = omega arith; before = f; index = omega arith; same_length = refl }
-
-pub copying_on : {old piece : List ℕ} {from start limit end : ℕ} {buf : List ℕ} {i k : ℕ} → Copying old piece from start limit end buf i k → i < end → i < length piece → k < limit
-    → plain (get_or piece i 0) ≡ true → Copying old piece from start limit end (set buf k (get_or piece i 0)) (i + 1) (k + 1)
-copying_on {old} {piece} {from} {start} {limit} {end} {buf} {i} {k} z j h g p =
-    let e = z.index in
-    let a = z.rises in
-    let f : start + (i - from) < limit = omega arith in
-    record {
-      runs = record {
-        runs = λ d.
-            subst (λ (n : ℕ). Runs (Mode.in_string d) old piece from start limit (set buf n (get_or piece i 0)) (i + 1)) (sym e)
-            (runs_on (z.runs.runs d) h f (λ fs. plain-keeps (get_or piece i 0) p f));
-      };
-      rises = omega arith;
-      before = omega arith;
-      index = omega arith;
-      same_length = length-set buf k (get_or piece i 0) ∙ z.same_length;
-    }
-
-pub runs-string : (m : ℕ) {old piece : List ℕ} {from start limit : ℕ} {new : List ℕ} {e : ℕ} → first_string ≤ m → m < first_number → RunsStrings old piece from start limit new e
-    → Runs (mode_at m) old piece from start limit new e
-runs-string m {old} {piece} {from} {start} {limit} {new} {e} h g r = subst (λ (x : Mode). Runs x old piece from start limit new e) (sym (string-mode m h g)) (r.runs (eqb m key_string))
-
--- where the run ends at the latest
-pub end-within : (a n k m : ℕ) → a ≤ n → k ≤ m → (a + min (n - a) (m - k) ≤ n) × (k + (a + min (n - a) (m - k) - a) ≤ m)
-end-within a n k m h g = go (leb (n - a) (m - k)) refl
-  where
-    go : (t : Bool) → leb (n - a) (m - k) ≡ t → (a + min (n - a) (m - k) ≤ n) × (k + (a + min (n - a) (m - k) - a) ≤ m)
-    go true t = let e = leb-true (n - a) (m - k) t in let f = min-eq_left e in (omega arith, omega arith)
-    go false t = let e = leb-false (n - a) (m - k) t in let f = min-eq_right (le_of_lt e) in (omega arith, omega arith)
+pub copying_on : {old piece : List ℕ} {from start limit : ℕ} {buf : List ℕ} {i : ℕ} → RunsStrings old piece from start limit buf i → i < length piece → start + (i - from) < limit
+    → plain (get_or piece i 0) ≡ true → RunsStrings old piece from start limit (set buf (start + (i - from)) (get_or piece i 0)) (i + 1)
+copying_on {piece = piece} {i = i} z h f p = record { runs = λ d. runs_on (z.runs d) h f (λ fs. plain-keeps (get_or piece i 0) p f) }
 
 -- The loop of a call
 pub record Going (limit : ℕ) (old piece : List ℕ) (s : State) (i : ℕ) (t : State) (buf : List ℕ) : Type 0 where
   pub told : call limit (standing_of s) old piece ≡ laters i (call limit (standing_of t) buf (drop i piece))
-  pub inner : InnerState t
   pub taken : i ≤ length piece
   pub same_length : length buf ≡ length old
   pub limited : limit ≡ limit_of (length old)
 
-pub starts : {limit : ℕ} {old piece : List ℕ} {s : State} → limit ≡ limit_of (length old) → InnerState s → Going limit old piece s 0 s old
-starts e i = record { told = sym (laters-none _); inner = i; taken = omega arith; same_length = refl; limited = e }
+pub starts : {limit : ℕ} {old piece : List ℕ} {s : State} → limit ≡ limit_of (length old) → Going limit old piece s 0 s old
+starts e = record { told = sym (laters-none _); taken = omega arith; same_length = refl; limited = e }
 
 pub limit-room : {limit : ℕ} {old piece : List ℕ} {s : State} {i : ℕ} {t : State} {buf : List ℕ} → Going limit old piece s i t buf → limit ≤ length buf
 limit-room {limit} {old} g = omega (arith, g.limited, g.same_length, min_right message_bytes (length old))
@@ -162,26 +122,23 @@ stores-low limit (Standing.inside md fs n) b e = go (clears b) (ltb n limit) ref
     go false true h e = ltb-true n limit h
     go false false h e = clash e refl
 
--- what a byte does, as the enum of the code has it
-pub moved : {limit b : ℕ} {s : Standing} {r o : Outcome} → r ≡ o → Does limit s b r → Does limit s b o
-moved {limit} {b} {s} e d = subst (λ (x : Outcome). Does limit s b x) e d
+-- a byte that is kept, as the next of a message or as its last, has room
+pub keep_low : (limit b : ℕ) (s : Standing) {md : Mode} {fs : List Bool} → feeding.Outcome.keep md fs ≡ byte limit s b → length_of s < limit
+keep_low limit b s d = stores-low limit s b (ap stores (sym d))
 
-gives : {limit b : ℕ} {s : Standing} {o : Outcome} → Does limit s b o → Gives limit s b (outcome_for o)
-gives d = record { told = sym d.same }
+pub whole-low : (limit b : ℕ) (s : Standing) → feeding.Outcome.ends ≡ byte limit s b → length_of s < limit
+whole-low limit b s d = stores-low limit s b (ap stores (sym d))
 
-pub keep_low : {limit b : ℕ} {s : Standing} {m n : ℕ} → Does limit s b (Keep m n) → length_of s < limit
-keep_low {limit} {b} {s} d = stores-low limit s b (ap stores (sym d.same))
-
-pub whole-low : {limit b : ℕ} {s : Standing} → Does limit s b Whole → length_of s < limit
-whole-low {limit} {b} {s} d = stores-low limit s b (ap stores (sym d.same))
+given : {limit b : ℕ} {s : Standing} {o : feeding.Outcome} → o ≡ byte limit s b → Gives limit s b o
+given d = record { told = sym d }
 
 module _ {limit : ℕ} {old piece : List ℕ} {s t : State} {i : ℕ} {buf : List ℕ} (g : Going limit old piece s i t buf) (h : i < length piece) where
   -- the call from here, at its first byte
   at_byte : call limit (standing_of s) old piece ≡ laters i (call limit (standing_of t) buf (get_or piece i 0 ∷ drop (suc i) piece))
   at_byte = g.told ∙ ap (λ (l : List ℕ). laters i (call limit (standing_of t) buf l)) (drop-cons piece i 0 h)
 
-  passed : (u : State) → InnerState u → Gives limit (standing_of t) (get_or piece i 0) (feeding.Outcome.pass (standing_of u)) → Going limit old piece s (i + 1) u buf
-  passed u z k =
+  passed : (u : State) → Gives limit (standing_of t) (get_or piece i 0) (feeding.Outcome.pass (standing_of u)) → Going limit old piece s (i + 1) u buf
+  passed u k =
       let d : suc i ≡ i + 1 = omega arith in
       record {
         told =
@@ -189,22 +146,21 @@ module _ {limit : ℕ} {old piece : List ℕ} {s t : State} {i : ℕ} {buf : Lis
             ∙ ap (λ (c : Call). laters i c) (call-pass buf (drop (suc i) piece) k)
             ∙ laters-later i (i + 1) _ d
             ∙ ap (λ (n : ℕ). laters (i + 1) (call limit (standing_of u) buf (drop n piece))) d;
-        inner = z;
         taken = omega arith;
         same_length = g.same_length;
         limited = g.limited;
       }
 
-  pub to-between : Does limit (standing_of t) (get_or piece i 0) ToBetween → Going limit old piece s (i + 1) Between buf
-  to-between d = passed Between tt (gives d)
+  pub to-between : feeding.Outcome.pass Standing.between ≡ byte limit (standing_of t) (get_or piece i 0) → Going limit old piece s (i + 1) Between buf
+  to-between d = passed Between (given d)
 
-  pub to-skipping : Does limit (standing_of t) (get_or piece i 0) ToSkipping → Going limit old piece s (i + 1) Skipping buf
-  to-skipping d = passed Skipping tt (gives d)
+  pub to-skipping : feeding.Outcome.pass Standing.skipping ≡ byte limit (standing_of t) (get_or piece i 0) → Going limit old piece s (i + 1) Skipping buf
+  to-skipping d = passed Skipping (given d)
 
   -- a byte is kept, and then a run of them
-  pub to_inside : {m n k e : ℕ} {new : List ℕ} → Does limit (standing_of t) (get_or piece i 0) (Keep m n) → k ≡ length_of (standing_of t)
-      → Runs (mode_at m) (set buf k (get_or piece i 0)) piece (i + 1) (k + 1) limit new e → Going limit old piece s e (Inside m n (k + 1 + (e - (i + 1)))) new
-  to_inside {m} {n} {k} {e} {new} d f r =
+  pub to_inside : {p : Place} {k e : ℕ} {new : List ℕ} → feeding.Outcome.keep (mode_of p.mode) (open_of p.brackets) ≡ byte limit (standing_of t) (get_or piece i 0) → k ≡ length_of (standing_of t)
+      → Runs (mode_of p.mode) (set buf k (get_or piece i 0)) piece (i + 1) (k + 1) limit new e → Going limit old piece s e (Inside p (k + 1 + (e - (i + 1)))) new
+  to_inside {p} {k} {e} {new} d f r =
       let a = r.rises in
       let j : suc i ≡ i + 1 = omega arith in
       let l : suc (length_of (standing_of t)) ≡ k + 1 = omega arith in
@@ -212,43 +168,42 @@ module _ {limit : ℕ} {old piece : List ℕ} {s t : State} {i : ℕ} {buf : Lis
       record {
         told =
             at_byte
-            ∙ ap (λ (c : Call). laters i c) (call-keep buf (drop (suc i) piece) (gives d))
+            ∙ ap (λ (c : Call). laters i c) (call-keep buf (drop (suc i) piece) (given d))
             ∙ laters-later i (i + 1) _ j
-            ∙ ap (λ (p : ℕ). laters (i + 1) (call limit (Standing.inside (mode_at m) (brackets_of n) (suc (length_of (standing_of t)))) (set buf (length_of (standing_of t)) (get_or piece i 0)) (drop p piece))) j
-            ∙ ap (λ (p : ℕ). laters (i + 1) (call limit (Standing.inside (mode_at m) (brackets_of n) p) (set buf (length_of (standing_of t)) (get_or piece i 0)) (drop (i + 1) piece))) l
-            ∙ ap (λ (p : ℕ). laters (i + 1) (call limit (Standing.inside (mode_at m) (brackets_of n) (k + 1)) (set buf p (get_or piece i 0)) (drop (i + 1) piece))) (sym f)
-            ∙ ap (λ (c : Call). laters (i + 1) c) (r.told (brackets_of n))
+            ∙ ap (λ (n : ℕ). laters (i + 1) (call limit (Standing.inside (mode_of p.mode) (open_of p.brackets) (suc (length_of (standing_of t)))) (set buf (length_of (standing_of t)) (get_or piece i 0)) (drop n piece))) j
+            ∙ ap (λ (n : ℕ). laters (i + 1) (call limit (Standing.inside (mode_of p.mode) (open_of p.brackets) n) (set buf (length_of (standing_of t)) (get_or piece i 0)) (drop (i + 1) piece))) l
+            ∙ ap (λ (n : ℕ). laters (i + 1) (call limit (Standing.inside (mode_of p.mode) (open_of p.brackets) (k + 1)) (set buf n (get_or piece i 0)) (drop (i + 1) piece))) (sym f)
+            ∙ ap (λ (c : Call). laters (i + 1) c) (r.told (open_of p.brackets))
             ∙ laters-add (i + 1) (e - (i + 1)) e _ x;
-        inner = d.inner;
         taken = r.taken;
         same_length = r.same_length ∙ length-set buf k (get_or piece i 0) ∙ g.same_length;
         limited = g.limited;
       }
 
   -- something is handed out
-  fed : {u : State} {o : Said} {new : List ℕ} → InnerState u
+  fed : {u : State} {o : Said} {new : List ℕ}
       → call limit (standing_of t) buf (get_or piece i 0 ∷ drop (suc i) piece) ≡ record { said = o; taken = 1; standing = standing_of u; buffer = new }
       → Feeds old piece s new (record { state = u; said = o; taken = i + 1 })
-  fed {u} {o} {new} z e =
-      record { told = sym (ap (λ (n : ℕ). call n (standing_of s) old piece) g.limited) ∙ at_byte ∙ ap (λ (c : Call). laters i c) e; inner = z }
+  fed {u} {o} {new} e =
+      record { told = sym (ap (λ (n : ℕ). call n (standing_of s) old piece) g.limited) ∙ at_byte ∙ ap (λ (c : Call). laters i c) e }
 
-  pub hands_message : {k : ℕ} → Does limit (standing_of t) (get_or piece i 0) Whole → k ≡ length_of (standing_of t)
-      → Feeds old piece s (set buf k (get_or piece i 0)) (record { state = Between; said = Message (k + 1); taken = i + 1 })
+  pub hands_message : {k : ℕ} → feeding.Outcome.ends ≡ byte limit (standing_of t) (get_or piece i 0) → k ≡ length_of (standing_of t)
+      → Feeds old piece s (set buf k (get_or piece i 0)) (record { state = Between; said = Ok (Some (k + 1)); taken = i + 1 })
   hands_message {k} d f =
       let l : suc (length_of (standing_of t)) ≡ k + 1 = omega arith in
-      fed tt
-      (call_ends buf (drop (suc i) piece) (gives d)
-      ∙ ap (λ (p : ℕ). record { said = Message p; taken = 1; standing = Standing.between; buffer = set buf (length_of (standing_of t)) (get_or piece i 0) }) l
-      ∙ ap (λ (p : ℕ). record { said = Message (k + 1); taken = 1; standing = Standing.between; buffer = set buf p (get_or piece i 0) }) (sym f))
+      fed
+      (call_ends buf (drop (suc i) piece) (given d)
+      ∙ ap (λ (p : ℕ). record { said = Ok (Some p); taken = 1; standing = Standing.between; buffer = set buf (length_of (standing_of t)) (get_or piece i 0) }) l
+      ∙ ap (λ (p : ℕ). record { said = Ok (Some (k + 1)); taken = 1; standing = Standing.between; buffer = set buf p (get_or piece i 0) }) (sym f))
 
-  pub hands_refusal : {x : MessageRefusal} → Does limit (standing_of t) (get_or piece i 0) (Lost x) → Feeds old piece s buf (record { state = Skipping; said = Refused x; taken = i + 1 })
-  hands_refusal d = fed tt (call-refuse buf (drop (suc i) piece) (gives d))
+  pub hands_refusal : {x : MessageRefusal} → feeding.Outcome.refuse x Standing.skipping ≡ byte limit (standing_of t) (get_or piece i 0) → Feeds old piece s buf (record { state = Skipping; said = Err x; taken = i + 1 })
+  hands_refusal d = fed (call-refuse buf (drop (suc i) piece) (given d))
 
-  pub hands_cleared : Does limit (standing_of t) (get_or piece i 0) Cleared → Feeds old piece s buf (record { state = Between; said = Refused NotText; taken = i + 1 })
-  hands_cleared d = fed tt (call-refuse buf (drop (suc i) piece) (gives d))
+  pub hands_cleared : feeding.Outcome.refuse NotText Standing.between ≡ byte limit (standing_of t) (get_or piece i 0) → Feeds old piece s buf (record { state = Between; said = Err NotText; taken = i + 1 })
+  hands_cleared d = fed (call-refuse buf (drop (suc i) piece) (given d))
 
 pub hands_nothing : {limit : ℕ} {old piece : List ℕ} {s t : State} {i : ℕ} {buf : List ℕ} → Going limit old piece s i t buf → length piece ≤ i
-    → Feeds old piece s buf (record { state = t; said = Nothing; taken = i })
+    → Feeds old piece s buf (record { state = t; said = Ok None; taken = i })
 unfolding call
 hands_nothing {limit} {old} {piece} {s} {t} {i} {buf} g h =
     let e : i ≡ length piece = omega (arith, g.taken) in
@@ -258,9 +213,5 @@ hands_nothing {limit} {old} {piece} {s} {t} {i} {buf} g h =
           sym (ap (λ (n : ℕ). call n (standing_of s) old piece) g.limited)
           ∙ g.told
           ∙ ap (λ (l : List ℕ). laters i (call limit (standing_of t) buf l)) (ap (λ (n : ℕ). drop n piece) e ∙ drop-length piece)
-          ∙ ap (λ (n : ℕ). record { said = Nothing; taken = n; standing = standing_of t; buffer = buf }) z;
-      inner = g.inner;
+          ∙ ap (λ (n : ℕ). record { said = Ok None; taken = n; standing = standing_of t; buffer = buf }) z;
     }
-
-pub handed : {old piece new : List ℕ} {s : State} {r f : Fed} → r ≡ f → Feeds old piece s new f → Feeds old piece s new r
-handed {old} {piece} {new} {s} e z = subst (λ (x : Fed). Feeds old piece s new x) (sym e) z

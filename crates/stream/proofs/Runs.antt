@@ -12,7 +12,7 @@ use borrow.Author.Tests.{ltb-true, ltb-false}
 use Rattle.grammar.specs.Lexis.{blank}
 use Rattle.grammar.proofs.Booleans.{by}
 use Rattle.rules.specs.declared.MessageRefusal.{MessageRefusal}
-use Rattle.stream.specs.declared.pieces.Said.TheVariants.{Nothing, Refused}
+use Rattle.std.specs.Prelude.{None, Ok, Err}
 use Rattle.stream.specs.Stream.{clears, opens, Belongs, Refuses, Output, Output.refused, End, Stream, Skips, onto}
 use Rattle.stream.specs.Serving.Modes.{Mode, Turn, turn}
 use Rattle.stream.specs.Serving.Feeding.{Standing, Outcome, outcome_of, byte, Step, act, step, Run, run}
@@ -43,16 +43,16 @@ stored buf n b e h = take-suc-set buf n b h ∙ ap (λ (l : List ℕ). l ++ (b �
 
 module _ (limit : ℕ) (buf : List ℕ) (b : ℕ) (room : limit ≤ length buf) where
   passes : {s : Standing} {e f : End} → At limit s buf f → ((l : List ℕ) (os : List Output) (g : End) → Continues limit f l os g → Continues limit e (b ∷ l) os g)
-      → Follows limit e b (length buf) (record { said = Nothing; standing = s; buffer = buf })
+      → Follows limit e b (length buf) (record { said = Ok None; standing = s; buffer = buf })
   passes {f = f} z h = record { next = f; stands = z; same_length = refl; gives = h }
 
   refuses : {s : Standing} {e f : End} {x : MessageRefusal} → At limit s buf f → ((l : List ℕ) (os : List Output) (g : End) → Continues limit f l os g → Continues limit e (b ∷ l) (refused x ∷ os) g)
-      → Follows limit e b (length buf) (record { said = Refused x; standing = s; buffer = buf })
+      → Follows limit e b (length buf) (record { said = Err x; standing = s; buffer = buf })
   refuses {f = f} z h = record { next = f; stands = z; same_length = refl; gives = h }
 
   keeps : {e : End} {md : Mode} {fs : List Bool} {n : ℕ} {m : List ℕ} → Stands md fs (m ++ (b ∷ [])) → take n buf ≡ m → length m ≡ n → n < limit
       → ((l : List ℕ) (os : List Output) (g : End) → Stream limit ((m ++ (b ∷ [])) ++ l) os g → Continues limit e (b ∷ l) os g)
-      → Follows limit e b (length buf) (record { said = Nothing; standing = Standing.inside md fs (suc n); buffer = set buf n b })
+      → Follows limit e b (length buf) (record { said = Ok None; standing = Standing.inside md fs (suc n); buffer = set buf n b })
   keeps {n = n} {m = m} z e k h g =
       record {
         next = End.inside (m ++ (b ∷ []));

@@ -1,20 +1,20 @@
 -- Words and what they stand for, over plain numbers.
 -- Words stand for a place inside a message when four tests hold; a state that a reader is in meets them all.
-use Prim.Native.Nat.{ℕ, suc, ◌^◌, ◌≤◌, ◌<◌}
+use Prim.Native.Nat.{ℕ, suc, ◌^◌}
 use native.Mathlib.Omega.{arith}
-use mathlib.Core.Path.{◌≡◌, sym, ap, ◌∙◌, subst}
-use mathlib.Core.List.{List}
-use lib.ListN.{length}
-use borrow.Author.Tests.{eq-eqb, ne_eqb, le-leb, lt-leb, lt-ltb, le-ltb}
+use mathlib.Core.Path.{◌≡◌, refl, ap, ◌∙◌}
+use mathlib.Core.Bool.{Bool, true, false, cond, ◌&&◌}
+use lib.Dec.{leb, ltb}
+use borrow.Author.Tests.{eq-eqb, ne_eqb, le-leb, lt-ltb, leb-true, ltb-true}
 use Rattle.grammar.specs.Limits.{message_levels}
-use Rattle.stream.specs.declared.state.State.{State}
-use Rattle.stream.specs.declared.state.State.TheVariants.{Between, Skipping, Inside}
-use Rattle.stream.specs.declared.state.Words.{Words}
-use Rattle.stream.specs.declared.pieces.Fed.{Fed}
-use Rattle.stream.specs.Stream.{limit_of}
-use Rattle.stream.specs.Serving.Feeding.{Standing, call}
+use Rattle.stream.specs.declared.mode.Mode.{Mode}
+use Rattle.stream.specs.declared.brackets.Brackets.{Brackets}
+use Rattle.stream.specs.declared.steps.Place.{Place}
+use Rattle.stream.specs.declared.state.State.TheVariants.{Inside}
+use Rattle.stream.specs.Serving.Modes as modes
+use Rattle.stream.specs.Serving.Feeding.{Standing}
 use Rattle.stream.specs.Serving.States.{first_point, mode_end, mode_at, brackets_of, Nest, Known, stands_for, Normal}
-use Rattle.stream.specs.Serving.Contracts.{InnerState, StateOf, WordsOf, Feeds, ReadsPiece}
+use Rattle.stream.specs.Serving.Contracts.{mode_of, NumberOf, open_of, WordsOf}
 
 module _ (m n k : ℕ) where
   pub stands-between : m ≡ 0 → stands_for m n k ≡ Standing.between
@@ -29,54 +29,29 @@ module _ (m n k : ℕ) where
       rw (ne_eqb m 0 b, le-leb first_point m a, lt-ltb m mode_end f.high, le-leb 2 n g.some_open, lt-ltb n (2 ^ suc message_levels) g.levels)
 
   module _ (e : m ≡ 0 → ⊥) where
-    pub skips_low : m < first_point → stands_for m n k ≡ Standing.skipping
+    pub no_mode : (Known m → ⊥) → stands_for m n k ≡ Standing.skipping
     unfolding stands_for
-    skips_low h = rw (ne_eqb m 0 e, lt-leb first_point m h)
+    no_mode f = rw (ne_eqb m 0 e) (go (leb first_point m) (ltb m mode_end) refl refl)
+      where
+        go : (s t : Bool) → leb first_point m ≡ s → ltb m mode_end ≡ t
+            → cond (s && t && leb 2 n && ltb n (2 ^ suc message_levels)) (Standing.inside (mode_at m) (brackets_of n) k) Standing.skipping ≡ Standing.skipping
+        go true true h g = absurd (f (record { low = leb-true first_point m h; high = ltb-true m mode_end g }))
+        go true false h g = refl
+        go false t h g = refl
 
-    pub skips_high : first_point ≤ m → mode_end ≤ m → stands_for m n k ≡ Standing.skipping
+    pub no_brackets : Known m → (Nest n → ⊥) → stands_for m n k ≡ Standing.skipping
     unfolding stands_for
-    skips_high h g = rw (ne_eqb m 0 e, le-leb first_point m h, le-ltb m mode_end g)
+    no_brackets z f = rw (ne_eqb m 0 e, le-leb first_point m z.low, lt-ltb m mode_end z.high) (go (leb 2 n) (ltb n (2 ^ suc message_levels)) refl refl)
+      where
+        go : (s t : Bool) → leb 2 n ≡ s → ltb n (2 ^ suc message_levels) ≡ t
+            → cond (true && s && t) (Standing.inside (mode_at m) (brackets_of n) k) Standing.skipping ≡ Standing.skipping
+        go true true h g = absurd (f (record { some_open = leb-true 2 n h; levels = ltb-true n (2 ^ suc message_levels) g }))
+        go true false h g = refl
+        go false t h g = refl
 
-    pub skips_closed : first_point ≤ m → m < mode_end → n < 2 → stands_for m n k ≡ Standing.skipping
-    unfolding stands_for
-    skips_closed h g f = rw (ne_eqb m 0 e, le-leb first_point m h, lt-ltb m mode_end g, lt-leb 2 n f)
+-- a place by its words, and the words of a place
+pub place_at : {m n k : ℕ} {md : Mode} (b : Brackets) → NumberOf md m → n ≡ b.bits → stands_for m n k ≡ Standing.inside (mode_of md) (open_of b) k
+place_at {m} {k = k} b z e = rw e (stands-inside m b.bits k z.known b.«open» ∙ ap (λ (x : modes.Mode). Standing.inside x (open_of b) k) z.same)
 
-    pub skips_deep : first_point ≤ m → m < mode_end → 2 ≤ n → 2 ^ suc message_levels ≤ n → stands_for m n k ≡ Standing.skipping
-    unfolding stands_for
-    skips_deep h g f d = rw (ne_eqb m 0 e, le-leb first_point m h, lt-ltb m mode_end g, le-leb 2 n f, le-ltb n (2 ^ suc message_levels) d)
-
--- the ways out of `state_of`
-pub is-between : {w : Words} → stands_for w.mode w.nest w.len ≡ Standing.between → StateOf w Between
-is-between e = record { stands = e; inner = tt }
-
-pub is-skipping : {w : Words} → stands_for w.mode w.nest w.len ≡ Standing.skipping → StateOf w Skipping
-is-skipping e = record { stands = e; inner = tt }
-
-pub is-inside : {w : Words} → Known w.mode → Nest w.nest → StateOf w (Inside w.mode w.nest w.len)
-is-inside {w} f g = record { stands = stands-inside w.mode w.nest w.len f g; inner = record { known = f; nest = g } }
-
--- the ways out of `words_of`
-pub between-words : {s : State} → s ≡ Between → WordsOf s (record { mode = 0; nest = 0; len = 0 })
-unfolding stands_for
-between-words e = record { stands = rw e; normal = Normal.between }
-
-pub skipping-words : {s : State} → s ≡ Skipping → WordsOf s (record { mode = 1; nest = 0; len = 0 })
-unfolding stands_for
-skipping-words e = record { stands = rw e; normal = Normal.skipping }
-
-pub inside-words : {s : State} {m n k : ℕ} → s ≡ Inside m n k → InnerState s → WordsOf s (record { mode = m; nest = n; len = k })
-inside-words {m = m} {n = n} {k = k} e i =
-    let z = subst InnerState e i in
-    record { stands = rw e (stands-inside m n k z.known z.nest); normal = Normal.inside z.known z.nest }
-
--- a call over words is one over the state that they stand for
-pub reads : {old piece new : List ℕ} {w v : Words} {s : State} {f : Fed} → StateOf w s → Feeds old piece s new f → WordsOf f.state v
-    → ReadsPiece old piece w new (record { words = v; said = f.said; taken = f.taken })
-reads {old} {piece} {new} {f = f} a b c =
-    record {
-      told =
-          ap (λ (x : Standing). call (limit_of (length old)) x old piece) a.stands
-          ∙ b.told
-          ∙ ap (λ (x : Standing). record { said = f.said; taken = f.taken; standing = x; buffer = new }) (sym c.stands);
-      normal = c.normal;
-    }
+pub words_at : {m n k : ℕ} (p : Place) → NumberOf p.mode m → n ≡ p.brackets.bits → WordsOf (Inside p k) (record { mode = m; nest = n; len = k })
+words_at p z e = record { stands = place_at p.brackets z e; normal = Normal.inside z.known (rw e p.brackets.«open») }

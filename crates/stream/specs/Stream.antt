@@ -1,13 +1,11 @@
 -- Reference, Streams: a stream of bytes, what it gives message by message, and where it ends. A rule a sentence, in the grammar's terms.
 use Prim.Native.{Nat.ℕ, Nat.suc, Nat.◌≤◌, Nat.◌<◌, Nat.min, Char.code}
 use mathlib.Core.{Path.◌≡◌, Bool.Bool, Bool.true, Bool.false, Bool.not, Bool.◌||◌, Bool.◌&&◌, List.List, List.[], List.◌∷◌, List.◌++◌}
-use Rattle.std.specs.Prelude.{length, take, ltb, eqb}
+use Rattle.std.specs.Prelude.{Option, Some, None, Result, Ok, Err, length, take, ltb, eqb}
 use Rattle.grammar.specs.{Limits.message_bytes, Limits.message_levels, Tree.Json.arr, Tree.Json.obj, Tree.Items, Tree.Fields}
 use Rattle.grammar.specs.{Lexis.blank, MessageText.message_lexis, MessageText.MessageText, Starts.Valid, Starts.Viable}
 use Rattle.rules.specs.declared.MessageRefusal.{MessageRefusal}
 use Rattle.rules.specs.declared.MessageRefusal.TheVariants.{TooLong, NotText, TooDeep}
-use Rattle.stream.specs.declared.pieces.Said.{Said}
-use Rattle.stream.specs.declared.pieces.Said.TheVariants as Says
 
 -- a byte that clears: 0xFF, or one below 0x20 other than tab, CR and LF
 abbrev pub clears : ℕ → Bool
@@ -91,8 +89,12 @@ pub data OfText : MessageRefusal → Type 0 where
 abbrev pub limit_of : ℕ → ℕ
 limit_of lent = min message_bytes lent
 
--- what a call hands out, before what later ones do; a message is at the start of the buffer that the call leaves
+-- what a call hands out: a message of so many bytes, nothing, since its piece is over, or a refusal
+abbrev pub Said : Type 0
+Said = Result (Option ℕ) MessageRefusal
+
+-- that, before what later calls do; a message is at the start of the buffer that the call leaves
 abbrev pub onto : Said → List ℕ → List Output → List Output
-onto Says.Nothing buf os = os
-onto (Says.Message n) buf os = message (take n buf) ∷ os
-onto (Says.Refused x) buf os = refused x ∷ os
+onto (Ok None) buf os = os
+onto (Ok (Some n)) buf os = message (take n buf) ∷ os
+onto (Err x) buf os = refused x ∷ os

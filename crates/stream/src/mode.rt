@@ -1,63 +1,173 @@
-// What is read next inside a message, as numbers that a caller can keep between calls. specs/Serving/States says what each stands for.
+// What is read next inside a message, and the number by which a caller keeps it between calls (specs/Serving/States).
+ghost use Rattle.stream.specs.Serving.Contracts.{CharAt, ModeAt, NumberOf};
 
-// A value; an element or the end of its array; what follows a value; a key or the end of its object; a key; its colon.
-pub const AT_VALUE: u64 = 2;
+// Where a blank may stand: at a value; at an element or the end of its array; after a value; at a key or the end of its object; at a key; at its colon.
+#[derive(Clone, Copy)]
+pub enum Point {
+    Value = 2,
+    Element = 3,
+    After = 4,
+    FirstKey = 5,
+    Key = 6,
+    Colon = 7,
+}
 
-pub const AT_ELEMENT: u64 = 3;
+// So much of a number is read.
+#[derive(Clone, Copy)]
+pub enum NumberMode {
+    AfterMinus = 10,
+    AfterZero = 11,
+    InInteger = 12,
+    AfterPoint = 13,
+    InFraction = 14,
+    AfterE = 15,
+    AfterSign = 16,
+    InExponent = 17,
+}
 
-pub const AFTER: u64 = 4;
+// What is wanted of null, true and false.
+#[derive(Clone, Copy)]
+pub enum Word {
+    Ull = 18,
+    Ll = 19,
+    Rue = 20,
+    Ue = 21,
+    Alse = 22,
+    Lse = 23,
+    Se = 24,
+    L = 25,
+    E = 26,
+}
 
-pub const AT_FIRST_KEY: u64 = 5;
+// Inside a character. After a backslash; after a high surrogate, at the backslash and the u of its low one. At a digit of `\u`: the first; the second, after D or not; the last two, of a high
+// surrogate or not; those of a low one. In UTF-8, so many bytes are wanted; after some lead bytes the next one is narrowed.
+#[derive(Clone, Copy)]
+pub enum CharMode {
+    Escape,
+    LowBackslash,
+    LowU,
+    Hex0,
+    Hex1,
+    Hex1AfterD,
+    Hex2,
+    Hex2High,
+    Hex3,
+    Hex3High,
+    Low0,
+    Low1,
+    Low2,
+    Low3,
+    One,
+    Two,
+    TwoE0,
+    TwoED,
+    Three,
+    ThreeF0,
+    ThreeF4,
+}
 
-pub const AT_KEY: u64 = 6;
+// A blank or what stands at a point; the next character of a string, or of a key; the rest of a character of either; that of a number; that of a word.
+#[derive(Clone, Copy)]
+pub enum Mode {
+    At(Point),
+    InString,
+    InKey,
+    InStringChar(CharMode),
+    InKeyChar(CharMode),
+    InNumber(NumberMode),
+    InWord(Word),
+}
 
-pub const AT_COLON: u64 = 7;
+// The numbers of a string and of a key, and those from which the characters of either count.
+const IN_STRING: u64 = 8;
 
-// A character of a string, or of a key.
-pub const IN_STRING: u64 = 8;
+const IN_KEY: u64 = 9;
 
-pub const IN_KEY: u64 = 9;
+const STRING_CHARS: u64 = 27;
 
-// A number, after so much of it.
-pub const AFTER_MINUS: u64 = 10;
+const KEY_CHARS: u64 = 48;
 
-pub const AFTER_ZERO: u64 = 11;
+#[tactic(auto, unfolding(crate::specs::Serving::States::char_at))]
+fn char_numbered(n: u64) -> Option<CharMode>
+    ensures { CharAt n result }
+{
+    let c = match n {
+        0 => CharMode::Escape,
+        1 => CharMode::LowBackslash,
+        2 => CharMode::LowU,
+        3 => CharMode::Hex0,
+        4 => CharMode::Hex1,
+        5 => CharMode::Hex1AfterD,
+        6 => CharMode::Hex2,
+        7 => CharMode::Hex2High,
+        8 => CharMode::Hex3,
+        9 => CharMode::Hex3High,
+        10 => CharMode::Low0,
+        11 => CharMode::Low1,
+        12 => CharMode::Low2,
+        13 => CharMode::Low3,
+        14 => CharMode::One,
+        15 => CharMode::Two,
+        16 => CharMode::TwoE0,
+        17 => CharMode::TwoED,
+        18 => CharMode::Three,
+        19 => CharMode::ThreeF0,
+        20 => CharMode::ThreeF4,
+        _ => return None,
+    };
+    Some(c)
+}
 
-pub const IN_INTEGER: u64 = 12;
+impl Mode {
+    #[tactic(auto, unfolding(crate::specs::Serving::States::mode_at))]
+    pub fn number(self) -> u64
+        ensures { NumberOf self result }
+    {
+        match self {
+            Mode::At(point) => point as u64,
+            Mode::InString => IN_STRING,
+            Mode::InKey => IN_KEY,
+            Mode::InStringChar(c) => STRING_CHARS + c as u64,
+            Mode::InKeyChar(c) => KEY_CHARS + c as u64,
+            Mode::InNumber(n) => n as u64,
+            Mode::InWord(w) => w as u64,
+        }
+    }
 
-pub const AFTER_POINT: u64 = 13;
-
-pub const IN_FRACTION: u64 = 14;
-
-pub const AFTER_E: u64 = 15;
-
-pub const AFTER_SIGN: u64 = 16;
-
-pub const IN_EXPONENT: u64 = 17;
-
-// A word: what is wanted of null, true and false.
-pub const ULL: u64 = 18;
-
-pub const LL: u64 = 19;
-
-pub const RUE: u64 = 20;
-
-pub const UE: u64 = 21;
-
-pub const ALSE: u64 = 22;
-
-pub const LSE: u64 = 23;
-
-pub const SE: u64 = 24;
-
-pub const L: u64 = 25;
-
-pub const E: u64 = 26;
-
-// From here on the modes inside a character of a string, and from there on those inside one of a key.
-pub const FIRST_CHAR: u64 = 27;
-
-pub const FIRST_KEY_CHAR: u64 = 48;
-
-// One past the last.
-pub const END: u64 = 69;
+    #[tactic(auto, unfolding(crate::specs::Serving::States::mode_at))]
+    pub fn numbered(n: u64) -> Option<Mode>
+        ensures { ModeAt n result }
+    {
+        let mode = match n {
+            2 => Mode::At(Point::Value),
+            3 => Mode::At(Point::Element),
+            4 => Mode::At(Point::After),
+            5 => Mode::At(Point::FirstKey),
+            6 => Mode::At(Point::Key),
+            7 => Mode::At(Point::Colon),
+            8 => Mode::InString,
+            9 => Mode::InKey,
+            10 => Mode::InNumber(NumberMode::AfterMinus),
+            11 => Mode::InNumber(NumberMode::AfterZero),
+            12 => Mode::InNumber(NumberMode::InInteger),
+            13 => Mode::InNumber(NumberMode::AfterPoint),
+            14 => Mode::InNumber(NumberMode::InFraction),
+            15 => Mode::InNumber(NumberMode::AfterE),
+            16 => Mode::InNumber(NumberMode::AfterSign),
+            17 => Mode::InNumber(NumberMode::InExponent),
+            18 => Mode::InWord(Word::Ull),
+            19 => Mode::InWord(Word::Ll),
+            20 => Mode::InWord(Word::Rue),
+            21 => Mode::InWord(Word::Ue),
+            22 => Mode::InWord(Word::Alse),
+            23 => Mode::InWord(Word::Lse),
+            24 => Mode::InWord(Word::Se),
+            25 => Mode::InWord(Word::L),
+            26 => Mode::InWord(Word::E),
+            STRING_CHARS..KEY_CHARS => Mode::InStringChar(char_numbered(n - STRING_CHARS)?),
+            KEY_CHARS.. => Mode::InKeyChar(char_numbered(n - KEY_CHARS)?),
+            _ => return None,
+        };
+        Some(mode)
+    }
+}

@@ -1,14 +1,13 @@
 // Pieces of a stream: a byte where the reader stands, and the bytes of a piece up to the first message or refusal.
-ghost use Rattle.std.specs.Prelude.{◌≡◌, ◌≤◌, min, length};
-ghost use Rattle.stream.specs.Stream.{clears, limit_of};
-ghost use Rattle.stream.specs.Serving.Feeding.{Standing};
-ghost use Rattle.stream.specs.Serving.States.{mode_at, brackets_of};
-ghost use Rattle.stream.specs.Serving.Contracts.{plain, standing_of, Inner, InnerState, Does, Runs, RunsStrings, fed_by, Feeds};
+ghost use Rattle.std.specs.Prelude.{◌≡◌, ◌≤◌, length};
+ghost use Rattle.stream.specs.Stream.{clears};
+ghost use Rattle.stream.specs.Serving.Feeding.{Standing, byte};
+ghost use Rattle.stream.specs.Serving.Contracts.{plain, mode_of, open_of, standing_of, outcome_for, Runs, RunsStrings, Feeds};
 
-use crate::chars::within;
+use crate::brackets::Brackets;
+use crate::mode::Mode;
 use crate::state::{State, length_of};
-use crate::steps::{Turn, is_blank, step};
-use crate::{mode, nesting};
+use crate::steps::{Place, is_blank, opened, step};
 use grammar::MESSAGE_BYTES;
 use rules::MessageRefusal;
 
@@ -17,25 +16,18 @@ use rules::MessageRefusal;
 pub enum Outcome {
     ToBetween,
     ToSkipping,
-    Keep(u64, u64),
+    Keep(Place),
     Whole,
     Lost(MessageRefusal),
     Cleared,
 }
 
-// What a call hands out: nothing, since its piece is over; a message of so many bytes; a refusal.
+// What a call gives: where the reader stands now, as a state or as the words of one; what is handed out, a message of so many bytes, nothing, since the piece is over, or a refusal; and how many bytes
+// of the piece are taken.
 #[derive(Clone, Copy)]
-pub enum Said {
-    Nothing,
-    Message(usize),
-    Refused(MessageRefusal),
-}
-
-// What a call gives: where the reader stands now, what is handed out, and how many bytes of the piece are taken.
-#[derive(Clone, Copy)]
-pub struct Fed {
-    pub state: State,
-    pub said: Said,
+pub struct Fed<S> {
+    pub state: S,
+    pub said: Result<Option<usize>, MessageRefusal>,
     pub taken: usize,
 }
 
@@ -43,44 +35,34 @@ pub struct Fed {
 fn is_clearing(b: u8) -> bool
     ensures { result ≡ clears b }
 {
-    if b == 0xFF {
-        return true;
-    }
-    if b < 0x20 {
-        return !is_blank(b);
-    }
-    false
+    b == 0xFF || (b < 0x20 && !is_blank(b))
 }
 
 // A byte between messages.
+#[tactic(auto, unfolding(crate::specs::Serving::Feeding::byte))]
 fn between_byte(limit: usize, b: u8) -> Outcome
-    ensures { Does limit Standing.between b result }
+    ensures { outcome_for result ≡ byte limit Standing.between b }
 {
-    if is_blank(b) {
+    if is_blank(b) || is_clearing(b) {
         return Outcome::ToBetween;
     }
-    if is_clearing(b) {
-        return Outcome::ToBetween;
+    let object = b == b'{';
+    if !object && b != b'[' {
+        return Outcome::Lost(MessageRefusal::NotText);
     }
-    if b == b'{' {
-        if limit == 0 {
-            return Outcome::Lost(MessageRefusal::TooLong);
-        }
-        return Outcome::Keep(mode::AT_FIRST_KEY, nesting::ONE_OBJECT);
+    if limit == 0 {
+        return Outcome::Lost(MessageRefusal::TooLong);
     }
-    if b == b'[' {
-        if limit == 0 {
-            return Outcome::Lost(MessageRefusal::TooLong);
-        }
-        return Outcome::Keep(mode::AT_ELEMENT, nesting::ONE_ARRAY);
-    }
-    Outcome::Lost(MessageRefusal::NotText)
+    Outcome::Keep(Place {
+        mode: opened(object),
+        brackets: Brackets::one(object),
+    })
 }
 
 // A byte inside a message.
-fn message_byte(limit: usize, m: u64, nest: u64, len: usize, b: u8) -> Outcome
-    requires { Inner m nest }
-    ensures { Does limit (Standing.inside (mode_at m) (brackets_of nest) len) b result }
+#[tactic(auto, unfolding(crate::specs::Serving::Feeding::byte))]
+fn message_byte(limit: usize, place: Place, len: usize, b: u8) -> Outcome
+    ensures { outcome_for result ≡ byte limit (Standing.inside (mode_of place.mode) (open_of place.brackets) len) b }
 {
     if is_clearing(b) {
         return Outcome::Cleared;
@@ -88,17 +70,16 @@ fn message_byte(limit: usize, m: u64, nest: u64, len: usize, b: u8) -> Outcome
     if limit <= len {
         return Outcome::Lost(MessageRefusal::TooLong);
     }
-    match step(m, nest, b) {
-        Turn::To(n, inner) => Outcome::Keep(n, inner),
-        Turn::Ended => Outcome::Whole,
-        Turn::Stuck => Outcome::Lost(MessageRefusal::NotText),
-        Turn::Over => Outcome::Lost(MessageRefusal::TooDeep),
+    match step(place, b) {
+        Ok(Some(next)) => Outcome::Keep(next),
+        Ok(None) => Outcome::Whole,
+        Err(x) => Outcome::Lost(x),
     }
 }
 
+#[tactic(auto, unfolding(crate::specs::Serving::Feeding::byte))]
 fn next_byte(limit: usize, s: State, b: u8) -> Outcome
-    requires { InnerState s }
-    ensures { Does limit (standing_of s) b result }
+    ensures { outcome_for result ≡ byte limit (standing_of s) b }
 {
     match s {
         State::Between => between_byte(limit, b),
@@ -108,40 +89,16 @@ fn next_byte(limit: usize, s: State, b: u8) -> Outcome
             }
             Outcome::ToSkipping
         }
-        State::Inside(m, nest, len) => message_byte(limit, m, nest, len, b),
+        State::Inside(place, len) => message_byte(limit, place, len, b),
     }
-}
-
-// The most bytes of a message where so many are lent for it.
-fn limit_of(lent: usize) -> usize
-    ensures { result ≡ limit_of lent }
-{
-    if lent < MESSAGE_BYTES {
-        return lent;
-    }
-    MESSAGE_BYTES
-}
-
-fn least(a: usize, b: usize) -> usize
-    ensures { result ≡ min a b }
-{
-    if a < b {
-        return a;
-    }
-    b
 }
 
 // A byte of a string that is a whole character.
+#[tactic(auto, unfolding(crate::specs::Serving::Contracts::plain))]
 fn is_plain(b: u8) -> bool
     ensures { result ≡ plain b }
 {
-    if !within(0x20, 0x7F, b) {
-        return false;
-    }
-    if b == b'"' {
-        return false;
-    }
-    b != b'\\'
+    (0x20..=0x7F).contains(&b) && b != b'"' && b != b'\\'
 }
 
 // The plain bytes of a string from `from` on go to the buffer, from `at` on, as far as there is room. Gives where the first other byte is.
@@ -149,53 +106,44 @@ fn copy_plain(buffer: &mut [u8], piece: &[u8], from: usize, at: usize, limit: us
     requires { (from ≤ length piece.now) × (at ≤ limit) × (limit ≤ length buffer.old) }
     ensures { RunsStrings buffer.old piece.now from at limit buffer.new result }
 {
-    let end = from + least(piece.len() - from, limit - at);
-    let mut i = from;
-    let mut k = at;
-    while i < end {
+    let end = from + usize::min(piece.len() - from, limit - at);
+    for i in from..end {
         let b = piece[i];
         if !is_plain(b) {
             return i;
         }
-        buffer[k] = b;
-        k += 1;
-        i += 1;
+        buffer[at + (i - from)] = b;
     }
-    i
+    end
 }
 
 // In a string the plain bytes that follow are taken at once.
-fn run_on(buffer: &mut [u8], piece: &[u8], m: u64, from: usize, at: usize, limit: usize) -> usize
+fn run_on(
+    buffer: &mut [u8],
+    piece: &[u8],
+    mode: Mode,
+    from: usize,
+    at: usize,
+    limit: usize,
+) -> usize
     requires { (from ≤ length piece.now) × (at ≤ limit) × (limit ≤ length buffer.old) }
-    ensures { Runs (mode_at m) buffer.old piece.now from at limit buffer.new result }
+    ensures { Runs (mode_of mode) buffer.old piece.now from at limit buffer.new result }
 {
-    if m < mode::IN_STRING {
-        return from;
-    }
-    if mode::IN_KEY < m {
-        return from;
-    }
-    copy_plain(buffer, piece, from, at, limit)
-}
-
-fn hand_out(state: State, said: Said, taken: usize) -> Fed
-    ensures { result ≡ fed_by state said taken }
-{
-    Fed {
-        state: state,
-        said: said,
-        taken: taken,
+    match mode {
+        Mode::InString | Mode::InKey => copy_plain(buffer, piece, from, at, limit),
+        _ => from,
     }
 }
 
 // The bytes of a piece, up to and with the first that has something handed out. A byte of a message is written at its index of the buffer.
-pub fn feed(buffer: &mut [u8], piece: &[u8], s: State) -> Fed
-    requires { InnerState s }
+pub fn feed(buffer: &mut [u8], piece: &[u8], s: State) -> Fed<State>
     ensures { Feeds buffer.old piece.now s buffer.new result }
 {
-    let limit = limit_of(buffer.len());
+    // The most bytes of a message where so many are lent for it.
+    let limit = usize::min(MESSAGE_BYTES, buffer.len());
     let mut state = s;
     let mut i = 0;
+    // A step is a byte or, in a string, a run of them, so the index is counted here.
     while i < piece.len() {
         let b = piece[i];
         let at = length_of(state);
@@ -207,23 +155,39 @@ pub fn feed(buffer: &mut [u8], piece: &[u8], s: State) -> Fed
             Outcome::ToSkipping => {
                 state = State::Skipping;
             }
-            Outcome::Keep(m, nest) => {
+            Outcome::Keep(place) => {
                 buffer[at] = b;
-                let e = run_on(buffer, piece, m, i, at + 1, limit);
-                state = State::Inside(m, nest, at + 1 + (e - i));
+                let e = run_on(buffer, piece, place.mode, i, at + 1, limit);
+                state = State::Inside(place, at + 1 + (e - i));
                 i = e;
             }
             Outcome::Whole => {
                 buffer[at] = b;
-                return hand_out(State::Between, Said::Message(at + 1), i);
+                return Fed {
+                    state: State::Between,
+                    said: Ok(Some(at + 1)),
+                    taken: i,
+                };
             }
             Outcome::Lost(x) => {
-                return hand_out(State::Skipping, Said::Refused(x), i);
+                return Fed {
+                    state: State::Skipping,
+                    said: Err(x),
+                    taken: i,
+                };
             }
             Outcome::Cleared => {
-                return hand_out(State::Between, Said::Refused(MessageRefusal::NotText), i);
+                return Fed {
+                    state: State::Between,
+                    said: Err(MessageRefusal::NotText),
+                    taken: i,
+                };
             }
         }
     }
-    hand_out(state, Said::Nothing, i)
+    Fed {
+        state,
+        said: Ok(None),
+        taken: i,
+    }
 }

@@ -1,16 +1,19 @@
 // Where a reader stands, and the words in which its caller keeps that between calls.
 ghost use Rattle.std.specs.Prelude.{◌≡◌};
 ghost use Rattle.stream.specs.Serving.Feeding as feeding;
-ghost use Rattle.stream.specs.Serving.Contracts.{standing_of, InnerState, StateOf, WordsOf, start_words};
+ghost use Rattle.stream.specs.Serving.States.{stands_for};
+ghost use Rattle.stream.specs.Serving.Contracts.{standing_of, WordsOf, start_words};
 
-use crate::{mode, nesting};
+use crate::brackets::Brackets;
+use crate::mode::Mode;
+use crate::steps::Place;
 
-// Between messages; in what a refusal skips; or inside a message: what is read next, the open brackets, and how many of its bytes are in the buffer.
+// Between messages; in what a refusal skips; or inside a message: the place, and how many of its bytes are in the buffer.
 #[derive(Clone, Copy)]
 pub enum State {
     Between,
     Skipping,
-    Inside(u64, u64, usize),
+    Inside(Place, usize),
 }
 
 // The words: 0 for the mode is between messages, another that is none is skipping.
@@ -37,49 +40,34 @@ pub fn start() -> Words
 }
 
 // What words stand for; where the mode or the brackets are none, skipping.
+#[tactic(auto, unfolding(crate::specs::Serving::States::stands_for))]
 pub fn state_of(w: Words) -> State
-    ensures { StateOf w result }
+    ensures { stands_for w.mode w.nest w.len ≡ standing_of result }
 {
-    let m = w.mode;
-    let nest = w.nest;
-    if m == BETWEEN {
+    if w.mode == BETWEEN {
         return State::Between;
     }
-    if m < mode::AT_VALUE {
-        return State::Skipping;
+    match (Mode::numbered(w.mode), Brackets::of_bits(w.nest)) {
+        (Some(mode), Some(brackets)) => State::Inside(Place { mode, brackets }, w.len),
+        _ => State::Skipping,
     }
-    if mode::END <= m {
-        return State::Skipping;
-    }
-    if nest < nesting::ONE_ARRAY {
-        return State::Skipping;
-    }
-    if nesting::END <= nest {
-        return State::Skipping;
-    }
-    State::Inside(m, nest, w.len)
 }
 
 // The words in which a state is kept.
 pub fn words_of(s: State) -> Words
-    requires { InnerState s }
     ensures { WordsOf s result }
 {
     match s {
-        State::Between => Words {
-            mode: BETWEEN,
-            nest: 0,
-            len: 0,
-        },
+        State::Between => start(),
         State::Skipping => Words {
             mode: SKIPPING,
             nest: 0,
             len: 0,
         },
-        State::Inside(m, nest, len) => Words {
-            mode: m,
-            nest: nest,
-            len: len,
+        State::Inside(place, len) => Words {
+            mode: place.mode.number(),
+            nest: place.brackets.bits(),
+            len,
         },
     }
 }
@@ -89,8 +77,7 @@ pub fn length_of(s: State) -> usize
     ensures { result ≡ feeding.length_of (standing_of s) }
 {
     match s {
-        State::Between => 0,
-        State::Skipping => 0,
-        State::Inside(_m, _nest, len) => len,
+        State::Between | State::Skipping => 0,
+        State::Inside(_place, len) => len,
     }
 }

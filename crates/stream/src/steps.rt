@@ -1,257 +1,196 @@
 // A byte inside a message: what is read next, and the open brackets.
-ghost use Rattle.std.specs.Prelude.{◌≡◌, ◌≤◌, ◌<◌};
+ghost use Rattle.std.specs.Prelude.{◌≡◌, Ok, Some};
 ghost use Rattle.grammar.specs.Lexis.{blank};
 ghost use Rattle.stream.specs.Serving.Modes as modes;
-ghost use Rattle.stream.specs.Serving.States.{point_at, number_at, word_at, mode_at, brackets_of, Nest, first_string, first_number, first_word, first_char};
-ghost use Rattle.stream.specs.Serving.Contracts.{char_turn_of, KnownChar, CharOf, Inner, Steps};
+ghost use Rattle.stream.specs.Serving.Feeding.{outcome_of};
+ghost use Rattle.stream.specs.Serving.Contracts.{point_of, number_of, spelling, mode_of, CharGoes, open_of, stepped};
 
+use crate::brackets::Brackets;
 use crate::chars::{CharTurn, begin_char, char_turn};
-use crate::literals::{NumberTurn, begin_number, may_end, number_turn, wanted_byte, word_rest};
-use crate::{mode, nesting};
+use crate::literals::{begin_number, may_end, number_turn, wanted};
+use crate::mode::{Mode, NumberMode, Point, Word};
+use rules::MessageRefusal;
 
-// After a byte: a mode and the open brackets; the outermost bracket is closed; no text goes on so; or only one with more levels.
+// What is read next, and the open brackets.
 #[derive(Clone, Copy)]
-pub enum Turn {
-    To(u64, u64),
-    Ended,
-    Stuck,
-    Over,
+pub struct Place {
+    pub mode: Mode,
+    pub brackets: Brackets,
 }
 
+// After a byte: a place, or none where the outermost bracket is closed; the byte is refused where no text goes on so, or only one with more levels.
+pub type Turn = Result<Option<Place>, MessageRefusal>;
+
+fn go(mode: Mode, brackets: Brackets) -> Turn
+    ensures { result ≡ Ok (Some (record { mode = mode; brackets = brackets })) }
+{
+    Ok(Some(Place { mode, brackets }))
+}
+
+#[tactic(auto, unfolding(grammar::specs::Lexis::blank))]
 pub fn is_blank(b: u8) -> bool
     ensures { result ≡ blank b }
 {
-    if b == b' ' {
-        return true;
-    }
-    if b == b'\t' {
-        return true;
-    }
-    if b == b'\n' {
-        return true;
-    }
-    b == b'\r'
+    matches!(b, b' ' | b'\t' | b'\n' | b'\r')
 }
 
-fn open_bracket(nest: u64, object: bool) -> Turn
-    requires { Nest nest }
-    ensures { Steps result (modes.open_turn object (brackets_of nest)) }
+// What is read next in a bracket that has just been opened.
+pub fn opened(object: bool) -> Mode
+    ensures { mode_of result ≡ modes.opened_mode object }
 {
-    if nesting::FULL <= nest {
-        return Turn::Over;
-    }
-    if object {
-        return Turn::To(mode::AT_FIRST_KEY, 2 * nest + 1);
-    }
-    Turn::To(mode::AT_ELEMENT, 2 * nest)
+    Mode::At(if object {
+        Point::FirstKey
+    } else {
+        Point::Element
+    })
 }
 
-fn close_bracket(nest: u64) -> Turn
-    requires { Nest nest }
-    ensures { Steps result (modes.close_turn (brackets_of nest)) }
+fn open_bracket(object: bool, brackets: Brackets) -> Turn
+    ensures { stepped result ≡ outcome_of (modes.open_turn object (open_of brackets)) }
 {
-    if nest < nesting::TWO_OPEN {
-        return Turn::Ended;
+    match brackets.open(object) {
+        Some(more) => go(opened(object), more),
+        None => Err(MessageRefusal::TooDeep),
     }
-    Turn::To(mode::AFTER, nest / 2)
 }
 
-fn begin_word(nest: u64, b: u8) -> Turn
-    requires { Nest nest }
-    ensures { Steps result (modes.word_turn b (brackets_of nest)) }
+fn close_bracket(brackets: Brackets) -> Turn
+    ensures { stepped result ≡ outcome_of (modes.close_turn (open_of brackets)) }
 {
-    if b == b'n' {
-        return Turn::To(mode::ULL, nest);
+    match brackets.close() {
+        Some(rest) => go(Mode::At(Point::After), rest),
+        None => Ok(None),
     }
-    if b == b't' {
-        return Turn::To(mode::RUE, nest);
-    }
-    if b == b'f' {
-        return Turn::To(mode::ALSE, nest);
-    }
-    Turn::Stuck
 }
 
-fn begin_value(nest: u64, b: u8) -> Turn
-    requires { Nest nest }
-    ensures { Steps result (modes.value_turn (brackets_of nest) b) }
+fn begin_word(brackets: Brackets, b: u8) -> Turn
+    ensures { stepped result ≡ outcome_of (modes.word_turn b (open_of brackets)) }
 {
-    if b == b'"' {
-        return Turn::To(mode::IN_STRING, nest);
-    }
-    if b == b'[' {
-        return open_bracket(nest, false);
-    }
-    if b == b'{' {
-        return open_bracket(nest, true);
-    }
-    match begin_number(b) {
-        NumberTurn::On(n) => Turn::To(n, nest),
-        NumberTurn::Off => begin_word(nest, b),
+    match b {
+        b'n' => go(Mode::InWord(Word::Ull), brackets),
+        b't' => go(Mode::InWord(Word::Rue), brackets),
+        b'f' => go(Mode::InWord(Word::Alse), brackets),
+        _ => Err(MessageRefusal::NotText),
     }
 }
 
-fn begin_key(nest: u64, b: u8) -> Turn
-    requires { Nest nest }
-    ensures { Steps result (modes.key_turn (brackets_of nest) b) }
+fn begin_value(brackets: Brackets, b: u8) -> Turn
+    ensures { stepped result ≡ outcome_of (modes.value_turn (open_of brackets) b) }
+{
+    match b {
+        b'"' => go(Mode::InString, brackets),
+        b'[' => open_bracket(false, brackets),
+        b'{' => open_bracket(true, brackets),
+        _ => match begin_number(b) {
+            Some(n) => go(Mode::InNumber(n), brackets),
+            None => begin_word(brackets, b),
+        },
+    }
+}
+
+fn begin_key(brackets: Brackets, b: u8) -> Turn
+    ensures { stepped result ≡ outcome_of (modes.key_turn (open_of brackets) b) }
 {
     if b == b'"' {
-        return Turn::To(mode::IN_KEY, nest);
+        go(Mode::InKey, brackets)
+    } else {
+        Err(MessageRefusal::NotText)
     }
-    Turn::Stuck
 }
 
 // After a value: a comma, or the end of what it stands in.
-fn follow(nest: u64, b: u8) -> Turn
-    requires { Nest nest }
-    ensures { Steps result (modes.follow_turn (brackets_of nest) b) }
+fn follow(brackets: Brackets, b: u8) -> Turn
+    ensures { stepped result ≡ outcome_of (modes.follow_turn (open_of brackets) b) }
 {
-    if nest % 2 == 1 {
-        if b == b',' {
-            return Turn::To(mode::AT_KEY, nest);
-        }
-        if b == b'}' {
-            return close_bracket(nest);
-        }
-        return Turn::Stuck;
-    }
-    if b == b',' {
-        return Turn::To(mode::AT_VALUE, nest);
-    }
-    if b == b']' {
-        return close_bracket(nest);
-    }
-    Turn::Stuck
-}
-
-// A byte that is no blank, at a point.
-fn at_token(m: u64, nest: u64, b: u8) -> Turn
-    requires { Nest nest }
-    ensures { Steps result (modes.point_turn (point_at m) (brackets_of nest) b) }
-{
-    match m {
-        mode::AT_ELEMENT => {
-            if b == b']' {
-                return close_bracket(nest);
-            }
-            begin_value(nest, b)
-        }
-        mode::AFTER => follow(nest, b),
-        mode::AT_FIRST_KEY => {
-            if b == b'}' {
-                return close_bracket(nest);
-            }
-            begin_key(nest, b)
-        }
-        mode::AT_KEY => begin_key(nest, b),
-        mode::AT_COLON => {
-            if b == b':' {
-                return Turn::To(mode::AT_VALUE, nest);
-            }
-            Turn::Stuck
-        }
-        _ => begin_value(nest, b),
+    match (brackets.in_object(), b) {
+        (true, b',') => go(Mode::At(Point::Key), brackets),
+        (false, b',') => go(Mode::At(Point::Value), brackets),
+        (true, b'}') | (false, b']') => close_bracket(brackets),
+        _ => Err(MessageRefusal::NotText),
     }
 }
 
-// A byte at a point.
-fn at_point(m: u64, nest: u64, b: u8) -> Turn
-    requires { Inner m nest × (m < first_string) }
-    ensures { Steps result (modes.turn (mode_at m) (brackets_of nest) b) }
+// A byte at a point: a blank, or a token.
+fn at_point(point: Point, brackets: Brackets, b: u8) -> Turn
+    ensures { stepped result ≡ outcome_of (modes.at_turn (point_of point) (open_of brackets) b) }
 {
     if is_blank(b) {
-        return Turn::To(m, nest);
+        return go(Mode::At(point), brackets);
     }
-    at_token(m, nest, b)
+    match (point, b) {
+        (Point::Element, b']') | (Point::FirstKey, b'}') => close_bracket(brackets),
+        (Point::Value | Point::Element, _) => begin_value(brackets, b),
+        (Point::FirstKey | Point::Key, _) => begin_key(brackets, b),
+        (Point::Colon, b':') => go(Mode::At(Point::Value), brackets),
+        (Point::Colon, _) => Err(MessageRefusal::NotText),
+        (Point::After, _) => follow(brackets, b),
+    }
 }
 
 // After a byte of a character in a string, or in a key.
-fn in_char(t: CharTurn, key: bool, nest: u64) -> Turn
-    requires { Nest nest × KnownChar t }
-    ensures { Steps result (modes.in_char_turn (char_turn_of t) key (brackets_of nest)) }
+fn in_char(turn: CharTurn, key: bool, brackets: Brackets) -> Turn
+    ensures { (t : modes.CharTurn) → CharGoes turn t → stepped result ≡ outcome_of (modes.in_char_turn t key (open_of brackets)) }
 {
-    match t {
-        CharTurn::Stay(c) => {
-            if key {
-                return Turn::To(c + mode::FIRST_KEY_CHAR, nest);
-            }
-            Turn::To(c + mode::FIRST_CHAR, nest)
-        }
-        CharTurn::Char => {
-            if key {
-                return Turn::To(mode::IN_KEY, nest);
-            }
-            Turn::To(mode::IN_STRING, nest)
-        }
-        CharTurn::Bad => Turn::Stuck,
-    }
+    let mode = match (turn?, key) {
+        (Some(c), false) => Mode::InStringChar(c),
+        (Some(c), true) => Mode::InKeyChar(c),
+        (None, false) => Mode::InString,
+        (None, true) => Mode::InKey,
+    };
+    go(mode, brackets)
 }
 
-fn in_string(key: bool, nest: u64, b: u8) -> Turn
-    requires { Nest nest }
-    ensures { Steps result (modes.turn (modes.Mode.in_string key) (brackets_of nest) b) }
+#[tactic(auto, unfolding(crate::specs::Serving::Modes::turn))]
+fn in_string(key: bool, brackets: Brackets, b: u8) -> Turn
+    ensures { stepped result ≡ outcome_of (modes.turn (modes.Mode.in_string key) (open_of brackets) b) }
 {
     if b == b'"' {
-        if key {
-            return Turn::To(mode::AT_COLON, nest);
-        }
-        return Turn::To(mode::AFTER, nest);
+        return go(
+            Mode::At(if key { Point::Colon } else { Point::After }),
+            brackets,
+        );
     }
-    in_char(begin_char(b), key, nest)
+    in_char(begin_char(b), key, brackets)
 }
 
-fn in_number(m: u64, nest: u64, b: u8) -> Turn
-    requires { Nest nest × (first_number ≤ m) }
-    ensures { Steps result (modes.turn (modes.Mode.in_number (number_at m)) (brackets_of nest) b) }
+#[tactic(auto, unfolding(crate::specs::Serving::Modes::turn))]
+fn in_number(n: NumberMode, brackets: Brackets, b: u8) -> Turn
+    ensures { stepped result ≡ outcome_of (modes.turn (modes.Mode.in_number (number_of n)) (open_of brackets) b) }
 {
-    match number_turn(m, b) {
-        NumberTurn::On(n) => Turn::To(n, nest),
-        NumberTurn::Off => {
-            if may_end(m) {
-                return at_point(mode::AFTER, nest, b);
-            }
-            Turn::Stuck
-        }
+    match number_turn(n, b) {
+        Some(next) => go(Mode::InNumber(next), brackets),
+        None if may_end(n) => at_point(Point::After, brackets, b),
+        None => Err(MessageRefusal::NotText),
     }
 }
 
-fn in_word(m: u64, nest: u64, b: u8) -> Turn
-    requires { Nest nest × (first_word ≤ m) }
-    ensures { Steps result (modes.turn (modes.spelled (word_at m)) (brackets_of nest) b) }
+#[tactic(auto, unfolding(crate::specs::Serving::Modes::turn))]
+fn in_word(w: Word, brackets: Brackets, b: u8) -> Turn
+    ensures { stepped result ≡ outcome_of (modes.turn (modes.spelled (spelling w)) (open_of brackets) b) }
 {
-    if b != wanted_byte(m) {
-        return Turn::Stuck;
+    let (byte, rest) = wanted(w);
+    if b != byte {
+        return Err(MessageRefusal::NotText);
     }
-    Turn::To(word_rest(m), nest)
-}
-
-// The mode inside a character, in a string or in a key.
-fn char_of(m: u64) -> u64
-    requires { first_char ≤ m }
-    ensures { CharOf m result }
-{
-    if m < mode::FIRST_KEY_CHAR {
-        return m - mode::FIRST_CHAR;
+    match rest {
+        Some(next) => go(Mode::InWord(next), brackets),
+        None => go(Mode::At(Point::After), brackets),
     }
-    m - mode::FIRST_KEY_CHAR
 }
 
 // A byte inside a message.
-pub fn step(m: u64, nest: u64, b: u8) -> Turn
-    requires { Inner m nest }
-    ensures { Steps result (modes.turn (mode_at m) (brackets_of nest) b) }
+#[tactic(auto, unfolding(crate::specs::Serving::Modes::turn))]
+pub fn step(place: Place, b: u8) -> Turn
+    ensures { stepped result ≡ outcome_of (modes.turn (mode_of place.mode) (open_of place.brackets) b) }
 {
-    if m < mode::IN_STRING {
-        return at_point(m, nest, b);
+    let brackets = place.brackets;
+    match place.mode {
+        Mode::At(point) => at_point(point, brackets, b),
+        Mode::InString => in_string(false, brackets, b),
+        Mode::InKey => in_string(true, brackets, b),
+        Mode::InStringChar(c) => in_char(char_turn(c, b), false, brackets),
+        Mode::InKeyChar(c) => in_char(char_turn(c, b), true, brackets),
+        Mode::InNumber(n) => in_number(n, brackets, b),
+        Mode::InWord(w) => in_word(w, brackets, b),
     }
-    if m < mode::AFTER_MINUS {
-        return in_string(m == mode::IN_KEY, nest, b);
-    }
-    if m < mode::ULL {
-        return in_number(m, nest, b);
-    }
-    if m < mode::FIRST_CHAR {
-        return in_word(m, nest, b);
-    }
-    in_char(char_turn(char_of(m), b), mode::FIRST_KEY_CHAR <= m, nest)
 }

@@ -3,8 +3,7 @@ use Rattle.std.specs.Prelude.{ℕ, ◌≡◌, List, length, get_or}
 use Rattle.rules.specs.SchemaAnswers as Schemas
 use Rattle.rules.specs.MessageAnswers as Messages
 use Rattle.rules.specs.Serving.Answers.{schema_result, message_result}
-use Rattle.stream.specs.declared.pieces.Said.{Said}
-use Rattle.stream.specs.Stream.{limit_of}
+use Rattle.stream.specs.Stream.{Said, limit_of}
 use Rattle.stream.specs.Serving.Feeding.{Standing, call}
 use Rattle.stream.specs.Serving.States.{stands_for, Normal}
 use Rattle.gateway.specs.Calls.{fresh, said_number, said_bytes}

@@ -1,122 +1,172 @@
 -- Serves contracts and proofs. What the enums of the code stand for, and what its functions promise.
-use Rattle.std.specs.Prelude.{ℕ, ◌+◌, ◌-◌, ◌≤◌, ◌<◌, ◌≡◌, Bool, true, false, not, ◌&&◌, List, [], ◌∷◌, length, drop, eqb, leb}
+use Rattle.std.specs.Prelude.{ℕ, ◌+◌, ◌-◌, ◌≤◌, ◌<◌, ◌≡◌, Bool, true, false, not, ◌&&◌, List, [], ◌∷◌, Option, Some, None, Result, Ok, Err, length, drop, eqb, ltb}
 use Prim.Native.Char.{code}
-use Rattle.std.proofs.Math.Option.{Option, some, none}
-use Rattle.grammar.specs.Notation.{within}
+use Rattle.std.proofs.Math.Option as math
+use Rattle.grammar.specs.Limits.{message_levels}
+use Rattle.grammar.specs.Notation.{text, within}
 use Rattle.grammar.specs.MessageText.{hex_digit}
-use Rattle.grammar.specs.Serving.Machine.Message.{escape_of, NumberState}
-use Rattle.stream.specs.declared.chars.CharTurn.{CharTurn}
-use Rattle.stream.specs.declared.chars.CharTurn.TheVariants.{Stay, Char, Bad}
-use Rattle.stream.specs.declared.literals.NumberTurn.{NumberTurn}
-use Rattle.stream.specs.declared.literals.NumberTurn.TheVariants.{On, Off}
-use Rattle.stream.specs.declared.steps.Turn.{Turn}
-use Rattle.stream.specs.declared.steps.Turn.TheVariants.{To, Ended, Stuck, Over}
+use Rattle.grammar.specs.Serving.Machine.Message.{Want, NumberState}
+use Rattle.rules.specs.declared.MessageRefusal.{MessageRefusal}
+use Rattle.rules.specs.declared.MessageRefusal.TheVariants.{NotText}
+use Rattle.stream.specs.declared.mode.Point.{Point}
+use Rattle.stream.specs.declared.mode.Point.TheVariants.{Value, Element, After, FirstKey, Key, Colon}
+use Rattle.stream.specs.declared.mode.CharMode.{CharMode}
+use Rattle.stream.specs.declared.mode.CharMode.TheVariants.{Escape, LowBackslash, LowU, Hex0, Hex1, Hex1AfterD, Hex2, Hex2High, Hex3, Hex3High, Low0, Low1, Low2, Low3, One, Two, TwoE0, TwoED, Three, ThreeF0, ThreeF4}
+use Rattle.stream.specs.declared.mode.NumberMode.{NumberMode}
+use Rattle.stream.specs.declared.mode.NumberMode.TheVariants.{AfterMinus, AfterZero, InInteger, AfterPoint, InFraction, AfterE, AfterSign, InExponent}
+use Rattle.stream.specs.declared.mode.Word.{Word}
+use Rattle.stream.specs.declared.mode.Word.TheVariants.{Ull, Ll, Rue, Ue, Alse, Lse, Se, L, E}
+use Rattle.stream.specs.declared.mode.Mode.{Mode}
+use Rattle.stream.specs.declared.mode.Mode.TheVariants.{At, InString, InKey, InStringChar, InKeyChar, InNumber, InWord}
+use Rattle.stream.specs.declared.brackets.Brackets.{Brackets}
+use Rattle.stream.specs.declared.steps.Place.{Place}
 use Rattle.stream.specs.declared.state.State.{State}
 use Rattle.stream.specs.declared.state.State.TheVariants.{Between, Skipping, Inside}
 use Rattle.stream.specs.declared.state.Words.{Words}
 use Rattle.stream.specs.declared.pieces.Outcome.{Outcome}
 use Rattle.stream.specs.declared.pieces.Outcome.TheVariants.{ToBetween, ToSkipping, Keep, Whole, Lost, Cleared}
-use Rattle.stream.specs.declared.pieces.Said.{Said}
 use Rattle.stream.specs.declared.pieces.Fed.{Fed}
-use Rattle.stream.specs.declared.reader.Read.{Read}
-use Rattle.rules.specs.declared.MessageRefusal.TheVariants.{NotText}
 use Rattle.stream.specs.Stream.{limit_of}
 use Rattle.stream.specs.Serving.Modes as modes
 use Rattle.stream.specs.Serving.Feeding as feeding
-use Rattle.stream.specs.Serving.Feeding.{Standing, byte, Call, call}
-use Rattle.stream.specs.Serving.States.{char_at, char_count, number_at, first_number, first_word, first_key_char, mode_at, brackets_of, Nest, Known, stands_for, Normal}
+use Rattle.stream.specs.Serving.Feeding.{Standing, outcome_of, byte, Call, call}
+use Rattle.stream.specs.Serving.States.{char_at, char_count, mode_at, brackets_of, Nest, Known, stands_for, Normal}
+
+-- Modes
+abbrev pub point_of : Point → modes.Point
+point_of Value = modes.Point.value
+point_of Element = modes.Point.element
+point_of After = modes.Point.after
+point_of FirstKey = modes.Point.first_key
+point_of Key = modes.Point.key
+point_of Colon = modes.Point.colon
+
+abbrev pub char_of : CharMode → modes.CharMode
+char_of Escape = modes.CharMode.escape
+char_of LowBackslash = modes.CharMode.low_backslash
+char_of LowU = modes.CharMode.low_u
+char_of Hex0 = modes.CharMode.digit modes.DigitMode.hex0
+char_of Hex1 = modes.CharMode.digit (modes.DigitMode.hex1 false)
+char_of Hex1AfterD = modes.CharMode.digit (modes.DigitMode.hex1 true)
+char_of Hex2 = modes.CharMode.digit (modes.DigitMode.hex2 false)
+char_of Hex2High = modes.CharMode.digit (modes.DigitMode.hex2 true)
+char_of Hex3 = modes.CharMode.digit (modes.DigitMode.hex3 false)
+char_of Hex3High = modes.CharMode.digit (modes.DigitMode.hex3 true)
+char_of Low0 = modes.CharMode.digit modes.DigitMode.low0
+char_of Low1 = modes.CharMode.digit modes.DigitMode.low1
+char_of Low2 = modes.CharMode.digit modes.DigitMode.low2
+char_of Low3 = modes.CharMode.digit modes.DigitMode.low3
+char_of One = modes.CharMode.utf8 Want.one
+char_of Two = modes.CharMode.utf8 Want.two
+char_of TwoE0 = modes.CharMode.utf8 Want.two_E0
+char_of TwoED = modes.CharMode.utf8 Want.two_ED
+char_of Three = modes.CharMode.utf8 Want.three
+char_of ThreeF0 = modes.CharMode.utf8 Want.three_F0
+char_of ThreeF4 = modes.CharMode.utf8 Want.three_F4
+
+abbrev pub number_of : NumberMode → NumberState
+number_of AfterMinus = NumberState.after_minus
+number_of AfterZero = NumberState.after_zero
+number_of InInteger = NumberState.in_int
+number_of AfterPoint = NumberState.after_point
+number_of InFraction = NumberState.in_frac
+number_of AfterE = NumberState.after_e
+number_of AfterSign = NumberState.after_sign
+number_of InExponent = NumberState.in_exp
+
+abbrev pub spelling : Word → List ℕ
+spelling Ull = text "ull"
+spelling Ll = text "ll"
+spelling Rue = text "rue"
+spelling Ue = text "ue"
+spelling Alse = text "alse"
+spelling Lse = text "lse"
+spelling Se = text "se"
+spelling L = text "l"
+spelling E = text "e"
+
+abbrev pub mode_of : Mode → modes.Mode
+mode_of (At p) = modes.Mode.at (point_of p)
+mode_of InString = modes.Mode.in_string false
+mode_of InKey = modes.Mode.in_string true
+mode_of (InStringChar c) = modes.Mode.inside_char false (char_of c)
+mode_of (InKeyChar c) = modes.Mode.inside_char true (char_of c)
+mode_of (InNumber n) = modes.Mode.in_number (number_of n)
+mode_of (InWord w) = modes.spelled (spelling w)
+
+-- by number: every number below the count, and no other
+abbrev pub CharAt : ℕ → Option CharMode → Type 0
+CharAt n (Some c) = (n < char_count) × (char_at n ≡ char_of c)
+CharAt n None = char_count ≤ n
+
+abbrev pub ModeAt : ℕ → Option Mode → Type 0
+ModeAt n (Some m) = Known n × (mode_at n ≡ mode_of m)
+ModeAt n None = Known n → ⊥
+
+pub record NumberOf (m : Mode) (n : ℕ) : Type 0 where
+  pub known : Known n
+  pub same : mode_at n ≡ mode_of m
 
 -- Characters
-pub record HexDigit (b d : ℕ) : Type 0 where
-  pub digit : d < 16 → hex_digit b ≡ some d
-  pub no_digit : 16 ≤ d → hex_digit b ≡ none
+abbrev pub HexDigit : ℕ → Result ℕ MessageRefusal → Type 0
+HexDigit b (Ok d) = hex_digit b ≡ math.some d
+HexDigit b (Err x) = (x ≡ NotText) × (hex_digit b ≡ math.none)
 
-abbrev pub is_some : {A : Type 0} → Option A → Bool
-is_some (some c) = true
-is_some none = false
+abbrev pub turn_at : Option CharMode → modes.CharTurn
+turn_at (Some c) = modes.CharTurn.stay (char_of c)
+turn_at None = modes.CharTurn.char
 
-unfoldable pub is_escape : ℕ → Bool
-unfolding escape_of
-is_escape b = is_some (escape_of b)
-
-abbrev pub char_turn_of : CharTurn → modes.CharTurn
-char_turn_of (Stay c) = modes.CharTurn.stay (char_at c)
-char_turn_of Char = modes.CharTurn.char
-char_turn_of Bad = modes.CharTurn.bad
-
-abbrev pub KnownChar : CharTurn → Type 0
-KnownChar (Stay c) = c < char_count
-KnownChar Char = Unit {0}
-KnownChar Bad = Unit {0}
-
-pub record CharGoes (r : CharTurn) (t : modes.CharTurn) : Type 0 where
-  pub same : char_turn_of r ≡ t
-  pub known : KnownChar r
+abbrev pub CharGoes : Result (Option CharMode) MessageRefusal → modes.CharTurn → Type 0
+CharGoes (Ok o) t = turn_at o ≡ t
+CharGoes (Err x) t = (x ≡ NotText) × (modes.CharTurn.bad ≡ t)
 
 -- Numbers and words
-abbrev pub number_turn_of : NumberTurn → Option NumberState
-number_turn_of (On m) = some (number_at m)
-number_turn_of Off = none
+abbrev pub number_turn_of : Option NumberMode → math.Option NumberState
+number_turn_of (Some n) = math.some (number_of n)
+number_turn_of None = math.none
 
-abbrev pub KnownNumber : NumberTurn → Type 0
-KnownNumber (On m) = (first_number ≤ m) × (m < first_word)
-KnownNumber Off = Unit {0}
+abbrev pub is_some : {A : Type 0} → math.Option A → Bool
+is_some (math.some c) = true
+is_some math.none = false
 
-pub record NumberGoes (r : NumberTurn) (y : Option NumberState) : Type 0 where
-  pub same : number_turn_of r ≡ y
-  pub known : KnownNumber r
+-- what a word wants is a byte and then the rest
+abbrev pub rest_of : Option Word → List ℕ
+rest_of (Some w) = spelling w
+rest_of None = []
 
-abbrev pub wanted_byte : List ℕ → ℕ
-wanted_byte [] = 0
-wanted_byte (w ∷ ws) = w
+-- Brackets
+abbrev pub BracketsAt : ℕ → Option Brackets → Type 0
+BracketsAt n (Some s) = n ≡ s.bits
+BracketsAt n None = Nest n → ⊥
 
-abbrev pub wanted_rest : List ℕ → List ℕ
-wanted_rest [] = []
-wanted_rest (w ∷ ws) = ws
+abbrev pub open_of : Brackets → List Bool
+open_of s = brackets_of s.bits
 
-pub record WordGoes (m : ℕ) (ws : List ℕ) : Type 0 where
-  pub same : mode_at m ≡ modes.spelled ws
-  pub known : Known m
+-- one more is open, where a level is left
+abbrev pub OneMore : Bool → Brackets → Option Brackets → Type 0
+OneMore f s (Some r) = (open_of r ≡ f ∷ open_of s) × (ltb (length (open_of s)) message_levels ≡ true)
+OneMore f s None = ltb (length (open_of s)) message_levels ≡ false
+
+-- one less, where it is not the last
+abbrev pub OneLess : Brackets → Option Brackets → Type 0
+OneLess s (Some r) = modes.close_turn (open_of s) ≡ modes.Turn.to (modes.Mode.at modes.Point.after) (open_of r)
+OneLess s None = modes.close_turn (open_of s) ≡ modes.Turn.ended
+
+pub record Innermost (s : Brackets) (f : Bool) : Type 0 where
+  pub outer : List Bool
+  pub same : open_of s ≡ f ∷ outer
 
 -- Steps
-abbrev pub turn_of : Turn → modes.Turn
-turn_of (To m n) = modes.Turn.to (mode_at m) (brackets_of n)
-turn_of Ended = modes.Turn.ended
-turn_of Stuck = modes.Turn.stuck
-turn_of Over = modes.Turn.over
-
-pub record Inner (m n : ℕ) : Type 0 where
-  pub known : Known m
-  pub nest : Nest n
-
-abbrev pub InnerTurn : Turn → Type 0
-InnerTurn (To m n) = Inner m n
-InnerTurn Ended = Unit {0}
-InnerTurn Stuck = Unit {0}
-InnerTurn Over = Unit {0}
-
-pub record Steps (r : Turn) (t : modes.Turn) : Type 0 where
-  pub same : turn_of r ≡ t
-  pub inner : InnerTurn r
-
--- the character that a mode is inside of, in a string or in a key
-pub record CharOf (m c : ℕ) : Type 0 where
-  pub same : mode_at m ≡ modes.Mode.inside_char (leb first_key_char m) (char_at c)
+abbrev pub stepped : Result (Option Place) MessageRefusal → feeding.Outcome
+stepped (Ok (Some p)) = feeding.Outcome.keep (mode_of p.mode) (open_of p.brackets)
+stepped (Ok None) = feeding.Outcome.ends
+stepped (Err x) = feeding.Outcome.refuse x Standing.skipping
 
 -- States
 abbrev pub standing_of : State → Standing
 standing_of Between = Standing.between
 standing_of Skipping = Standing.skipping
-standing_of (Inside m n k) = Standing.inside (mode_at m) (brackets_of n) k
-
-abbrev pub InnerState : State → Type 0
-InnerState Between = Unit {0}
-InnerState Skipping = Unit {0}
-InnerState (Inside m n k) = Inner m n
-
-pub record StateOf (w : Words) (s : State) : Type 0 where
-  pub stands : stands_for w.mode w.nest w.len ≡ standing_of s
-  pub inner : InnerState s
+standing_of (Inside p k) = Standing.inside (mode_of p.mode) (open_of p.brackets) k
 
 pub record WordsOf (s : State) (w : Words) : Type 0 where
   pub stands : stands_for w.mode w.nest w.len ≡ standing_of s
@@ -126,22 +176,10 @@ pub record WordsOf (s : State) (w : Words) : Type 0 where
 abbrev pub outcome_for : Outcome → feeding.Outcome
 outcome_for ToBetween = feeding.Outcome.pass Standing.between
 outcome_for ToSkipping = feeding.Outcome.pass Standing.skipping
-outcome_for (Keep m n) = feeding.Outcome.keep (mode_at m) (brackets_of n)
+outcome_for (Keep p) = feeding.Outcome.keep (mode_of p.mode) (open_of p.brackets)
 outcome_for Whole = feeding.Outcome.ends
 outcome_for (Lost x) = feeding.Outcome.refuse x Standing.skipping
 outcome_for Cleared = feeding.Outcome.refuse NotText Standing.between
-
-abbrev pub InnerOutcome : Outcome → Type 0
-InnerOutcome ToBetween = Unit {0}
-InnerOutcome ToSkipping = Unit {0}
-InnerOutcome (Keep m n) = Inner m n
-InnerOutcome Whole = Unit {0}
-InnerOutcome (Lost x) = Unit {0}
-InnerOutcome Cleared = Unit {0}
-
-pub record Does (limit : ℕ) (s : Standing) (b : ℕ) (r : Outcome) : Type 0 where
-  pub same : outcome_for r ≡ byte limit s b
-  pub inner : InnerOutcome r
 
 -- Pieces
 -- a byte of a string that is a whole character
@@ -164,13 +202,9 @@ pub record Runs (md : modes.Mode) (old piece : List ℕ) (from start limit : ℕ
 pub record RunsStrings (old piece : List ℕ) (from start limit : ℕ) (new : List ℕ) (e : ℕ) : Type 0 where
   pub runs : (d : Bool) → Runs (modes.Mode.in_string d) old piece from start limit new e
 
-abbrev pub fed_by : State → Said → ℕ → Fed
-fed_by s o n = record { state = s; said = o; taken = n }
-
 -- a call: the buffer, the piece and the state before, the buffer and what is given after
-pub record Feeds (old piece : List ℕ) (s : State) (new : List ℕ) (r : Fed) : Type 0 where
+pub record Feeds (old piece : List ℕ) (s : State) (new : List ℕ) (r : Fed State) : Type 0 where
   pub told : call (limit_of (length old)) (standing_of s) old piece ≡ record { said = r.said; taken = r.taken; standing = standing_of r.state; buffer = new }
-  pub inner : InnerState r.state
 
 -- The reader
 abbrev pub start_words : Words
@@ -180,6 +214,6 @@ abbrev pub standing_by : Words → Standing
 standing_by w = stands_for w.mode w.nest w.len
 
 -- the whole outcome of a call: the buffer, the piece and the words before, the buffer and what is given after
-pub record ReadsPiece (old piece : List ℕ) (w : Words) (new : List ℕ) (r : Read) : Type 0 where
-  pub told : call (limit_of (length old)) (standing_by w) old piece ≡ record { said = r.said; taken = r.taken; standing = standing_by r.words; buffer = new }
-  pub normal : Normal r.words.mode r.words.nest r.words.len
+pub record ReadsPiece (old piece : List ℕ) (w : Words) (new : List ℕ) (r : Fed Words) : Type 0 where
+  pub told : call (limit_of (length old)) (standing_by w) old piece ≡ record { said = r.said; taken = r.taken; standing = standing_by r.state; buffer = new }
+  pub normal : Normal r.state.mode r.state.nest r.state.len

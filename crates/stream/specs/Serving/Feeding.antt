@@ -1,12 +1,10 @@
 -- Serves contracts and proofs. The reader of streams: a byte, a call over a piece up to the first output, and a run of calls over all bytes.
-use Rattle.std.specs.Prelude.{ℕ, suc, Bool, cond, ◌||◌, List, [], ◌∷◌, set, ltb, eqb}
+use Rattle.std.specs.Prelude.{ℕ, suc, Bool, cond, ◌||◌, List, [], ◌∷◌, Some, None, Ok, Err, set, ltb, eqb}
 use Prim.Native.Char.{code}
 use Rattle.grammar.specs.Lexis.{blank}
 use Rattle.rules.specs.declared.MessageRefusal.{MessageRefusal}
 use Rattle.rules.specs.declared.MessageRefusal.TheVariants.{TooLong, NotText, TooDeep}
-use Rattle.stream.specs.declared.pieces.Said.{Said}
-use Rattle.stream.specs.declared.pieces.Said.TheVariants.{Nothing, Message, Refused}
-use Rattle.stream.specs.Stream.{clears, opens, Output, onto}
+use Rattle.stream.specs.Stream.{clears, opens, Output, Said, onto}
 use Rattle.stream.specs.Serving.Modes.{Mode, Turn, Turn.to, Turn.ended, Turn.stuck, Turn.over, opened_mode, turn}
 
 -- where the reader stands: between messages, in what a refusal skips, or inside a message: what is read next, the open brackets, and how many of its bytes are in the buffer
@@ -48,10 +46,10 @@ pub record Step : Type 0 where
 
 -- a byte that is kept goes to its index n of the buffer
 abbrev pub act : Outcome → ℕ → List ℕ → ℕ → Step
-act (pass t) n buf b = record { said = Nothing; standing = t; buffer = buf }
-act (keep md fs) n buf b = record { said = Nothing; standing = inside md fs (suc n); buffer = set buf n b }
-act ends n buf b = record { said = Message (suc n); standing = between; buffer = set buf n b }
-act (refuse x t) n buf b = record { said = Refused x; standing = t; buffer = buf }
+act (pass t) n buf b = record { said = Ok None; standing = t; buffer = buf }
+act (keep md fs) n buf b = record { said = Ok None; standing = inside md fs (suc n); buffer = set buf n b }
+act ends n buf b = record { said = Ok (Some (suc n)); standing = between; buffer = set buf n b }
+act (refuse x t) n buf b = record { said = Err x; standing = t; buffer = buf }
 
 unfoldable pub step : ℕ → Standing → List ℕ → ℕ → Step
 unfolding byte
@@ -73,10 +71,10 @@ stop t = record { said = t.said; taken = 1; standing = t.standing; buffer = t.bu
 
 unfoldable pub call : ℕ → Standing → List ℕ → List ℕ → Call
 unfolding step
-call limit s buf [] = record { said = Nothing; taken = 0; standing = s; buffer = buf }
+call limit s buf [] = record { said = Ok None; taken = 0; standing = s; buffer = buf }
 call limit s buf (b ∷ l) =
     let t = step limit s buf b in
-    elim t.said [ Nothing ↦ later (call limit t.standing t.buffer l) | Message n ↦ stop t | Refused x ↦ stop t ]
+    elim t.said [ Ok None ↦ later (call limit t.standing t.buffer l) | Ok (Some n) ↦ stop t | Err x ↦ stop t ]
 
 -- a run of calls: all that is handed out, where the reader stands then, and the buffer
 pub record Run : Type 0 where

@@ -1,12 +1,15 @@
--- `words_of` gives words that stand for the state.
-use Rattle.stream.proofs.StateLaws.{between-words, skipping-words, inside-words}
+use mathlib.Core.Path.{refl}
+use Rattle.stream.specs.Serving.States.{stands_for, Normal}
+use Rattle.stream.proofs.StateLaws.{words_at}
 use Rattle.stream.proofs.state.words_of.Goals as goal
 
 pub returns-in-Between : goal.returns-in-Between
-returns-in-Between c = between-words c.in-Between.is
+unfolding stands_for
+returns-in-Between c = rw (c.in-Between.is, c.start.ensures) (record { stands = refl; normal = Normal.between })
 
 pub returns-in-Skipping : goal.returns-in-Skipping
-returns-in-Skipping c = skipping-words c.in-Skipping.is
+unfolding stands_for
+returns-in-Skipping c = rw c.in-Skipping.is (record { stands = refl; normal = Normal.skipping })
 
 pub returns-in-Inside : goal.returns-in-Inside
-returns-in-Inside c = inside-words c.in-Inside.is c.requires
+returns-in-Inside c = rw c.in-Inside.is (words_at _ c.number.ensures c.bits.ensures)

@@ -1,9 +1,0 @@
--- `within` is the test of specs, one bound after the other.
-use borrow.Author.Tests.{le-leb, lt-leb}
-use Rattle.stream.proofs.chars.within.Goals as goal
-
-pub returns-then-low-x : goal.returns-then-low-x
-returns-then-low-x c = simp (le-leb _ _ c.if-low-x.true)
-
-pub returns-else-low-x : goal.returns-else-low-x
-returns-else-low-x c = simp (lt-leb _ _ c.if-low-x.false)

@@ -1,9 +1,0 @@
--- `is_e` is one of two tests.
-use borrow.Author.Tests.{eq-eqb, ne_eqb}
-use Rattle.stream.proofs.literals.is_e.Goals as goal
-
-pub returns-then-b-eq101 : goal.returns-then-b-eq101
-returns-then-b-eq101 c = simp (eq-eqb _ _ c.if-b-eq101.true)
-
-pub returns-else-b-eq101 : goal.returns-else-b-eq101
-returns-else-b-eq101 c = simp (ne_eqb _ _ c.if-b-eq101.false)

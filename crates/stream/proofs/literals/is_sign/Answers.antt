@@ -1,9 +1,0 @@
--- `is_sign` is one of two tests.
-use borrow.Author.Tests.{eq-eqb, ne_eqb}
-use Rattle.stream.proofs.literals.is_sign.Goals as goal
-
-pub returns-then-b-eq45 : goal.returns-then-b-eq45
-returns-then-b-eq45 c = simp (eq-eqb _ _ c.if-b-eq45.true)
-
-pub returns-else-b-eq45 : goal.returns-else-b-eq45
-returns-else-b-eq45 c = simp (ne_eqb _ _ c.if-b-eq45.false)
