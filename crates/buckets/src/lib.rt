@@ -13,12 +13,6 @@ pub fn bucket_of(hash: u32) -> usize
     hash as usize % BUCKETS
 }
 
-fn number(word: u32) -> usize
-    ensures { result ≡ word }
-{
-    word as usize
-}
-
 // Puts item i first in the bucket of its hash.
 pub fn add(heads: &mut [u32; BUCKETS], links: &mut [u32], hash: u32, i: usize)
     requires { (i < length links.old) × (i + 1 < 2 ^ 32) }
@@ -33,8 +27,7 @@ pub fn add(heads: &mut [u32; BUCKETS], links: &mut [u32], hash: u32, i: usize)
 pub fn first(heads: &[u32; BUCKETS], hash: u32) -> usize
     ensures { result ≡ get_or heads.now (bucket_of hash) 0 }
 {
-    let h = bucket_of(hash);
-    number(heads[h])
+    heads[bucket_of(hash)] as usize
 }
 
 // The word of the item after item i; 0 past the end.
@@ -44,5 +37,5 @@ pub fn next(links: &[u32], i: usize) -> usize
     if links.len() <= i {
         return 0;
     }
-    number(links[i])
+    links[i] as usize
 }

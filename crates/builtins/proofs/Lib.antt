@@ -1,4 +1,3 @@
 -- The laws of each file.
 pub mod NameLaws
 pub mod KindLaws
-pub mod RangeLaws

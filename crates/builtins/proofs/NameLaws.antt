@@ -7,11 +7,14 @@ use mathlib.Core.List.{List, []}
 use native.Mathlib.Omega.{arith}
 use lib.ListN.{length, get_or, take, drop}
 use lib.Seq.{drop-cons}
+use native.Mathlib.Numerals.{add-one}
+use Rattle.std.specs.Prelude.{Some, None}
 use Rattle.grammar.specs.Notation.{same}
 use Rattle.grammar.specs.Serving.TextTable.{joined_texts, bounds_from}
 use Rattle.grammar.proofs.TextTables.{part_at}
 use Rattle.rules.specs.Types.{built_ins, first_row}
 use Rattle.rules.specs.SchemaTable.{place_in, later}
+use Rattle.builtins.specs.Names.{if_any}
 
 -- the name of built-in b in a text that holds the names
 pub record NameAt (text : List ℕ) (b from to : ℕ) : Type 0 where
@@ -49,15 +52,15 @@ module _ {x : List ℕ} where
   unmet_start = record { low = omega arith; high = omega arith; rest = behind-none (place_in built_ins x) }
 
   module _ {b : ℕ} (u : Unmet x b) where
-    pub unmet_end : first_row ≤ b → 0 ≡ place_in built_ins x
-    unmet_end h = let z : b ≡ first_row = omega (arith, u.high) in sym (u.rest ∙ rw z)
+    pub unmet_end : first_row ≤ b → None ≡ if_any (place_in built_ins x)
+    unmet_end h = let z : b ≡ first_row = omega (arith, u.high) in let e : place_in built_ins x ≡ 0 = u.rest ∙ rw z in sym (ap if_any e)
 
     module _ (h : b < first_row) {y : List ℕ} (p : y ≡ get_or built_ins (b - 1) []) {t : Bool} (q : t ≡ same x y) where
       at_name : place_in built_ins x ≡ behind (b - 1) (cond t 1 (later (place_in (drop (suc (b - 1)) built_ins) x)))
       at_name = u.rest ∙ rw (drop-cons built_ins (b - 1) [] (omega arith), ← p, ← q)
 
-      pub unmet_hit : t ≡ true → b ≡ place_in built_ins x
-      unmet_hit e = let z : b ≡ b - 1 + 1 = omega (arith, u.low) in sym (at_name ∙ rw e (sym z))
+      pub unmet_hit : t ≡ true → Some b ≡ if_any (place_in built_ins x)
+      unmet_hit e = let z : b ≡ suc (b - 1) = omega (arith, u.low) in let q : place_in built_ins x ≡ suc (b - 1) = at_name ∙ rw e (add-one (b - 1)) in ap Some z ∙ sym (ap if_any q)
 
       pub unmet_on : t ≡ false → Unmet x (b + 1)
       unmet_on e = record {

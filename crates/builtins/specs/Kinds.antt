@@ -1,21 +1,25 @@
--- Serves contracts: JSON kinds as columns of the grid.
-use Rattle.std.specs.Prelude.{ℕ, ◌≡◌, Bool, ◌∷◌, get_or}
+-- Serves contracts: JSON kinds of the code as the rules have them, and the kind of a built-in.
+use Rattle.std.specs.Prelude as Code
+use Rattle.std.specs.Prelude.{ℕ, ◌∷◌, get_or}
 use Rattle.std.proofs.Math.Option.{Option, none, some}
 use Rattle.grammar.specs.Tree.{Kind}
-use Rattle.rules.specs.Types.{built_in_kinds, column, takes}
+use Rattle.grammar.specs.Tree.Kind.{object, array, string, number, boolean, null_kind}
+use Rattle.rules.specs.Types.{built_in_kinds}
+use Rattle.builtins.specs.declared.json.JsonKind.{JsonKind}
+use Rattle.builtins.specs.declared.json.JsonKind.TheVariants as Variants
 
--- past the columns: no kind
-abbrev pub no_column : ℕ
-no_column = 6
+abbrev pub kind_in : JsonKind → Kind
+kind_in Variants.Object = object
+kind_in Variants.Array = array
+kind_in Variants.String = string
+kind_in Variants.Number = number
+kind_in Variants.Boolean = boolean
+kind_in Variants.Null = null_kind
 
-abbrev pub kind_column : Option Kind → ℕ
-kind_column none = no_column
-kind_column (some k) = column k
+abbrev pub kind_as : Code.Option JsonKind → Option Kind
+kind_as Code.None = none
+kind_as (Code.Some k) = some (kind_in k)
 
 -- the JSON kind of built-in number b
 abbrev pub built_in_kind : ℕ → Option Kind
 built_in_kind b = get_or (none ∷ built_in_kinds) b none
-
--- r tells whether built-in b takes the kind with the column c
-pub record TakesKind (b c : ℕ) (r : Bool) : Type 0 where
-  pub told : (k : Kind) → column k ≡ c → r ≡ takes b k

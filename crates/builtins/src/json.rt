@@ -1,15 +1,24 @@
-// The JSON kinds, by their columns of the grid in `rules` specs/Types.
-pub const OBJECT: u32 = 0;
+// The JSON kinds, in the order of the grid's columns in `rules` specs/Types.
+ghost use Rattle.std.specs.Prelude.{◌≡◌};
+ghost use Rattle.rules.specs.Types.{column};
+ghost use Rattle.builtins.specs.Kinds.{kind_in};
 
-pub const ARRAY: u32 = 1;
+#[derive(Clone, Copy, PartialEq, Eq)]
+pub enum JsonKind {
+    Object,
+    Array,
+    String,
+    Number,
+    Boolean,
+    Null,
+}
 
-pub const STRING: u32 = 2;
+// How many there are.
+pub const JSON_KINDS: usize = 6;
 
-pub const NUMBER: u32 = 3;
-
-pub const BOOLEAN: u32 = 4;
-
-pub const NULL: u32 = 5;
-
-// No kind, as specs/Kinds has it.
-pub const NONE: u32 = 6;
+// The column of a kind.
+pub fn column(kind: JsonKind) -> usize
+    ensures { result ≡ column (kind_in kind) }
+{
+    kind as usize
+}

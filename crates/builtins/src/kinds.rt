@@ -1,24 +1,26 @@
 // The JSON kind of each built-in, and the grid of the kinds that it takes.
 ghost use Rattle.std.specs.Prelude.{◌≡◌};
-ghost use Rattle.builtins.specs.Kinds.{kind_column, built_in_kind, TakesKind};
+ghost use Rattle.rules.specs.Types.{takes};
+ghost use Rattle.builtins.specs.Kinds.{kind_in, kind_as, built_in_kind};
 
-use crate::{ANY, BOOL, NULL, NUMBER, SIZE, STR, json};
+use crate::json::{JSON_KINDS, JsonKind, column};
+use crate::{ANY, BOOL, NULL, NUMBER, SIZE, STR};
 
 // The JSON kind of built-in b; `any` has none of its own, and no other number has one.
-pub fn built_in_kind(b: usize) -> u32
-    ensures { result ≡ kind_column (built_in_kind b) }
+pub fn built_in_kind(b: usize) -> Option<JsonKind>
+    ensures { kind_as result ≡ built_in_kind b }
 {
     match b {
-        STR => json::STRING,
-        NUMBER..=SIZE => json::NUMBER,
-        BOOL => json::BOOLEAN,
-        NULL => json::NULL,
-        _ => json::NONE,
+        STR => Some(JsonKind::String),
+        NUMBER..=SIZE => Some(JsonKind::Number),
+        BOOL => Some(JsonKind::Boolean),
+        NULL => Some(JsonKind::Null),
+        _ => None,
     }
 }
 
 // Which JSON kinds each built-in takes, from number 1 on, in the order of `json`: object, array, string, number, boolean, null.
-const GRID: [[bool; json::NONE as usize]; ANY] = [
+const GRID: [[bool; JSON_KINDS]; ANY] = [
     [false, false, true, false, false, false],
     [false, false, false, true, false, false],
     [false, false, false, true, false, false],
@@ -37,8 +39,8 @@ const GRID: [[bool; json::NONE as usize]; ANY] = [
 ];
 
 // Whether built-in b takes the JSON kind k; no other number takes any.
-pub fn takes(b: usize, k: u32) -> bool
-    ensures { TakesKind b k result }
+pub fn takes(b: usize, k: JsonKind) -> bool
+    ensures { result ≡ takes b (kind_in k) }
 {
     if b == 0 {
         return false;
@@ -46,8 +48,5 @@ pub fn takes(b: usize, k: u32) -> bool
     if ANY < b {
         return false;
     }
-    if json::NONE <= k {
-        return false;
-    }
-    GRID[b - 1][k as usize]
+    GRID[b - 1][column(k)]
 }

@@ -1,4 +1,5 @@
 // The built-in types: their numbers here, their names, the JSON kinds that they take and the ranges of the integer types in the modules.
+// The numbers stay numbers, since they are the type references of a table's words, which C callers read (include/, `windosprio_compile_schema`).
 #![tactic(auto)]
 
 pub mod json;

@@ -3,6 +3,7 @@ ghost use Rattle.std.specs.Prelude.{◌≡◌, ◌-◌, ◌<◌, [], get_or};
 ghost use Rattle.grammar.specs.Serving.TextTable.{joined_texts, bounds_from};
 ghost use Rattle.rules.specs.Types.{built_ins, first_row};
 ghost use Rattle.rules.specs.SchemaTable.{place_in};
+ghost use Rattle.builtins.specs.Names.{if_any};
 
 use crate::FIRST_ROW;
 use rows::names::same_bytes;
@@ -34,18 +35,16 @@ pub fn name_in<'a>(text: &'a [u8], bounds: &[usize; FIRST_ROW], b: usize) -> &'a
     &text[from..to]
 }
 
-// The number of the built-in of that name, 0 if there is none.
-pub fn built_in(name: &[u8]) -> u32
-    ensures { result ≡ place_in built_ins name.now }
+// The number of the built-in of that name.
+pub fn built_in(name: &[u8]) -> Option<u32>
+    ensures { result ≡ if_any (place_in built_ins name.now) }
 {
     let text = name_text();
     let bounds = name_bounds();
-    let mut b = 1;
-    while b < FIRST_ROW {
+    for b in 1..FIRST_ROW {
         if same_bytes(name, name_in(&text, &bounds, b)) {
-            return b as u32;
+            return Some(b as u32);
         }
-        b += 1;
     }
-    0
+    None
 }

@@ -5,15 +5,13 @@ use mathlib.Core.Bool.{Bool, true, false, not}
 use mathlib.Core.List.{List}
 use native.Mathlib.Numerals.{add-one}
 use native.Mathlib.Omega.{arith}
-use Rattle.grammar.specs.Notation.{all}
 use Rattle.rules.specs.Rows.{count, next, walk, past, owns, first_child, children, past_children, name_of}
-use Rattle.rules.specs.Rules.{any}
 use Rattle.rules.specs.Names.{same_name}
 use Rattle.rules.specs.SchemaTable.{member_in}
 use Rattle.rules.proofs.TableRows.{first_plain, first-owner}
 use Rattle.rows.specs.Rows.{Follows, Room, First, Counted}
 use Rattle.rows.proofs.Walks.{granted, denied}
-use Rattle.rows.proofs.LoopLaws.{WalkLeft, left_hit, left-on, left-ends, AllWalk, AnyWalk}
+use Rattle.rows.proofs.LoopLaws.{WalkLeft, left_hit, left-on, left-ends}
 
 -- the first child
 module _ {T : List ℕ} {r s : ℕ} {b : Bool} (p : Follows T r s) (o : b ≡ owns T r) where
@@ -41,12 +39,6 @@ module _ {T : List ℕ} {r a n : ℕ} (p : First T r a) (q : Counted T r n) wher
 
   pub left-children : {A : Type 0} {whole : A} (g : List ℕ → A) → whole ≡ g (children T r) → WalkLeft g T whole a n
   left-children g h = record { left = h ∙ ap g children-walk }
-
-  pub all-children : {whole : Bool} (f : ℕ → Bool) → whole ≡ all f (children T r) → AllWalk whole T f a n
-  all-children f h = record { left = h ∙ ap (all f) children-walk }
-
-  pub any-children : {whole : Bool} (f : ℕ → Bool) → whole ≡ any f (children T r) → AnyWalk whole T f a n
-  any-children f h = record { left = h ∙ ap (any f) children-walk }
 
 -- a walk for a name: `whole` is the link of the first of the rows left that has the name x
 pub record LinkLeft (whole : ℕ) (S T x : List ℕ) (c n : ℕ) : Type 0 where

@@ -1,8 +1,8 @@
 -- Names looked up in an index of rows: a walk along a chain, a row that comes into the index, and a run of rows from its last to its first.
 -- The idea: the rows left of a chain decide what all of them do; names that clash have one hash, so a bucket tells of all rows in the index.
 use Prim.{Unit, tt}
-use Prim.Native.Nat.{ℕ, ◌-◌, ◌≤◌, ◌<◌}
-use mathlib.Core.Path.{◌≡◌, refl, sym, ap, ◌∙◌}
+use Prim.Native.Nat.{ℕ, zero, suc, ◌-◌, ◌≤◌, ◌<◌}
+use mathlib.Core.Path.{◌≡◌, refl, sym, ap, ◌∙◌, subst}
 use mathlib.Core.Bool.{Bool, true, false, not, ◌&&◌, and-true, and-false}
 use mathlib.Core.List.{List, [], ◌∷◌}
 use native.Mathlib.Omega.{arith}
@@ -22,9 +22,7 @@ use Rattle.rows.specs.Index.{itself, row_hash, RowIndex, Unlisted, Entered}
 use Rattle.rules.proofs.Clashes.{clash-sym}
 use Rattle.rules.proofs.TableRows.{next-above, past-above}
 use Rattle.rows.proofs.HashLaws.{clash-hash}
-use Rattle.rows.specs.Rows.{Follows}
 use Rattle.rows.proofs.ListLaws.{all_map, all_same, all_both, all_true}
-use Rattle.rows.proofs.LoopLaws.{walk_at, walk-over}
 
 -- a walk along a chain of rows, for what f says of them
 module _ {A : Type 0} (f : List ℕ → A) (links : List ℕ) where
@@ -141,40 +139,71 @@ module _ (S T : List ℕ) where
   below_more c d [] h b = tt
   below_more c d (r ∷ rs) h b = (omega (arith, b.0), below_more c d rs h b.1)
 
-  -- the rows before c are in the index; what is left decides whether all are apart
-  pub record RunIndex (whole : Bool) (heads links : List ℕ) (c n : ℕ) : Type 0 where
+  -- the rows rise from c on, and are below a bound
+  abbrev Rising : ℕ → ℕ → List ℕ → Type 0
+  Rising top c [] = Unit {0}
+  Rising top c (r ∷ rs) = (c ≤ r) × (r < top) × Rising top (suc r) rs
+
+  walk-rises : (top n c : ℕ) → past T c n ≤ top → Rising top c (walk T c n)
+  unfolding walk past
+  walk-rises top zero c h = tt
+  walk-rises top (suc n) c h = (omega arith, omega (arith, next-above T c, past-above T n (next T c)), rises-from (suc c) (next T c) _ (omega (arith, next-above T c)) (walk-rises top n (next T c) h))
+    where
+      rises-from : (c d : ℕ) (rs : List ℕ) → c ≤ d → Rising top d rs → Rising top c rs
+      rises-from c d [] k r = tt
+      rises-from c d (x ∷ rs) k r = (omega (arith, r.0), r.1, r.2)
+
+  -- the rows before those left are in the index; what is left decides whether all are apart
+  pub record RunIndex (whole : Bool) (heads links : List ℕ) (top : ℕ) (rest : List ℕ) : Type 0 where
     pub before : List ℕ
-    pub lower : Below c before
-    pub few : length before ≤ c
+    pub from : ℕ
+    pub lower : Below from before
+    pub few : length before ≤ from
+    pub rises : Rising top from rest
     pub rows : RowIndex S T heads links before
-    pub left : whole ≡ apart_from before (walk T c n)
+    pub left : whole ≡ apart_from before rest
 
-  pub run-start : {heads : List ℕ} (links : List ℕ) (a n : ℕ) → heads ≡ replicate buckets 0 → RunIndex (apart clash (names_of S T (walk T a n))) heads links a n
-  run-start links a n z = record { before = []; lower = tt; few = omega arith; rows = index-none S T links z; left = apart-first (walk T a n) }
+  pub run-start : {heads : List ℕ} (links : List ℕ) (a n : ℕ) → past T a n ≤ length links → heads ≡ replicate buckets 0
+      → RunIndex (apart clash (names_of S T (walk T a n))) heads links (length links) (walk T a n)
+  run-start links a n h z = record {
+    before = [];
+    from = a;
+    lower = tt;
+    few = omega arith;
+    rises = walk-rises (length links) n a h;
+    rows = index-none S T links z;
+    left = apart-first (walk T a n);
+  }
 
-  pub run_end : {whole : Bool} {heads links : List ℕ} {c n : ℕ} → RunIndex whole heads links c n → n ≤ 0 → true ≡ whole
+  pub run_end : {whole : Bool} {heads links : List ℕ} {top : ℕ} {rest : List ℕ} → RunIndex whole heads links top rest → rest ≡ [] → true ≡ whole
   unfolding apart_from
-  run_end {c = c} v h = sym (v.left ∙ ap (apart_from v.before) (walk-over T c h))
+  run_end v e = sym (v.left ∙ ap (apart_from v.before) e)
 
-  module _ {whole : Bool} {heads links heads' links' : List ℕ} {c n : ℕ} {b : Bool} (v : RunIndex whole heads links c n) (more : 0 < n) (room : past T c n ≤ length links)
-      (q : Entered S T heads links c heads' links' b) where
-    here : (b ≡ fresh_in S T (name_of S T c) v.before) × (b ≡ true → RowIndex S T heads' links' (c ∷ v.before))
-    here = q.told v.before v.rows (below_free c v.before v.lower) (omega (arith, v.few, past-above T n c))
+  module _ {whole : Bool} {heads links : List ℕ} {top r : ℕ} {rest rest' : List ℕ} (v : RunIndex whole heads links top rest) (e : rest ≡ r ∷ rest') where
+    rising : Rising top v.from (r ∷ rest')
+    rising = subst (Rising top v.from) e v.rises
 
-    goes : {c' : ℕ} → c' ≡ next T c → whole ≡ (b && apart_from (c ∷ v.before) (walk T c' (n - 1)))
-    unfolding apart_from
-    goes {c'} p = v.left ∙ ap (apart_from v.before) (walk_at T more p) ∙ ap (λ (t : Bool). t && apart_from (c ∷ v.before) (walk T c' (n - 1))) (sym here.0)
+    pub run-within : r < top
+    run-within = rising.1
 
-    pub run_hit : b ≡ false → false ≡ whole
-    run_hit t = sym (goes refl ∙ rw t)
+    module _ {heads' links' : List ℕ} {b : Bool} (room : length links ≡ top) (q : Entered S T heads links r heads' links' b) where
+      here : (b ≡ fresh_in S T (name_of S T r) v.before) × (b ≡ true → RowIndex S T heads' links' (r ∷ v.before))
+      here = q.told v.before v.rows (below_free r v.before (below_more v.from r v.before rising.0 v.lower)) (omega (arith, v.few, rising.0, rising.1))
 
-    pub run_on : b ≡ true → {c' : ℕ} → Follows T c c' → RunIndex whole heads' links' c' (n - 1)
-    run_on t {c'} p =
-        let up : c < c' = omega (arith, p.is, next-above T c) in
-        record {
-          before = c ∷ v.before;
-          lower = (up, below_more c c' v.before (omega arith) v.lower);
-          few = omega (arith, v.few);
-          rows = here.1 t;
-          left = goes p.is ∙ rw t;
-        }
+      goes : whole ≡ (b && apart_from (r ∷ v.before) rest')
+      unfolding apart_from
+      goes = v.left ∙ ap (apart_from v.before) e ∙ ap (λ (t : Bool). t && apart_from (r ∷ v.before) rest') (sym here.0)
+
+      pub run_hit : b ≡ false → false ≡ whole
+      run_hit t = sym (goes ∙ rw t)
+
+      pub run_on : b ≡ true → RunIndex whole heads' links' top rest'
+      run_on t = record {
+        before = r ∷ v.before;
+        from = suc r;
+        lower = (omega arith, below_more v.from (suc r) v.before (omega (arith, rising.0)) v.lower);
+        few = omega (arith, v.few, rising.0);
+        rises = rising.2;
+        rows = here.1 t;
+        left = goes ∙ rw t;
+      }

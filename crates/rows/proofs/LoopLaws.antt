@@ -9,7 +9,7 @@ use lib.Dec.{eqb}
 use borrow.Author.Tests.{eq-eqb, ne_eqb}
 use Rattle.grammar.specs.Notation.{all}
 use Rattle.rules.specs.Rows.{up_from, row_count, kind, next, walk, past}
-use Rattle.rules.specs.Rules.{any, every_row}
+use Rattle.rules.specs.Rules.{every_row}
 use Rattle.rules.proofs.TableRows.{next-above, walk_none, walk_more, past-none, past_more, past-above}
 use Rattle.rows.specs.Rows.{Follows, Room}
 use Rattle.rows.proofs.Walks.{up_from-end, up_from-on}
@@ -81,33 +81,6 @@ module _ {A : Type 0} {g : List ℕ → A} {T : List ℕ} {whole : A} {c n : ℕ
 
   pub left-ends : n ≤ 0 → g [] ≡ whole
   left-ends h = sym (l.left ∙ ap g (walk-over T c h))
-
--- `whole` is true where f holds of all of them, or of some
-pub record AllWalk (whole : Bool) (T : List ℕ) (f : ℕ → Bool) (c n : ℕ) : Type 0 where
-  pub left : whole ≡ all f (walk T c n)
-
-module _ {whole : Bool} {T : List ℕ} {f : ℕ → Bool} {c n : ℕ} (l : AllWalk whole T f c n) where
-  pub all_miss : 0 < n → f c ≡ false → false ≡ whole
-  all_miss h q = sym (l.left ∙ ap (all f) (walk_at T h refl) ∙ rw q)
-
-  pub all-next : 0 < n → f c ≡ true → {c' : ℕ} → Follows T c c' → AllWalk whole T f c' (n - 1)
-  all-next h q p = record { left = l.left ∙ ap (all f) (walk_at T h p.is) ∙ rw q }
-
-  pub all-over : n ≤ 0 → true ≡ whole
-  all-over h = sym (l.left ∙ ap (all f) (walk-over T c h))
-
-pub record AnyWalk (whole : Bool) (T : List ℕ) (f : ℕ → Bool) (c n : ℕ) : Type 0 where
-  pub left : whole ≡ any f (walk T c n)
-
-module _ {whole : Bool} {T : List ℕ} {f : ℕ → Bool} {c n : ℕ} (l : AnyWalk whole T f c n) where
-  pub any_here : 0 < n → f c ≡ true → true ≡ whole
-  any_here h q = sym (l.left ∙ ap (any f) (walk_at T h refl) ∙ rw q)
-
-  pub any_next : 0 < n → f c ≡ false → {c' : ℕ} → Follows T c c' → AnyWalk whole T f c' (n - 1)
-  any_next h q p = record { left = l.left ∙ ap (any f) (walk_at T h p.is) ∙ rw q }
-
-  pub any-over : n ≤ 0 → false ≡ whole
-  any-over h = sym (l.left ∙ ap (any f) (walk-over T c h))
 
 -- the walk from the next row on has room
 pub room_next : {T : List ℕ} {c n c' : ℕ} → Room c n → 0 < n → Follows T c c' → Room c' (n - 1)

@@ -2,13 +2,13 @@
 ghost use Rattle.std.specs.Prelude.{◌≡◌};
 ghost use Rattle.grammar.specs.Notation.{apart};
 ghost use Rattle.rules.specs.Names.{same_name, c_byte, clash};
-ghost use Rattle.rules.specs.Rows.{walk, name_of};
+ghost use Rattle.rules.specs.Rows.{name_of};
 ghost use Rattle.rules.specs.Rules.{names_of, no_clash};
 ghost use Rattle.rows.specs.Hashes.{back, hash_of, Hashes, Other, fresh_in};
-ghost use Rattle.rows.specs.Rows.{Room};
 
-use crate::names::{byte_back, c_byte, name_of, names_clash, same_bytes};
-use crate::rows::next_row;
+use crate::names::{byte_back, name_of, names_clash, same_bytes};
+use crate::walk::Walk;
+use sorted::orders::c_byte;
 
 // The byte k bytes before the end of a name, or the first, as it is in C; 0 of an empty name.
 fn c_byte_back(name: &[u8], k: usize) -> u8
@@ -29,121 +29,96 @@ pub fn hash_of(name: &[u8]) -> u32
     front + 37 * (a + 37 * (b + 37 * c))
 }
 
+// A name that is looked for, with its hash.
+#[derive(Clone, Copy)]
+pub struct Sought<'a> {
+    pub name: &'a [u8],
+    pub hash: u32,
+    ghost hashed: { hash ≡ hash_of name.now },
+}
+
+impl<'a> Sought<'a> {
+    pub fn of(name: &'a [u8]) -> Sought<'a>
+        ensures { result.name.now ≡ name.now }
+    {
+        Sought {
+            name,
+            hash: hash_of(name),
+        }
+    }
+}
+
 // Writes the hashes of the first rows, as many as there is room for.
 pub fn put_hashes(schema: &[u8], rows: &[u32], hashes: &mut [u32])
     ensures { Hashes schema.now rows.now hashes.new }
 {
-    let mut r = 0;
-    while r < hashes.len() {
+    for r in 0..hashes.len() {
         hashes[r] = hash_of(name_of(schema, rows, r));
-        r += 1;
     }
 }
 
-// Whether the hashes tell that row r has another hash than the one given.
-fn is_other(hashes: &[u32], r: usize, hash: u32) -> bool
-    ensures { Other hashes.now r hash result }
-{
-    if hashes.len() <= r {
-        return false;
-    }
-    hashes[r] != hash
+// Rows over a schema, with the hashes of the first rows' names.
+#[derive(Clone, Copy)]
+pub struct HashedRows<'a> {
+    pub schema: &'a [u8],
+    pub rows: &'a [u32],
+    pub hashes: &'a [u32],
+    ghost hashed: { Hashes schema.now rows.now hashes.now },
 }
 
-// Whether row r has a name whose hash is given.
-pub fn is_named(
-    schema: &[u8],
-    rows: &[u32],
-    hashes: &[u32],
-    r: usize,
-    name: &[u8],
-    hash: u32,
-) -> bool
-    requires { Hashes schema.now rows.now hashes.now × (hash ≡ hash_of name.now) }
-    ensures { result ≡ same_name name.now (name_of schema.now rows.now r) }
-{
-    if is_other(hashes, r, hash) {
-        return false;
+impl<'a> HashedRows<'a> {
+    // Whether row r has a hash that is told and another than the one given.
+    fn is_other(self, r: usize, hash: u32) -> bool
+        ensures { Other self.entry.hashes.now r hash result }
+    {
+        self.hashes.get(r).is_some_and(|known| *known != hash)
     }
-    same_bytes(name, name_of(schema, rows, r))
-}
 
-// Whether a name whose hash is given clashes with that of row r.
-pub fn clashes(
-    schema: &[u8],
-    rows: &[u32],
-    hashes: &[u32],
-    r: usize,
-    name: &[u8],
-    hash: u32,
-) -> bool
-    requires { Hashes schema.now rows.now hashes.now × (hash ≡ hash_of name.now) }
-    ensures { result ≡ clash name.now (name_of schema.now rows.now r) }
-{
-    if is_other(hashes, r, hash) {
-        return false;
-    }
-    names_clash(name, name_of(schema, rows, r))
-}
-
-// Whether the name of row a clashes with none of n rows from b on.
-pub fn is_fresh(schema: &[u8], rows: &[u32], hashes: &[u32], a: usize, b: usize, n: usize) -> bool
-    requires { Hashes schema.now rows.now hashes.now × Room b n }
-    ensures { result ≡ fresh_in schema.now rows.now (name_of schema.now rows.now a) (walk rows.now b n) }
-{
-    let name = name_of(schema, rows, a);
-    let hash = hash_of(name);
-    let mut i = b;
-    let mut left = n;
-    while 0 < left {
-        if clashes(schema, rows, hashes, i, name, hash) {
+    // Whether row r has a name.
+    pub fn is_named(self, r: usize, name: Sought<'_>) -> bool
+        ensures { result ≡ same_name name.entry.name.now (name_of self.entry.schema.now self.entry.rows.now r) }
+    {
+        if self.is_other(r, name.hash) {
             return false;
         }
-        i = next_row(rows, i);
-        left -= 1;
+        same_bytes(name.name, name_of(self.schema, self.rows, r))
     }
-    true
-}
 
-// Whether no two names of n rows from a on clash: each is compared with those after it.
-pub fn pairs_apart(schema: &[u8], rows: &[u32], hashes: &[u32], a: usize, n: usize) -> bool
-    requires { Hashes schema.now rows.now hashes.now × Room a n }
-    ensures { result ≡ apart clash (names_of schema.now rows.now (walk rows.now a n)) }
-{
-    let mut i = a;
-    let mut left = n;
-    while 0 < left {
-        let b = next_row(rows, i);
-        left -= 1;
-        if !is_fresh(schema, rows, hashes, i, b, left) {
+    // Whether a name clashes with that of row r.
+    pub fn clashes(self, r: usize, name: Sought<'_>) -> bool
+        ensures { result ≡ clash name.entry.name.now (name_of self.entry.schema.now self.entry.rows.now r) }
+    {
+        if self.is_other(r, name.hash) {
             return false;
         }
-        i = b;
+        names_clash(name.name, name_of(self.schema, self.rows, r))
     }
-    true
-}
 
-// Whether no name of m rows from a on clashes with one of n rows from b on.
-pub fn runs_apart(
-    schema: &[u8],
-    rows: &[u32],
-    hashes: &[u32],
-    a: usize,
-    m: usize,
-    b: usize,
-    n: usize,
-) -> bool
-    requires { Hashes schema.now rows.now hashes.now × Room a m × Room b n }
-    ensures { result ≡ no_clash (names_of schema.now rows.now (walk rows.now a m)) (names_of schema.now rows.now (walk rows.now b n)) }
-{
-    let mut i = a;
-    let mut left = m;
-    while 0 < left {
-        if !is_fresh(schema, rows, hashes, i, b, n) {
-            return false;
-        }
-        i = next_row(rows, i);
-        left -= 1;
+    // Whether the name of row r clashes with that of none among others.
+    pub fn is_fresh(self, r: usize, mut among: Walk<'_>) -> bool
+        ensures { result ≡ fresh_in self.entry.schema.now self.entry.rows.now (name_of self.entry.schema.now self.entry.rows.now r) among.entry }
+    {
+        let name = Sought::of(name_of(self.schema, self.rows, r));
+        among.all(|other| !self.clashes(other, name))
     }
-    true
+
+    // Whether no two names clash: each is compared with those after it.
+    pub fn pairs_apart(self, rows: Walk<'_>) -> bool
+        ensures { result ≡ apart clash (names_of self.entry.schema.now self.entry.rows.now rows.entry) }
+    {
+        let mut left = rows;
+        while let Some(r) = left.next() {
+            if !self.is_fresh(r, left.rest()) {
+                return false;
+            }
+        }
+        true
+    }
+
+    // Whether no name of the one rows clashes with one of the others.
+    pub fn runs_apart(self, mut rows: Walk<'_>, others: Walk<'_>) -> bool
+        ensures { result ≡ no_clash (names_of self.entry.schema.now self.entry.rows.now rows.entry) (names_of self.entry.schema.now self.entry.rows.now others.entry) }
+    {
+        rows.all(|r| self.is_fresh(r, others.rest()))
+    }
 }

@@ -5,3 +5,4 @@ pub mod hashes;
 pub mod index;
 pub mod names;
 pub mod rows;
+pub mod walk;

@@ -3,14 +3,13 @@ ghost use Rattle.std.specs.Prelude.{◌≡◌, take, drop, ◌&&◌, ◌||◌};
 ghost use Rattle.grammar.specs.Notation.{text, same, all, digit};
 ghost use Rattle.rules.specs.Names.{letter, name_byte, good_name, c_byte, clash};
 ghost use Rattle.rules.specs.Rows.{name_of};
-ghost use Rattle.strings.specs.Classes.{class_of, tabulate};
 ghost use Rattle.rows.specs.Hashes.{back};
 
-use crate::rows::{wide, word};
+use crate::rows::word;
 use rules::{NAME_BYTES, row};
+use sorted::orders::c_byte;
 use strings::bytes::{part_of, same_parts};
-use strings::class;
-use strings::classes::class_in;
+use strings::classes::Classes;
 
 // The byte k bytes before the end of a name, or the first of a shorter one; 0 of an empty name.
 pub fn byte_back(name: &[u8], k: usize) -> u8
@@ -40,30 +39,17 @@ pub fn same_bytes(x: &[u8], y: &[u8]) -> bool
     same_parts(x, 0, y, 0, n)
 }
 
-// The byte that a byte of a name becomes in C.
-pub fn c_byte(b: u8) -> u8
-    ensures { result ≡ c_byte b }
-{
-    if b == b'-' {
-        return b'_';
-    }
-    b
-}
-
 // Whether two names clash: one name in C.
 pub fn names_clash(x: &[u8], y: &[u8]) -> bool
     ensures { result ≡ clash x.now y.now }
 {
-    let n = x.len();
-    if n != y.len() {
+    if x.len() != y.len() {
         return false;
     }
-    let mut i = 0;
-    while i < n {
+    for i in 0..x.len() {
         if c_byte(x[i]) != c_byte(y[i]) {
             return false;
         }
-        i += 1;
     }
     true
 }
@@ -72,43 +58,30 @@ pub fn names_clash(x: &[u8], y: &[u8]) -> bool
 pub fn name_of<'a>(schema: &'a [u8], rows: &[u32], r: usize) -> &'a [u8]
     ensures { result.now ≡ name_of schema.now rows.now r }
 {
-    let a = wide(word(rows, r, row::START));
-    let n = wide(word(rows, r, row::SIZE));
-    part_of(schema, a, n)
+    let start = word(rows, r, row::START) as usize;
+    part_of(schema, start, word(rows, r, row::SIZE) as usize)
 }
 
 fn is_letter(b: u8) -> bool
     ensures { result ≡ letter b }
 {
-    match b {
-        b'A'..=b'Z' => true,
-        b'a'..=b'z' => true,
-        _ => false,
-    }
+    b.is_ascii_alphabetic()
 }
 
-fn is_name_byte(classes: &[u8; 256], b: u8) -> bool
-    requires { classes.now ≡ tabulate class_of 0 256 }
+fn is_name_byte(classes: &Classes, b: u8) -> bool
     ensures { result ≡ name_byte b }
 {
-    let c = class_in(classes, b);
-    match c {
-        class::DIGIT..=class::LETTER => true,
-        _ => false,
-    }
+    classes.class_of(b).is_named()
 }
 
-// Whether every byte from there on is one of a name.
-fn name_bytes(name: &[u8], classes: &[u8; 256], from: usize) -> bool
-    requires { classes.now ≡ tabulate class_of 0 256 }
-    ensures { result ≡ all name_byte (drop from name.now) }
+// Whether every byte is one of a name.
+fn name_bytes(bytes: &[u8], classes: &Classes) -> bool
+    ensures { result ≡ all name_byte bytes.now }
 {
-    let mut i = from;
-    while i < name.len() {
-        if !is_name_byte(classes, name[i]) {
+    for b in bytes {
+        if !is_name_byte(classes, *b) {
             return false;
         }
-        i += 1;
     }
     true
 }
@@ -117,28 +90,18 @@ fn name_bytes(name: &[u8], classes: &[u8; 256], from: usize) -> bool
 fn good_start(b: u8, digits: bool) -> bool
     ensures { result ≡ (letter b || digits && digit b) }
 {
-    match b {
-        b'0'..=b'9' => digits,
-        _ => is_letter(b),
-    }
+    is_letter(b) || digits && b.is_ascii_digit()
 }
 
 // Whether a name begins with q_.
 fn is_reserved(name: &[u8]) -> bool
     ensures { result ≡ same (take 2 name.now) (text "q_") }
 {
-    if name.len() < 2 {
-        return false;
-    }
-    if name[0] != b'q' {
-        return false;
-    }
-    name[1] == b'_'
+    name.starts_with(b"q_")
 }
 
 // Whether a name is good: a digit may be its first byte where `digits` says so.
-pub fn good_name(name: &[u8], classes: &[u8; 256], digits: bool) -> bool
-    requires { classes.now ≡ tabulate class_of 0 256 }
+pub fn good_name(name: &[u8], classes: &Classes, digits: bool) -> bool
     ensures { result ≡ good_name digits name.now }
 {
     let n = name.len();
@@ -154,5 +117,5 @@ pub fn good_name(name: &[u8], classes: &[u8; 256], digits: bool) -> bool
     if is_reserved(name) {
         return false;
     }
-    name_bytes(name, classes, 1)
+    name_bytes(&name[1..], classes)
 }

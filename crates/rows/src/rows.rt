@@ -43,10 +43,8 @@ pub fn past_rows(rows: &[u32], c: usize, n: usize) -> usize
     ensures { (result ≡ past rows.now c n) × (result ≤ 2 ^ 61 + (c - 2 ^ 61) + n) }
 {
     let mut i = c;
-    let mut left = n;
-    while 0 < left {
+    for _ in 0..n {
         i = next_row(rows, i);
-        left -= 1;
     }
     i
 }
@@ -73,13 +71,11 @@ pub fn owns_struct(rows: &[u32], r: usize) -> bool
     ensures { result ≡ owns rows.now r }
 {
     let owner = word(rows, r, row::KIND);
-    if owner != kind::UNION {
-        if owner != kind::COMMAND {
-            return false;
-        }
+    if owner != kind::UNION && owner != kind::COMMAND {
+        return false;
     }
     let s = next_row(rows, r);
-    if wide(word(rows, r, row::OWNER_LINK)) != s + 1 {
+    if word(rows, r, row::OWNER_LINK) as usize != s + 1 {
         return false;
     }
     is_unnamed(rows, s)
@@ -89,12 +85,11 @@ pub fn owns_struct(rows: &[u32], r: usize) -> bool
 pub fn child_count(rows: &[u32], r: usize) -> usize
     ensures { Counted rows.now r result }
 {
-    let k = word(rows, r, row::KIND);
-    match k {
-        kind::ENUM => wide(word(rows, r, row::COUNT)),
-        kind::STRUCT => wide(word(rows, r, row::COUNT)),
-        kind::UNION => wide(word(rows, r, row::BRANCH_COUNT)),
-        kind::ALTERNATE => wide(word(rows, r, row::COUNT)),
+    match word(rows, r, row::KIND) {
+        kind::ENUM => word(rows, r, row::COUNT) as usize,
+        kind::STRUCT => word(rows, r, row::COUNT) as usize,
+        kind::UNION => word(rows, r, row::BRANCH_COUNT) as usize,
+        kind::ALTERNATE => word(rows, r, row::COUNT) as usize,
         _ => 0,
     }
 }
@@ -108,7 +103,7 @@ pub fn first_child(rows: &[u32], r: usize) -> usize
     if !owns_struct(rows, r) {
         return s;
     }
-    past_rows(rows, next_row(rows, s), wide(word(rows, s, row::COUNT)))
+    past_rows(rows, next_row(rows, s), word(rows, s, row::COUNT) as usize)
 }
 
 // The row after all that belongs to row r.

@@ -1,4 +1,5 @@
 // The kinds of rows, as specs/Rows names them. A kind of definition is odd, and the kind of its children is the next one.
+// They stay numbers, since C callers read them in a table's words (include/, `windosprio_compile_schema`).
 pub const ENUM: u32 = 1;
 
 pub const VALUE: u32 = 2;

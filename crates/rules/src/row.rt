@@ -1,4 +1,5 @@
 // The words of a row, counted from 0, as specs/Rows names them. What stands in a word from the fourth on depends on the row's kind.
+// They stay numbers, since C callers read a table word by word (include/, `windosprio_compile_schema`).
 pub const KIND: usize = 0;
 
 pub const START: usize = 1;

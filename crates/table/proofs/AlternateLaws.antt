@@ -16,20 +16,16 @@ use Rattle.grammar.specs.Notation.{all}
 use Rattle.grammar.specs.Tree.{Kind}
 use Rattle.grammar.specs.Tree.Kind.{string, number, boolean}
 use Rattle.rules.specs.Types.{first_row, str_type, column, same_kind}
-use Rattle.rules.specs.Rows.{count, is_enum, type_ref, next, walk, children, type_kind}
+use Rattle.rules.specs.Rows.{count, is_enum, type_ref, children, type_kind}
 use Rattle.rules.specs.Rules.{any, is, names_of, kinds_fit, of_json_kind, types_of, starts_with_digit, on_or_off, has_value, str_mix, digit_mix, on_off_mix, unmixed, alternate_fits}
 use Rattle.rules.proofs.First.{decided}
 use Rattle.rules.proofs.Grid.{built_in_kind_lem, row_kind_lem}
-use Rattle.builtins.specs.Kinds.{no_column, kind_column}
-use Rattle.builtins.proofs.KindLaws.{column-small}
-use Rattle.rows.specs.Rows.{Follows}
 use Rattle.rows.proofs.ListLaws.{all_same, all_both, all_true, eqb-sym}
-use Rattle.rows.proofs.LoopLaws.{walk_at, walk-over}
 use Rattle.table.specs.declared.looks.Like.{Like}
 use Rattle.table.specs.declared.looks.Like.TheVariants.{Number, Boolean}
 use Rattle.table.specs.Looks.{looks_like, like_kind, type_looks, stands_beside}
-use Rattle.table.specs.Alternatives.{column_of, kind_new, type_of_kind, ByKind, types_apart}
-use Rattle.table.proofs.KindLaws.{kinds-none, kinds-more}
+use Rattle.table.specs.Alternatives.{no_column, kind_column, column_of, kind_new, type_of_kind, TypesFound, types_apart}
+use Rattle.table.proofs.KindLaws.{column-small, kinds-none, kinds-more}
 
 -- a type, or where it is 0 another
 abbrev pub or_else : ℕ → ℕ → ℕ
@@ -39,11 +35,11 @@ or_else t u = cond (eqb t 0) u t
 unfoldable pub free : List ℕ → List ℕ → List ℕ → Bool
 free T types rs = all (λ r. eqb (get_or types (column_of T r) 0) 0) rs
 
--- the alternatives rs fit if n rows from c on do and have other kinds than those found; the types found are the first of their kinds
-pub record KindsLeft (T rs types : List ℕ) (c n : ℕ) : Type 0 where
+-- the alternatives rs fit if those left do and have other kinds than those found; the types found are the first of their kinds
+pub record KindsLeft (T rs types rest : List ℕ) : Type 0 where
   pub wide : length types ≡ no_column
-  pub fit : kinds_fit T rs ≡ free T types (walk T c n) && kinds_fit T (walk T c n)
-  pub found : (k : ℕ) → k < no_column → type_of_kind T k rs ≡ or_else (get_or types k 0) (type_of_kind T k (walk T c n))
+  pub fit : kinds_fit T rs ≡ free T types rest && kinds_fit T rest
+  pub found : (k : ℕ) → k < no_column → type_of_kind T k rs ≡ or_else (get_or types k 0) (type_of_kind T k rest)
 
 column-within : (o : Option Kind) → kind_column o ≤ no_column
 column-within none = omega arith
@@ -73,37 +69,34 @@ module _ {types : List ℕ} (e : types ≡ replicate no_column 0) where
   empty k (inl h) = rw (e, get_or-replicate {A = ℕ} no_column k 0 0 h)
   empty k (inr h) = rw (e, h)
 
-  pub kinds-start : (T : List ℕ) (a n : ℕ) → KindsLeft T (walk T a n) types a n
+  pub kinds-start : (T : List ℕ) {rs : List ℕ} (all-left : List ℕ) → rs ≡ all-left → KindsLeft T all-left types rs
   unfolding free
-  kinds-start T a n = record {
+  kinds-start T l q = rw q (record {
     wide = ap length e ∙ length-replicate {A = ℕ} no_column 0;
-    fit = sym (ap (λ (b : Bool). b && kinds_fit T (walk T a n)) (all_true (λ r. eqb (get_or types (column_of T r) 0) 0) (walk T a n) (λ r. empty (column_of T r) (column-cases (type_kind T (type_ref T r))))));
+    fit = sym (ap (λ (b : Bool). b && kinds_fit T l) (all_true (λ r. eqb (get_or types (column_of T r) 0) 0) l (λ r. empty (column_of T r) (column-cases (type_kind T (type_ref T r))))));
     found = λ k h. rw (e, get_or-replicate {A = ℕ} no_column k 0 0 h);
-  }
+  })
 
-refused : {T rs types : List ℕ} → kinds_fit T rs ≡ false → ByKind T rs types false
-refused e = record { is = sym e; found = λ f. clash f refl }
-
-module _ {T rs types : List ℕ} {c n : ℕ} (l : KindsLeft T rs types c n) where
-  pub kinds-over : n ≤ 0 → ByKind T rs types true
+module _ {T rs types rest : List ℕ} (l : KindsLeft T rs types rest) where
+  pub kinds-over : rest ≡ [] → TypesFound T rs types
   unfolding free kinds_fit type_of_kind
   kinds-over h = record {
-    is = sym (l.fit ∙ rw (walk-over T c h));
-    found = λ _ k b. sym (l.found k b ∙ rw (walk-over T c h) (or_none (get_or types k 0)));
+    is = l.fit ∙ rw h;
+    found = λ k b. sym (l.found k b ∙ rw h (or_none (get_or types k 0)));
   }
 
-  module _ (h : 0 < n) {k : ℕ} (p : k ≡ column_of T c) where
-    pub kinds_fail : k ≡ no_column → ByKind T rs types false
-    kinds_fail z = refused (l.fit ∙ rw (walk_at T h refl, kinds-none T c (walk T (next T c) (n - 1)) p z) (and-false (free T types (c ∷ walk T (next T c) (n - 1)))))
+  module _ {c : ℕ} {others : List ℕ} (h : rest ≡ c ∷ others) {k : ℕ} (p : k ≡ column_of T c) where
+    pub kinds_fail : k ≡ no_column → kinds_fit T rs ≡ false
+    kinds_fail z = l.fit ∙ rw (h, kinds-none T c others p z) (and-false (free T types (c ∷ others)))
 
     -- it has a kind, of column j
     module _ (m : k ≡ no_column → ⊥) {j : ℕ} (e : j ≡ k) where
       pub column-room : j < no_column
       column-room = omega (arith, column-within (type_kind T (type_ref T c)))
 
-      pub kinds-taken : 0 < get_or types j 0 → ByKind T rs types false
+      pub kinds-taken : 0 < get_or types j 0 → kinds_fit T rs ≡ false
       unfolding free
-      kinds-taken f = refused (l.fit ∙ rw (walk_at T h refl, ← p, ← e, ne_eqb (get_or types j 0) 0 (omega arith)))
+      kinds-taken f = l.fit ∙ rw (h, ← p, ← e, ne_eqb (get_or types j 0) 0 (omega arith))
 
       module _ (f : get_or types j 0 ≡ 0) {t : ℕ} (q : t ≡ type_ref T c) where
         some-type : t ≡ 0 → ⊥
@@ -143,11 +136,11 @@ module _ {T rs types : List ℕ} {c n : ℕ} (l : KindsLeft T rs types c n) wher
             go true g = let z : j ≡ i = eqb-true j i g in rw (← z, ← p, ← q, f, eq-eqb k j (sym e), placed, ne_eqb t 0 some-type)
             go false g = rw (get_or-set_other types j i t 0 (λ (z : i ≡ j). eqb-false j i g (sym z)), ← p, ← e, g)
 
-        pub kinds-on : {c' : ℕ} → Follows T c c' → KindsLeft T rs (set types j t) c' (n - 1)
-        kinds-on {c'} s = record {
+        pub kinds-on : KindsLeft T rs (set types j t) others
+        kinds-on = record {
           wide = length-set types j t ∙ l.wide;
-          fit = l.fit ∙ ap (λ (x : List ℕ). free T types x && kinds_fit T x) (walk_at T h s.is) ∙ fit_on (walk T c' (n - 1));
-          found = λ i b. l.found i b ∙ ap (λ (x : List ℕ). or_else (get_or types i 0) (type_of_kind T i x)) (walk_at T h s.is) ∙ found-on i (walk T c' (n - 1));
+          fit = l.fit ∙ ap (λ (x : List ℕ). free T types x && kinds_fit T x) h ∙ fit_on others;
+          found = λ i b. l.found i b ∙ ap (λ (x : List ℕ). or_else (get_or types i 0) (type_of_kind T i x)) h ∙ found-on i others;
         }
 
 -- two types of which one is mixed with the other, by what strings look like
@@ -258,11 +251,11 @@ module _ (S T : List ℕ) where
       go false e i = rw (not_strings like (type_ref T r) (eqb-false (column_of T r) (column string) e)) i
 
 -- types found by their kinds: none beside another is as those of strings, numbers and bools say
-module _ (S T : List ℕ) {rs types : List ℕ} {b : Bool} (l : ByKind T rs types b) (t : b ≡ true) where
+module _ (S T : List ℕ) {rs types : List ℕ} (l : TypesFound T rs types) where
   beside_none_lem : (like : Like) → beside_none S T like (types_of T rs) ≡ stands_beside S T like (get_or types (column string) 0) (get_or types (column (like_kind like)) 0)
   unfolding beside_none stands_beside
   beside_none_lem like =
-      rw (any-looks S T like rs (sym l.is ∙ t), any_of-kind S T (like_kind like) rs, l.found t (column string) (column-small string), l.found t (column (like_kind like)) (column-small (like_kind like)))
+      rw (any-looks S T like rs l.is, any_of-kind S T (like_kind like) rs, l.found (column string) (column-small string), l.found (column (like_kind like)) (column-small (like_kind like)))
       (go (type_looks S T like (type_of_kind T (column string) rs)) (eqb (type_of_kind T (column (like_kind like)) rs) 0))
     where
       go : (x y : Bool) → not (x && not y) ≡ y || not x
@@ -289,9 +282,9 @@ module _ (S T : List ℕ) (r : ℕ) {n : ℕ} (p : n ≡ count T r) where
   pub alternate_empty : n ≡ 0 → false ≡ alternate_fits S T r
   alternate_empty z = rw (← p, z)
 
-  module _ (h : n ≡ 0 → ⊥) {rs types : List ℕ} {b : Bool} (w : children T r ≡ rs) (l : ByKind T rs types b) where
-    pub alternate-same_kinds : b ≡ false → false ≡ alternate_fits S T r
-    alternate-same_kinds t = rw (w, ← p, lt-ltb 0 n (omega arith), sym l.is ∙ t)
+  module _ (h : n ≡ 0 → ⊥) where
+    pub alternate-same_kinds : kinds_fit T (children T r) ≡ false → false ≡ alternate_fits S T r
+    alternate-same_kinds e = rw (← p, lt-ltb 0 n (omega arith), e)
 
-    pub alternate-is : b ≡ true → {x : Bool} → x ≡ types_apart S T types → x ≡ alternate_fits S T r
-    alternate-is t q = q ∙ rw (w, ← p, lt-ltb 0 n (omega arith), sym l.is ∙ t) (sym (types_apart_lem S T l t))
+    pub alternate-is : {types : List ℕ} → TypesFound T (children T r) types → {x : Bool} → x ≡ types_apart S T types → x ≡ alternate_fits S T r
+    alternate-is l q = q ∙ rw (← p, lt-ltb 0 n (omega arith), l.is) (sym (types_apart_lem S T l))

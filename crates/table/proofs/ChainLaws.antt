@@ -9,18 +9,15 @@ use native.Mathlib.Omega.{arith}
 use lib.Dec.{eqb}
 use Rattle.grammar.specs.Limits.{chain_structs}
 use Rattle.grammar.specs.Notation.{all}
-use Rattle.rules.specs.Names.{same_name, clash}
-use Rattle.rules.specs.Rows.{base, walk, children, members, after, name_of}
+use Rattle.rules.specs.Names.{clash}
+use Rattle.rules.specs.Rows.{base, children, members, after, name_of}
 use Rattle.rules.specs.Rules.{any, is, names_of, no_clash, base_structs, chain_fits}
 use Rattle.rules.proofs.Lists.{none-not-some}
 use Rattle.rules.proofs.Clashes.{fresh}
-use Rattle.rows.specs.Rows.{First, Counted}
 use Rattle.table.specs.declared.chains.Against.{Against}
 use Rattle.table.specs.declared.chains.Against.TheVariants.{Children, Members}
-use Rattle.table.specs.Chains.{chain_ends, has_child, is_member, lists_apart, every_struct, own_apart, members_apart}
-use Rattle.rows.proofs.ListLaws.{any-map, all-map-append, any_append, all_same, all_true, all_both, is_guard}
-use Rattle.rows.proofs.LoopLaws.{AnyWalk}
-use Rattle.rows.proofs.ChildLaws.{children-walk, any-children}
+use Rattle.table.specs.Chains.{chain_ends, is_member, lists_apart, every_struct, own_apart, members_apart}
+use Rattle.rows.proofs.ListLaws.{all-map-append, any_append, all_same, all_true, all_both, is_guard}
 
 -- a walk by structs left and link: `none` at link 0, `out` where no struct is left, and `on` of the walk from the base and the struct's row
 pub record Walk (T : List ℕ) (f : ℕ → ℕ → Bool) (none out : Bool) (on : Bool → ℕ → Bool) : Type 0 where
@@ -82,19 +79,6 @@ module _ (T : List ℕ) where
 
 -- names of children and of members
 module _ (S T : List ℕ) where
-  -- a loop over the children of row r, which are the n rows from a on, for the name of row c
-  pub has_child-walk : {r a n : ℕ} → First T r a → Counted T r n → (x : List ℕ) → AnyWalk (has_child S T r x) T (λ i. same_name x (name_of S T i)) a n
-  unfolding has_child
-  has_child-walk {r} p q x = any-children p q (λ i. same_name x (name_of S T i)) (any-map (name_of S T) (same_name x) (children T r))
-
-  pub named_child : (c i : ℕ) {x : List ℕ} {b : Bool} → b ≡ same_name x (name_of S T i) → x ≡ name_of S T c → b ≡ same_name (name_of S T c) (name_of S T i)
-  named_child c i e q = e ∙ ap (λ y. same_name y (name_of S T i)) q
-
-  -- two lists of children as runs of rows
-  pub lists_apart_of : {s r a m b n : ℕ} {v : Bool} → First T s a → Counted T s m → First T r b → Counted T r n
-      → v ≡ no_clash (names_of S T (walk T a m)) (names_of S T (walk T b n)) → v ≡ lists_apart S T s r
-  lists_apart_of p q p' q' e = e ∙ rw (← children-walk p q, ← children-walk p' q')
-
   pub members_apart-walk : (others : Against) → Walk T (members_apart S T others) true true (λ b s. b && own_apart S T others s)
   unfolding members_apart every_struct
   members_apart-walk others = record { at_none = elim [ zero ↦ refl | suc n ↦ refl ]; at_out = λ r. refl; at_struct = λ n r. refl }

@@ -16,6 +16,10 @@ use Rattle.rules.specs.Names.{clash}
 use Rattle.rules.specs.Rows.{up_from, row_count, walk, children, name_of}
 use Rattle.rules.specs.Rules.{those, is_definition, names_of, no_clash, distinct_names}
 use Rattle.rules.specs.SchemaTable.{place_in}
+use Rattle.std.specs.Prelude.{Option}
+use Rattle.std.specs.Option.{is_some}
+use Rattle.grammar.proofs.Booleans.{clash as contradiction}
+use Rattle.builtins.specs.Names.{if_any}
 use Rattle.rows.specs.Hashes.{hash_of, fresh_in}
 use Rattle.rows.specs.Index.{itself, row_hash, RowIndex, Unlisted}
 use Rattle.table.specs.Definitions.{definition_rows, with_row, DefinitionIndex, DefinitionLinks, RowEntered, clear_in, DefinitionApart, definitions_clear, children_apart}
@@ -112,22 +116,32 @@ module _ {S T heads links : List ℕ} (r : ℕ) {d : Bool} (p : d ≡ is_definit
 pub index_links : {S T heads links : List ℕ} → DefinitionIndex S T heads links → DefinitionLinks S T links
 index_links {S} {T} k = record { room = k.room; linked = index-linked itself (row_hash S T) k.rows.chains }
 
+some-place : (n : ℕ) → is_some (if_any n) ≡ true → n ≡ 0 → ⊥
+some-place zero e z = contradiction e refl
+some-place (suc n) e z = absurd (omega arith)
+
+none-place : (n : ℕ) → is_some (if_any n) ≡ false → n ≡ 0
+none-place zero e = refl
+none-place (suc n) e = contradiction refl e
+
 module _ {S T links : List ℕ} (r : ℕ) {d : Bool} (p : d ≡ is_definition T r) where
   pub no_definition : d ≡ false → DefinitionApart S T links r true
   no_definition t = record { told = λ rs l h. rw (sym p ∙ t) }
 
-  module _ (t : d ≡ true) {x : List ℕ} {i : ℕ} (n : x ≡ name_of S T r) (q : i ≡ place_in built_ins x) where
-    pub named-built_in : (i ≡ 0 → ⊥) → DefinitionApart S T links r false
-    named-built_in z = record { told = λ rs l h. rw (sym p ∙ t, taken-by-place (name_of S T r) (λ e. z (q ∙ ap (place_in built_ins) n ∙ e))) }
+  module _ (t : d ≡ true) {x : List ℕ} {i : Option ℕ} (n : x ≡ name_of S T r) (q : i ≡ if_any (place_in built_ins x)) {s : Bool} (w : s ≡ is_some i) where
+    pub named-built_in : s ≡ true → DefinitionApart S T links r false
+    named-built_in y = record {
+      told = λ rs l h. rw (sym p ∙ t, taken-by-place (name_of S T r) (λ e. some-place (place_in built_ins x) (sym (ap is_some q) ∙ sym w ∙ y) (ap (place_in built_ins) n ∙ e)));
+    }
 
-    pub named_new : i ≡ 0 → {m head : ℕ} {b : Bool} → m ≡ hash_of x → head ≡ get_or links r 0 → Unlisted S T links head x b → DefinitionApart S T links r b
-    named_new z {m} {head} e g u = record {
+    pub named_new : s ≡ false → {m head : ℕ} {b : Bool} → m ≡ hash_of x → head ≡ get_or links r 0 → Unlisted S T links head x b → DefinitionApart S T links r b
+    named_new y {m} {head} e g u = record {
       told = λ rs l h.
           let k : Linked itself (row_hash S T) links (r ∷ rs) = subst (λ (c : Bool). Linked itself (row_hash S T) links (cond c (r ∷ rs) rs)) (sym p ∙ t) l in
-          let y : bucket_of (row_hash S T r) ≡ bucket_of m = ap bucket_of (sym (e ∙ ap hash_of n)) in
+          let j : bucket_of (row_hash S T r) ≡ bucket_of m = ap bucket_of (sym (e ∙ ap hash_of n)) in
           let c : Chain itself links head (in_bucket (row_hash S T) (bucket_of m) rs) =
-          subst₂ (λ (j w : ℕ). Chain itself links j (in_bucket (row_hash S T) w rs)) (sym g) y k.0 in
-          rw (sym p ∙ t, new-by-place (name_of S T r) (sym (q ∙ ap (place_in built_ins) n) ∙ z)) (of_bucket e u rs c h ∙ ap (λ w. fresh_in S T w rs) n);
+          subst₂ (λ (j w : ℕ). Chain itself links j (in_bucket (row_hash S T) w rs)) (sym g) j k.0 in
+          rw (sym p ∙ t, new-by-place (name_of S T r) (sym (ap (place_in built_ins) n) ∙ none-place (place_in built_ins x) (sym (ap is_some q) ∙ sym w ∙ y))) (of_bucket e u rs c h ∙ ap (λ w. fresh_in S T w rs) n);
     }
 
 -- rule 6 of the definitions, row by row

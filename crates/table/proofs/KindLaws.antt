@@ -15,22 +15,27 @@ use Rattle.rules.specs.Types.{first_row, column}
 use Rattle.rules.specs.Rows.{kind, type_ref, type_kind}
 use Rattle.rules.specs.Rules.{is, same_kinds, kinds_of, kinds_fit, return_fits}
 use Rattle.rules.proofs.Grid.{built_in_kind_lem, row_kind_lem}
-use Rattle.builtins.specs.Kinds.{no_column, kind_column, built_in_kind}
-use Rattle.builtins.proofs.KindLaws.{column-small}
-use Rattle.table.specs.RuleParts.{row_column}
-use Rattle.table.specs.Alternatives.{column_of, kind_new}
+use Rattle.grammar.specs.Tree.Kind.{object, array, string, number, boolean, null_kind}
+use Rattle.builtins.specs.Kinds.{built_in_kind}
+use Rattle.table.specs.RuleParts.{kind_of_row}
+use Rattle.table.specs.Alternatives.{no_column, kind_column, column_of, kind_new}
 use Rattle.rows.proofs.ListLaws.{all_map, all_same, eqb-sym}
 
--- the column of a type
+pub column-small : (k : Kind) → column k < no_column
+column-small object = omega arith
+column-small array = omega arith
+column-small string = omega arith
+column-small number = omega arith
+column-small boolean = omega arith
+column-small null_kind = omega arith
+
+-- the kind of a type
 module _ (T : List ℕ) where
-  pub built_in-column : {t c : ℕ} → t < first_row → c ≡ kind_column (built_in_kind t) → c ≡ kind_column (type_kind T t)
-  built_in-column {t} h p = p ∙ sym (ap kind_column (built_in_kind_lem T t h))
+  pub built_in-type : {t : ℕ} {o : Option Kind} → t < first_row → o ≡ built_in_kind t → o ≡ type_kind T t
+  built_in-type {t} h p = p ∙ sym (built_in_kind_lem T t h)
 
-  pub row_column_lem : {t k c : ℕ} → first_row ≤ t → k ≡ kind T (t - first_row) → c ≡ row_column k → c ≡ kind_column (type_kind T t)
-  row_column_lem {t} {k} h p q = q ∙ ap row_column p ∙ sym (ap kind_column (row_kind_lem T t (t - first_row) (omega arith)))
-
-  pub column-at : (r : ℕ) {t k : ℕ} → k ≡ kind_column (type_kind T t) → t ≡ type_ref T r → k ≡ column_of T r
-  column-at r e p = rw p at e
+  pub row-type : {t k : ℕ} {o : Option Kind} → first_row ≤ t → k ≡ kind T (t - first_row) → o ≡ kind_of_row k → o ≡ type_kind T t
+  row-type {t} {k} h p q = q ∙ ap kind_of_row p ∙ sym (row_kind_lem T t (t - first_row) (omega arith))
 
 -- alternatives
 module _ (T : List ℕ) where

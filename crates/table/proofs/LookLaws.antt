@@ -1,11 +1,9 @@
 -- What enums look like, as words tell: a word tells what was found, a new one tells it too, and hashes tell nothing.
 -- By what a string may look like, and by the cases of a type.
 use Prim.Native.Nat.{ℕ, ◌+◌, ◌-◌, ◌≤◌, ◌<◌}
-use Prim.Native.Char.{code}
-use mathlib.Core.Path.{◌≡◌, refl, sym, ap, ◌∙◌}
+use mathlib.Core.Path.{◌≡◌, refl, ap, ◌∙◌}
 use mathlib.Core.Bool.{Bool, true, false, cond}
 use mathlib.Core.List.{List}
-use native.Mathlib.Nat.{sub_self}
 use native.Mathlib.Omega.{arith}
 use lib.Dec.{eqb}
 use lib.ListN.{length, get_or, set, length-set}
@@ -13,52 +11,15 @@ use lib.Seq.{get_or-set_same, get_or-set_other}
 use mir.Syntax.{w8}
 use mir.Val.{Fits}
 use borrow.Author.Tests.{eqb-true, eqb-false, eq-eqb, ne_eqb, le-leb, lt-leb}
-use Rattle.grammar.specs.Notation.{text, digit}
-use Rattle.grammar.proofs.Booleans.{by, within-is, within-below, within-above}
+use Rattle.grammar.proofs.Booleans.{by}
 use Rattle.rules.specs.Kinds.{enum_kind}
 use Rattle.rules.specs.Types.{first_row, str_type}
-use Rattle.rules.specs.Names.{same_name}
-use Rattle.rules.specs.Rows.{kind, children, name_of}
-use Rattle.rules.specs.Rules.{starts_with_digit, on_or_off}
-use Rattle.rows.specs.Rows.{First, Counted}
-use Rattle.rows.specs.Hashes.{back, Hashes}
-use Rattle.rows.proofs.ListLaws.{any-map}
-use Rattle.rows.proofs.Walks.{so}
-use Rattle.rows.proofs.LoopLaws.{AnyWalk}
-use Rattle.rows.proofs.ChildLaws.{any-children}
+use Rattle.rules.specs.Rows.{kind}
+use Rattle.rows.specs.Hashes.{Hashes}
 use Rattle.rows.proofs.HashLaws.{hashes_small}
 use Rattle.table.specs.declared.looks.Like.{Like}
 use Rattle.table.specs.declared.looks.Like.TheVariants.{Number, Boolean}
-use Rattle.table.specs.Looks.{looks_like, looked, look_word, tells, enum_looks, type_looks, looks_of, Looked}
-
--- a name by its first byte, and one that is on or off
-module _ (x : List ℕ) {b : ℕ} (e : b ≡ back x (length x)) where
-  first_digit : digit b ≡ starts_with_digit x
-  first_digit = ap digit (e ∙ ap (λ (i : ℕ). get_or x i 0) (sub_self (length x)))
-
-  pub digit_first : code "0" ≤ b → b ≤ code "9" → true ≡ starts_with_digit x
-  digit_first h g = sym (within-is (code "0") (code "9") b h g) ∙ first_digit
-
-  pub digit-below : b < code "0" → false ≡ starts_with_digit x
-  digit-below h = sym (within-below (code "0") (code "9") b h) ∙ first_digit
-
-  pub digit-above : code "9" < b → false ≡ starts_with_digit x
-  digit-above h = sym (within-above (code "0") (code "9") b h) ∙ first_digit
-
-module _ (x : List ℕ) {b : Bool} (e : b ≡ same_name x (text "on")) where
-  pub is-on : b ≡ true → true ≡ on_or_off x
-  is-on t = rw (so e t)
-
-  pub maybe_off : b ≡ false → {c : Bool} → c ≡ same_name x (text "off") → c ≡ on_or_off x
-  maybe_off t q = rw (so e t) q
-
--- the values of an enum, those left to look at
-pub values-walk : (S T : List ℕ) (like : Like) {e a n : ℕ} → First T e a → Counted T e n → AnyWalk (enum_looks S T like e) T (λ v. looks_like like (name_of S T v)) a n
-unfolding enum_looks
-values-walk S T like {e} p q = any-children p q (λ v. looks_like like (name_of S T v)) (any-map (name_of S T) (looks_like like) (children T e))
-
-pub value-looks : (S T : List ℕ) (like : Like) (v : ℕ) {x : List ℕ} {b : Bool} → b ≡ looks_like like x → x ≡ name_of S T v → b ≡ looks_like like (name_of S T v)
-value-looks S T like v e q = e ∙ ap (looks_like like) q
+use Rattle.table.specs.Looks.{looked, look_word, tells, enum_looks, type_looks, looks_of, Looked}
 
 pub mark-small : (b : Bool) (m : ℕ) → cond b m 0 ≤ m
 mark-small b m = by (λ n. n ≤ m) b (λ _. omega arith) (λ _. omega arith)

@@ -1,13 +1,23 @@
 -- Serves contracts: the alternatives of an alternate by the JSON kinds of their types.
-use Rattle.std.specs.Prelude.{ℕ, ◌<◌, ◌≡◌, Bool, true, not, cond, ◌&&◌, List, [], ◌∷◌, eqb, get_or}
+use Rattle.std.specs.Prelude.{ℕ, ◌<◌, ◌≡◌, Bool, true, false, not, cond, ◌&&◌, List, [], ◌∷◌, eqb, get_or}
+use Rattle.std.specs.Prelude as Code
+use Rattle.std.proofs.Math.Option.{Option, none, some}
 use Rattle.grammar.specs.Notation.{all}
+use Rattle.grammar.specs.Tree.{Kind}
 use Rattle.grammar.specs.Tree.Kind.{string, number, boolean}
 use Rattle.rules.specs.Types.{column}
 use Rattle.rules.specs.Rows.{type_ref, type_kind}
 use Rattle.rules.specs.Rules.{kinds_fit}
-use Rattle.builtins.specs.Kinds.{no_column, kind_column}
 use Rattle.table.specs.declared.looks.Like.TheVariants.{Number, Boolean}
 use Rattle.table.specs.Looks.{stands_beside}
+
+-- past the columns of the grid: no kind
+abbrev pub no_column : ℕ
+no_column = 6
+
+abbrev pub kind_column : Option Kind → ℕ
+kind_column none = no_column
+kind_column (some k) = column k
 
 module _ (T : List ℕ) where
   -- the column of the JSON kind of an alternative's type
@@ -23,10 +33,15 @@ module _ (T : List ℕ) where
   type_of_kind k [] = 0
   type_of_kind k (r ∷ rs) = cond (eqb (column_of r) k) (type_ref T r) (type_of_kind k rs)
 
--- b tells whether alternatives each have a JSON kind, and no two the same; the words then hold by its column the type of each kind
-pub record ByKind (T rs types : List ℕ) (b : Bool) : Type 0 where
-  pub is : b ≡ kinds_fit T rs
-  pub found : b ≡ true → (k : ℕ) → k < no_column → get_or types k 0 ≡ type_of_kind T k rs
+-- alternatives each have a JSON kind, and no two the same; the words hold by its column the type of each kind
+pub record TypesFound (T rs types : List ℕ) : Type 0 where
+  pub is : kinds_fit T rs ≡ true
+  pub found : (k : ℕ) → k < no_column → get_or types k 0 ≡ type_of_kind T k rs
+
+-- such words, or none where the kinds don't fit
+abbrev pub ByKind : List ℕ → List ℕ → Code.Option (List ℕ) → Type 0
+ByKind T rs Code.None = kinds_fit T rs ≡ false
+ByKind T rs (Code.Some types) = TypesFound T rs types
 
 -- types by the columns of their kinds, of which strings may look like others
 abbrev pub types_apart : List ℕ → List ℕ → List ℕ → Bool

@@ -1,7 +1,8 @@
 -- Serves contracts: the parts of rules that one function of the judge looks at.
 use Rattle.std.specs.Prelude.{ℕ, ◌+◌, ◌-◌, Bool, cond, ◌&&◌, ◌||◌, List, eqb, ltb, leb, length}
-use Rattle.std.proofs.Math.Option.{none, some}
+use Rattle.std.proofs.Math.Option.{Option, none, some}
 use Rattle.grammar.specs.Limits.{chain_structs}
+use Rattle.grammar.specs.Tree.{Kind}
 use Rattle.grammar.specs.Tree.Kind.{object, string}
 use Rattle.rules.specs.Kinds.{enum_kind, struct_kind, union_kind}
 use Rattle.rules.specs.Types.{first_row}
@@ -9,13 +10,12 @@ use Rattle.rules.specs.Rows.{row_count, start, size, is_enum, type_ref, array_ma
 use Rattle.rules.specs.Rows.{name_of}
 use Rattle.rules.specs.Rules.{every_row, discriminator_row, good_names, distinct_names, good_chains, good_unions, good_alternates, good_returns}
 use Rattle.rules.specs.Sound.{laid_out, rest_zero, references_fit}
-use Rattle.builtins.specs.Kinds.{kind_column}
 use Rattle.table.specs.Chains.{chain_ends, has_child, is_member, members_apart}
 use Rattle.table.specs.declared.chains.Against.TheVariants.{Members}
 
--- the column of a type of that row kind
-abbrev pub row_column : ℕ → ℕ
-row_column k = kind_column (cond (eqb k enum_kind) (some string) (cond (eqb k struct_kind || eqb k union_kind) (some object) none))
+-- the JSON kind of a type of that row kind
+abbrev pub kind_of_row : ℕ → Option Kind
+kind_of_row k = cond (eqb k enum_kind) (some string) (cond (eqb k struct_kind || eqb k union_kind) (some object) none)
 
 module _ (T : List ℕ) where
   -- row d is a mandatory member, no array, of an enum type

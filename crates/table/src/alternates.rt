@@ -1,31 +1,31 @@
 // Alternates: rule 10.
-ghost use Rattle.std.specs.Prelude.{◌≡◌, replicate};
-ghost use Rattle.rules.specs.Rows.{walk, type_kind};
+ghost use Rattle.std.specs.Prelude.{◌≡◌};
+ghost use Rattle.rules.specs.Rows.{children, type_kind};
 ghost use Rattle.rules.specs.Rules.{alternate_fits};
-ghost use Rattle.rows.specs.Rows.{Near, Room};
-ghost use Rattle.builtins.specs.Kinds.{no_column, kind_column};
-ghost use Rattle.table.specs.RuleParts.{row_column};
+ghost use Rattle.rows.specs.Rows.{Near};
+ghost use Rattle.builtins.specs.Kinds.{kind_as};
+ghost use Rattle.table.specs.RuleParts.{kind_of_row};
 ghost use Rattle.table.specs.Looks.{stands_beside, Looked, Looking};
 ghost use Rattle.table.specs.Alternatives.{ByKind, types_apart};
 
 use crate::looks::{Like, type_looks};
+use builtins::FIRST_ROW;
+use builtins::json::{JSON_KINDS, JsonKind, column};
 use builtins::kinds::built_in_kind;
-use builtins::{FIRST_ROW, json};
-use rows::rows::{child_count, first_child, next_row, wide, word};
+use rows::rows::word;
+use rows::walk::children;
 use rules::{kind, row};
 
-// As many words as there are JSON kinds, and the places of three of them.
-const KINDS: usize = json::NONE as usize;
+// The columns of three kinds.
+const STRING: usize = JsonKind::String as usize;
 
-const STRING: usize = json::STRING as usize;
+const NUMBER: usize = JsonKind::Number as usize;
 
-const NUMBER: usize = json::NUMBER as usize;
-
-const BOOLEAN: usize = json::BOOLEAN as usize;
+const BOOLEAN: usize = JsonKind::Boolean as usize;
 
 // The JSON kind of a type.
-pub fn type_kind(rows: &[u32], t: usize) -> u32
-    ensures { result ≡ kind_column (type_kind rows.now t) }
+pub fn type_kind(rows: &[u32], t: usize) -> Option<JsonKind>
+    ensures { kind_as result ≡ type_kind rows.now t }
 {
     if t < FIRST_ROW {
         return built_in_kind(t);
@@ -34,39 +34,32 @@ pub fn type_kind(rows: &[u32], t: usize) -> u32
 }
 
 // The JSON kind of a type's row kind.
-fn row_kind(k: u32) -> u32
-    ensures { result ≡ row_column k }
+fn row_kind(k: u32) -> Option<JsonKind>
+    ensures { kind_as result ≡ kind_of_row k }
 {
     match k {
-        kind::ENUM => json::STRING,
-        kind::STRUCT => json::OBJECT,
-        kind::UNION => json::OBJECT,
-        _ => json::NONE,
+        kind::ENUM => Some(JsonKind::String),
+        kind::STRUCT => Some(JsonKind::Object),
+        kind::UNION => Some(JsonKind::Object),
+        _ => None,
     }
 }
 
-// Whether n alternatives from a on each have a JSON kind, and no two the same. By the column of a kind the words then hold the type that has it, 0 for none.
-fn kinds_apart(rows: &[u32], a: usize, n: usize, types: &mut [u32; KINDS]) -> bool
-    requires { Room a n × (types.old ≡ replicate no_column 0) }
-    ensures { ByKind rows.now (walk rows.now a n) types.new result }
+// The types of the alternatives of row r by their JSON kinds, 0 for none, if each has a kind and no two the same.
+fn types_by_kind(rows: &[u32], r: usize) -> Option<[u32; JSON_KINDS]>
+    requires { Near r }
+    ensures { ByKind rows.now (children rows.now r) result }
 {
-    let mut i = a;
-    let mut left = n;
-    while 0 < left {
+    let mut types = [0; JSON_KINDS];
+    for i in children(rows, r) {
         let t = word(rows, i, row::TYPE_REF);
-        let k = type_kind(rows, wide(t));
-        if k == json::NONE {
-            return false;
+        let place = column(type_kind(rows, t as usize)?);
+        if types[place] != 0 {
+            return None;
         }
-        let column = wide(k);
-        if types[column] != 0 {
-            return false;
-        }
-        types[column] = t;
-        i = next_row(rows, i);
-        left -= 1;
+        types[place] = t;
     }
-    true
+    Some(types)
 }
 
 // Whether the type t of strings, 0 for none, may stand beside one of what they may look like, 0 for none.
@@ -84,11 +77,11 @@ fn stands_beside(
     if other == 0 {
         return true;
     }
-    !type_looks(schema, rows, words, wide(t), like)
+    !type_looks(schema, rows, words, t as usize, like)
 }
 
 // Whether types of one alternate, by the columns of their kinds, may stand beside each other.
-fn types_apart(schema: &[u8], rows: &[u32], words: &mut [u32], types: &[u32; KINDS]) -> bool
+fn types_apart(schema: &[u8], rows: &[u32], words: &mut [u32], types: &[u32; JSON_KINDS]) -> bool
     requires { Looked schema.now rows.now words.old }
     ensures { Looking schema.now rows.now words.new (types_apart schema.now rows.now types.now) result }
 {
@@ -107,9 +100,8 @@ pub fn alternate_fits(schema: &[u8], rows: &[u32], words: &mut [u32], r: usize) 
     if word(rows, r, row::COUNT) == 0 {
         return false;
     }
-    let mut types = [0u32; KINDS];
-    if !kinds_apart(rows, first_child(rows, r), child_count(rows, r), &mut types) {
+    let Some(types) = types_by_kind(rows, r) else {
         return false;
-    }
+    };
     types_apart(schema, rows, words, &types)
 }

@@ -5,7 +5,8 @@ ghost use Rattle.rows.specs.Rows.{Near, Countable};
 ghost use Rattle.rules.specs.Sound.{children_fit, inline_fits, definition_at, laid_out, words_used, rest_zero};
 
 use crate::names::is_definition;
-use rows::rows::{child_count, first_child, next_row, owns_struct, past_children, wide, word};
+use rows::rows::{next_row, owns_struct, past_children, word};
+use rows::walk::children;
 use rules::{ROW_WORDS, kind, row};
 
 // Whether every child of row r is of the kind after r's.
@@ -13,17 +14,8 @@ fn children_fit(rows: &[u32], r: usize) -> bool
     requires { Countable r }
     ensures { result ≡ children_fit rows.now r }
 {
-    let k = wide(word(rows, r, row::KIND)) + 1;
-    let mut c = first_child(rows, r);
-    let mut left = child_count(rows, r);
-    while 0 < left {
-        if wide(word(rows, c, row::KIND)) != k {
-            return false;
-        }
-        c = next_row(rows, c);
-        left -= 1;
-    }
-    true
+    let k = word(rows, r, row::KIND) as usize + 1;
+    children(rows, r).all(|child| word(rows, child, row::KIND) as usize == k)
 }
 
 // Whether the children of row r's inline struct fit, if it has one.
@@ -108,12 +100,10 @@ fn words_used(k: u32) -> usize
 pub fn rest_zero(rows: &[u32], r: usize) -> bool
     ensures { result ≡ rest_zero rows.now r }
 {
-    let mut i = words_used(word(rows, r, row::KIND));
-    while i < ROW_WORDS {
+    for i in words_used(word(rows, r, row::KIND))..ROW_WORDS {
         if word(rows, r, i) != 0 {
             return false;
         }
-        i += 1;
     }
     true
 }

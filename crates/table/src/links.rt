@@ -5,7 +5,7 @@ ghost use Rattle.rules.specs.Sound.{to_struct, to_type, references_fit, member_l
 ghost use Rattle.rows.specs.Rows.{Near};
 
 use builtins::FIRST_ROW;
-use rows::rows::{is_unnamed, owns_struct, wide, word};
+use rows::rows::{is_unnamed, owns_struct, word};
 use rules::{kind, row};
 
 // A link to a struct that has a name.
@@ -27,10 +27,7 @@ fn to_own_or_struct(rows: &[u32], r: usize, link: usize) -> bool
     requires { Near r × Near link }
     ensures { result ≡ owns rows.now r || to_struct rows.now link }
 {
-    if owns_struct(rows, r) {
-        return true;
-    }
-    to_struct(rows, link)
+    owns_struct(rows, r) || to_struct(rows, link)
 }
 
 // A reference to a built-in or to a type that has a name.
@@ -54,7 +51,7 @@ pub fn to_type(rows: &[u32], t: usize) -> bool
 fn member_fits(rows: &[u32], r: usize) -> bool
     ensures { result ≡ member_linked rows.now r }
 {
-    if !to_type(rows, wide(word(rows, r, row::TYPE_REF))) {
+    if !to_type(rows, word(rows, r, row::TYPE_REF) as usize) {
         return false;
     }
     if 1 < word(rows, r, row::ARRAY_MARK) {
@@ -67,10 +64,10 @@ fn union_fits(rows: &[u32], r: usize) -> bool
     requires { Near r }
     ensures { result ≡ union_linked rows.now r }
 {
-    if !to_own_or_struct(rows, r, wide(word(rows, r, row::UNION_BASE))) {
+    if !to_own_or_struct(rows, r, word(rows, r, row::UNION_BASE) as usize) {
         return false;
     }
-    let d = wide(word(rows, r, row::DISCRIMINATOR));
+    let d = word(rows, r, row::DISCRIMINATOR) as usize;
     if d == 0 {
         return false;
     }
@@ -82,7 +79,7 @@ fn arguments_fit(rows: &[u32], r: usize) -> bool
     requires { Near r }
     ensures { result ≡ data_linked rows.now r }
 {
-    let link = wide(word(rows, r, row::DATA_STRUCT));
+    let link = word(rows, r, row::DATA_STRUCT) as usize;
     if link == 0 {
         return true;
     }
@@ -99,7 +96,7 @@ fn command_fits(rows: &[u32], r: usize) -> bool
     if 1 < word(rows, r, row::ALLOW_OOB) {
         return false;
     }
-    let t = wide(word(rows, r, row::RETURNS));
+    let t = word(rows, r, row::RETURNS) as usize;
     let array = word(rows, r, row::RETURNS_ARRAY);
     if t == 0 {
         return array == 0;
@@ -118,7 +115,7 @@ pub fn references_fit(rows: &[u32], r: usize) -> bool
     let k = word(rows, r, row::KIND);
     match k {
         kind::STRUCT => {
-            let link = wide(word(rows, r, row::BASE));
+            let link = word(rows, r, row::BASE) as usize;
             if link == 0 {
                 return true;
             }
@@ -126,8 +123,8 @@ pub fn references_fit(rows: &[u32], r: usize) -> bool
         }
         kind::MEMBER => member_fits(rows, r),
         kind::UNION => union_fits(rows, r),
-        kind::BRANCH => to_struct(rows, wide(word(rows, r, row::BRANCH_STRUCT))),
-        kind::ALTERNATIVE => to_type(rows, wide(word(rows, r, row::TYPE_REF))),
+        kind::BRANCH => to_struct(rows, word(rows, r, row::BRANCH_STRUCT) as usize),
+        kind::ALTERNATIVE => to_type(rows, word(rows, r, row::TYPE_REF) as usize),
         kind::COMMAND => command_fits(rows, r),
         _ => true,
     }

@@ -5,8 +5,9 @@ ghost use Rattle.rows.specs.Rows.{Near};
 ghost use Rattle.table.specs.Looks.{looks_like, enum_looks, type_looks, looks_of, tells, Looked, Looking};
 
 use builtins::{FIRST_ROW, STR};
-use rows::names::{byte_back, name_of, same_bytes};
-use rows::rows::{child_count, first_child, next_row, word};
+use rows::names::{name_of, same_bytes};
+use rows::rows::word;
+use rows::walk::children;
 use rules::{kind, row};
 
 // What a string may look like.
@@ -20,22 +21,14 @@ pub enum Like {
 fn starts_with_digit(name: &[u8]) -> bool
     ensures { result ≡ starts_with_digit name.now }
 {
-    let n = name.len();
-    let first = byte_back(name, n);
-    match first {
-        b'0'..=b'9' => true,
-        _ => false,
-    }
+    matches!(name, [b'0'..=b'9', ..])
 }
 
 // Whether a name is on or off.
 fn is_on_or_off(name: &[u8]) -> bool
     ensures { result ≡ on_or_off name.now }
 {
-    if same_bytes(name, b"on") {
-        return true;
-    }
-    same_bytes(name, b"off")
+    same_bytes(name, b"on") || same_bytes(name, b"off")
 }
 
 // Whether a value of that name looks so.
@@ -53,16 +46,7 @@ fn has_value(schema: &[u8], rows: &[u32], e: usize, like: Like) -> bool
     requires { Near e }
     ensures { result ≡ enum_looks schema.now rows.now like e }
 {
-    let mut v = first_child(rows, e);
-    let mut left = child_count(rows, e);
-    while 0 < left {
-        if looks(name_of(schema, rows, v), like) {
-            return true;
-        }
-        v = next_row(rows, v);
-        left -= 1;
-    }
-    false
+    children(rows, e).any(|value| looks(name_of(schema, rows, value), like))
 }
 
 // From here on a word tells what the values of an enum look like, by what is added; hashes of names are below.

@@ -4,33 +4,28 @@ ghost use Rattle.grammar.specs.Limits.{row_words};
 ghost use Rattle.buckets.specs.Buckets.{buckets};
 ghost use Rattle.rules.specs.Kinds.{value_kind, branch_kind};
 ghost use Rattle.rules.specs.Rules.{is_definition, good_names, distinct_names};
-ghost use Rattle.strings.specs.Classes.{class_of, tabulate};
 ghost use Rattle.rows.specs.Rows.{Near};
 ghost use Rattle.rows.specs.Hashes.{Hashes};
 ghost use Rattle.table.specs.Definitions.{name_fits, DefinitionIndex, DefinitionLinks, RowEntered, DefinitionApart, definitions_clear, children_apart};
 
 use buckets::{BUCKETS, add, next};
 use builtins::names::built_in;
-use rows::hashes::hash_of;
-use rows::index::{all_apart, is_unlisted};
+use rows::hashes::{HashedRows, Sought, hash_of};
 use rows::names::{good_name, name_of};
 use rows::rows::{child_count, first_child, is_unnamed, word};
 use rules::{ROW_WORDS, kind, row};
-use strings::classes::class_table;
+use strings::classes::Classes;
 
 // Whether every name is good; an inline struct has none.
 pub fn good_names(schema: &[u8], rows: &[u32]) -> bool
     requires { length rows.now < 2 ^ 32 }
     ensures { result ≡ good_names schema.now rows.now }
 {
-    let classes = class_table();
-    let n = rows.len() / ROW_WORDS;
-    let mut r = 0;
-    while r < n {
+    let classes = Classes::new();
+    for r in 0..rows.len() / ROW_WORDS {
         if !name_fits(schema, rows, &classes, r) {
             return false;
         }
-        r += 1;
     }
     true
 }
@@ -39,16 +34,12 @@ pub fn good_names(schema: &[u8], rows: &[u32]) -> bool
 fn takes_digit(k: u32) -> bool
     ensures { result ≡ (eqb k value_kind || eqb k branch_kind) }
 {
-    match k {
-        kind::VALUE => true,
-        kind::BRANCH => true,
-        _ => false,
-    }
+    matches!(k, kind::VALUE | kind::BRANCH)
 }
 
 // Whether row r is an inline struct or has a good name.
-fn name_fits(schema: &[u8], rows: &[u32], classes: &[u8; 256], r: usize) -> bool
-    requires { Near r × (classes.now ≡ tabulate class_of 0 256) }
+fn name_fits(schema: &[u8], rows: &[u32], classes: &Classes, r: usize) -> bool
+    requires { Near r }
     ensures { result ≡ name_fits schema.now rows.now r }
 {
     if is_unnamed(rows, r) {
@@ -92,59 +83,50 @@ pub fn index_definitions(schema: &[u8], rows: &[u32], heads: &mut [u32; BUCKETS]
     requires { (length rows.now ≤ row_words * length links.old) × (length links.old < 2 ^ 32) × (heads.old ≡ replicate buckets 0) }
     ensures { DefinitionIndex schema.now rows.now heads.new links.new }
 {
-    let mut r = rows.len() / ROW_WORDS;
-    while 0 < r {
-        r -= 1;
+    for r in (0..rows.len() / ROW_WORDS).rev() {
         index_row(schema, rows, heads, links, r);
     }
 }
 
 // Whether row r is no definition, or has a name that is no built-in's and clashes with none of the definitions after it.
-fn definition_apart(schema: &[u8], rows: &[u32], hashes: &[u32], links: &[u32], r: usize) -> bool
-    requires { Near r × Hashes schema.now rows.now hashes.now }
-    ensures { DefinitionApart schema.now rows.now links.now r result }
+fn definition_apart(table: HashedRows<'_>, links: &[u32], r: usize) -> bool
+    requires { Near r }
+    ensures { DefinitionApart table.entry.schema.now table.entry.rows.now links.now r result }
 {
-    if !is_definition(rows, r) {
+    if !is_definition(table.rows, r) {
         return true;
     }
-    let name = name_of(schema, rows, r);
-    if built_in(name) != 0 {
+    let name = name_of(table.schema, table.rows, r);
+    if built_in(name).is_some() {
         return false;
     }
-    let hash = hash_of(name);
-    is_unlisted(schema, rows, hashes, links, next(links, r), name, hash)
+    table.is_unlisted(links, next(links, r), Sought::of(name))
 }
 
 // Whether no two definitions have names that clash, and none one that clashes with a built-in's.
-fn definitions_apart(schema: &[u8], rows: &[u32], hashes: &[u32], links: &[u32]) -> bool
-    requires { (length rows.now < 2 ^ 32) × Hashes schema.now rows.now hashes.now × DefinitionLinks schema.now rows.now links.now }
-    ensures { result ≡ definitions_clear schema.now rows.now }
+fn definitions_apart(table: HashedRows<'_>, links: &[u32]) -> bool
+    requires { (length table.rows.now < 2 ^ 32) × DefinitionLinks table.schema.now table.rows.now links.now }
+    ensures { result ≡ definitions_clear table.entry.schema.now table.entry.rows.now }
 {
-    let n = rows.len() / ROW_WORDS;
-    let mut r = 0;
-    while r < n {
-        if !definition_apart(schema, rows, hashes, links, r) {
+    for r in 0..table.rows.len() / ROW_WORDS {
+        if !definition_apart(table, links, r) {
             return false;
         }
-        r += 1;
     }
     true
 }
 
 // Whether in each list of values, members, branches or alternatives no two names are the same. The links are scratch.
-fn children_apart(schema: &[u8], rows: &[u32], hashes: &[u32], links: &mut [u32]) -> bool
-    requires { (length rows.now < 2 ^ 32) × Hashes schema.now rows.now hashes.now × (length links.old < 2 ^ 32) }
-    ensures { result ≡ children_apart schema.now rows.now }
+fn children_apart(table: HashedRows<'_>, links: &mut [u32]) -> bool
+    requires { (length table.rows.now < 2 ^ 32) × (length links.old < 2 ^ 32) }
+    ensures { result ≡ children_apart table.entry.schema.now table.entry.rows.now }
 {
-    let n = rows.len() / ROW_WORDS;
-    let mut r = 0;
-    while r < n {
-        let a = first_child(rows, r);
-        let m = child_count(rows, r);
-        if !all_apart(schema, rows, hashes, links, a, m) {
+    for r in 0..table.rows.len() / ROW_WORDS {
+        let a = first_child(table.rows, r);
+        let m = child_count(table.rows, r);
+        if !table.all_apart(links, a, m) {
             return false;
         }
-        r += 1;
     }
     true
 }
@@ -154,8 +136,13 @@ pub fn distinct_names(schema: &[u8], rows: &[u32], hashes: &[u32], links: &mut [
     requires { (length rows.now < 2 ^ 32) × Hashes schema.now rows.now hashes.now × DefinitionLinks schema.now rows.now links.old × (length links.old < 2 ^ 32) }
     ensures { result ≡ distinct_names schema.now rows.now }
 {
-    if !definitions_apart(schema, rows, hashes, links) {
+    let table = HashedRows {
+        schema,
+        rows,
+        hashes,
+    };
+    if !definitions_apart(table, links) {
         return false;
     }
-    children_apart(schema, rows, hashes, links)
+    children_apart(table, links)
 }

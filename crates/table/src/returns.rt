@@ -16,10 +16,8 @@ pub fn return_fits(rows: &[u32], t: usize) -> bool
     if t < FIRST_ROW {
         return false;
     }
-    let k = word(rows, t - FIRST_ROW, row::KIND);
-    match k {
-        kind::STRUCT => true,
-        kind::UNION => true,
-        _ => false,
-    }
+    matches!(
+        word(rows, t - FIRST_ROW, row::KIND),
+        kind::STRUCT | kind::UNION
+    )
 }

@@ -11,7 +11,7 @@ use crate::names::{distinct_names, good_names, index_definitions};
 use crate::rule::{Rule, every_row_fits};
 use buckets::BUCKETS;
 use rows::hashes::put_hashes;
-use rows::rows::{wide, word};
+use rows::rows::word;
 use rules::{ROW_WORDS, SCHEMA_BYTES, TABLE_ROWS, row};
 
 const TABLE_WORDS: usize = TABLE_ROWS * ROW_WORDS;
@@ -21,13 +21,10 @@ fn names_within(schema: &[u8], rows: &[u32]) -> bool
     requires { length rows.now < 2 ^ 32 }
     ensures { result ≡ names_within schema.now rows.now }
 {
-    let n = rows.len() / ROW_WORDS;
-    let mut r = 0;
-    while r < n {
-        if schema.len() < wide(word(rows, r, row::START)) + wide(word(rows, r, row::SIZE)) {
+    for r in 0..rows.len() / ROW_WORDS {
+        if schema.len() < word(rows, r, row::START) as usize + word(rows, r, row::SIZE) as usize {
             return false;
         }
-        r += 1;
     }
     true
 }
@@ -37,16 +34,13 @@ fn rows_fit(rows: &[u32]) -> bool
     requires { length rows.now < 2 ^ 32 }
     ensures { result ≡ rows_fit rows.now }
 {
-    let n = rows.len() / ROW_WORDS;
-    let mut r = 0;
-    while r < n {
+    for r in 0..rows.len() / ROW_WORDS {
         if !rest_zero(rows, r) {
             return false;
         }
         if !references_fit(rows, r) {
             return false;
         }
-        r += 1;
     }
     true
 }

@@ -4,12 +4,13 @@ ghost use Rattle.grammar.specs.Notation.{all};
 ghost use Rattle.rules.specs.Rows.{children};
 ghost use Rattle.rules.specs.Rules.{union_fits};
 ghost use Rattle.rows.specs.Rows.{Near};
-ghost use Rattle.rows.specs.Hashes.{Hashes};
 ghost use Rattle.table.specs.RuleParts.{can_discriminate, discriminates, branch_new};
 
 use crate::chains::{Against, chain_ends, has_child, is_member, members_apart};
 use builtins::FIRST_ROW;
-use rows::rows::{child_count, first_child, next_row, wide, word};
+use rows::hashes::HashedRows;
+use rows::rows::word;
+use rows::walk::children;
 use rules::{CHAIN_STRUCTS, kind, row};
 
 // Whether row d is a mandatory member, no array, of an enum type.
@@ -22,7 +23,7 @@ fn can_discriminate(rows: &[u32], d: usize) -> bool
     if word(rows, d, row::ARRAY_MARK) != 0 {
         return false;
     }
-    let t = wide(word(rows, d, row::TYPE_REF));
+    let t = word(rows, d, row::TYPE_REF) as usize;
     if t < FIRST_ROW {
         return false;
     }
@@ -33,13 +34,13 @@ fn can_discriminate(rows: &[u32], d: usize) -> bool
 fn discriminator_fits(rows: &[u32], r: usize) -> bool
     ensures { result ≡ discriminates rows.now r }
 {
-    let link = wide(word(rows, r, row::DISCRIMINATOR));
+    let link = word(rows, r, row::DISCRIMINATOR) as usize;
     if link == 0 {
         return false;
     }
     if !is_member(
         rows,
-        wide(word(rows, r, row::UNION_BASE)),
+        word(rows, r, row::UNION_BASE) as usize,
         CHAIN_STRUCTS,
         link - 1,
     ) {
@@ -49,61 +50,45 @@ fn discriminator_fits(rows: &[u32], r: usize) -> bool
 }
 
 // Whether branch b is named by a value of the enum at row e, and its struct repeats no member of the one with the link `base`.
-fn branch_fits(schema: &[u8], rows: &[u32], hashes: &[u32], b: usize, e: usize, base: usize) -> bool
-    requires { Near e × Near base × Hashes schema.now rows.now hashes.now }
-    ensures { result ≡ branch_new schema.now rows.now e base b }
+fn branch_fits(table: HashedRows<'_>, b: usize, e: usize, base: usize) -> bool
+    requires { Near e × Near base }
+    ensures { result ≡ branch_new table.entry.schema.now table.entry.rows.now e base b }
 {
-    if !has_child(schema, rows, hashes, e, b) {
+    if !has_child(table, e, b) {
         return false;
     }
-    let link = wide(word(rows, b, row::BRANCH_STRUCT));
-    if !chain_ends(rows, link, CHAIN_STRUCTS) {
+    let link = word(table.rows, b, row::BRANCH_STRUCT) as usize;
+    if !chain_ends(table.rows, link, CHAIN_STRUCTS) {
         return false;
     }
-    let inherited = Against::Members(base);
-    members_apart(schema, rows, hashes, link, CHAIN_STRUCTS, inherited)
+    members_apart(table, link, CHAIN_STRUCTS, Against::Members(base))
 }
 
 // Whether every branch of union r fits.
-fn branches_fit(
-    schema: &[u8],
-    rows: &[u32],
-    hashes: &[u32],
-    r: usize,
-    e: usize,
-    base: usize,
-) -> bool
-    requires { Near r × Near e × Near base × Hashes schema.now rows.now hashes.now }
-    ensures { result ≡ all (branch_new schema.now rows.now e base) (children rows.now r) }
+fn branches_fit(table: HashedRows<'_>, r: usize, e: usize, base: usize) -> bool
+    requires { Near r × Near e × Near base }
+    ensures { result ≡ all (branch_new table.entry.schema.now table.entry.rows.now e base) (children table.entry.rows.now r) }
 {
-    let mut b = first_child(rows, r);
-    let mut left = child_count(rows, r);
-    while 0 < left {
-        if !branch_fits(schema, rows, hashes, b, e, base) {
-            return false;
-        }
-        b = next_row(rows, b);
-        left -= 1;
-    }
-    true
+    children(table.rows, r).all(|b| branch_fits(table, b, e, base))
 }
 
 // Whether union r has a branch, a base whose chain ends, a discriminator in it, and branches that fit.
-pub fn union_fits(schema: &[u8], rows: &[u32], hashes: &[u32], r: usize) -> bool
-    requires { Near r × Hashes schema.now rows.now hashes.now }
-    ensures { result ≡ union_fits schema.now rows.now r }
+pub fn union_fits(table: HashedRows<'_>, r: usize) -> bool
+    requires { Near r }
+    ensures { result ≡ union_fits table.entry.schema.now table.entry.rows.now r }
 {
+    let rows = table.rows;
     if word(rows, r, row::BRANCH_COUNT) == 0 {
         return false;
     }
-    let base = wide(word(rows, r, row::UNION_BASE));
+    let base = word(rows, r, row::UNION_BASE) as usize;
     if !chain_ends(rows, base, CHAIN_STRUCTS) {
         return false;
     }
     if !discriminator_fits(rows, r) {
         return false;
     }
-    let discriminator = wide(word(rows, r, row::DISCRIMINATOR)) - 1;
-    let e = wide(word(rows, discriminator, row::TYPE_REF)) - FIRST_ROW;
-    branches_fit(schema, rows, hashes, r, e, base)
+    let discriminator = word(rows, r, row::DISCRIMINATOR) as usize - 1;
+    let e = word(rows, discriminator, row::TYPE_REF) as usize - FIRST_ROW;
+    branches_fit(table, r, e, base)
 }

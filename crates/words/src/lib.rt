@@ -1,7 +1,7 @@
 // Words that a caller lends: read and written in items of a width, copied into, and set to zero.
 #![tactic(auto)]
 
-ghost use Rattle.std.specs.Prelude.{◌≡◌, [], ◌∷◌, ◌++◌, ◌-◌, ◌≤◌, ◌<◌, length, get_or, set, take, drop, replicate};
+ghost use Rattle.std.specs.Prelude.{◌≡◌, ◌++◌, ◌-◌, ◌≤◌, ◌<◌, length, get_or, set, take, drop, replicate};
 ghost use Rattle.grammar.specs.Notation.{word_of};
 ghost use Rattle.words.specs.Items.{put_item};
 
@@ -34,7 +34,7 @@ pub fn number_at(words: &[u32], i: usize) -> usize
     if words.len() <= i {
         return 0;
     }
-    wide(words[i])
+    words[i] as usize
 }
 
 // Sets word i, if there is one.
@@ -46,30 +46,16 @@ pub fn put_word(words: &mut [u32], i: usize, word: u32)
     }
 }
 
-// Item k, in items of two words, where all of it fits.
-pub fn put_two(words: &mut [u32], k: usize, a: u32, b: u32)
-    ensures { words.new ≡ put_item 2 words.old k (a ∷ b ∷ []) }
+// Item k, in items of W words, where all of it fits.
+pub fn put_item<const W: usize>(words: &mut [u32], k: usize, item: [u32; W])
+    requires { 0 < W }
+    ensures { words.new ≡ put_item W words.old k item.entry }
 {
-    if words.len() / 2 <= k {
+    if words.len() / W <= k {
         return;
     }
-    let at = 2 * k;
-    words[at] = a;
-    words[at + 1] = b;
-}
-
-// Item k, in items of four words, where all of it fits.
-pub fn put_four(words: &mut [u32], k: usize, a: u32, b: u32, c: u32, d: u32)
-    ensures { words.new ≡ put_item 4 words.old k (a ∷ b ∷ c ∷ d ∷ []) }
-{
-    if words.len() / 4 <= k {
-        return;
-    }
-    let at = 4 * k;
-    words[at] = a;
-    words[at + 1] = b;
-    words[at + 2] = c;
-    words[at + 3] = d;
+    let at = W * k;
+    words[at..at + W].copy_from_slice(&item);
 }
 
 // Copies all words to the front of others.
@@ -77,20 +63,14 @@ pub fn copy(from: &[u32], to: &mut [u32])
     requires { length from.now ≤ length to.old }
     ensures { to.new ≡ from.now ++ drop (length from.now) to.old }
 {
-    let mut i = 0;
-    while i < from.len() {
-        to[i] = from[i];
-        i += 1;
-    }
+    to[..from.len()].copy_from_slice(from);
 }
 
 // Sets every word from `first` on to zero.
 pub fn clear(words: &mut [u32], first: usize)
     ensures { words.new ≡ take first words.old ++ replicate (length words.old - first) 0 }
 {
-    let mut i = first;
-    while i < words.len() {
-        words[i] = 0;
-        i += 1;
+    if first < words.len() {
+        words[first..].fill(0);
     }
 }

@@ -1,6 +1,11 @@
 -- `table::names::good_name` says whether a name is good.
 -- Each test refutes one part of what a good name is; the rest is its bytes.
-use mathlib.Core.Path.{◌∙◌}
+use native.Mathlib.Omega.{arith}
+use mathlib.Core.Path.{ap, ◌∙◌}
+use lib.ListN.{drop, length-drop}
+use lib.Seq.{take_all}
+use Rattle.grammar.specs.Notation.{all}
+use Rattle.rules.specs.Names.{name_byte}
 use Rattle.rows.proofs.Walks.{so}
 use Rattle.rows.proofs.NameFacts.{no_name, name-long, name_start, name-reserved, name-rest}
 use Rattle.rows.proofs.names.good_name.Goals as goal
@@ -20,5 +25,5 @@ returns-then-is_reserved c = let a = c.args in name-reserved a.digits a.name.now
 pub returns : goal.returns
 returns c =
     let a = c.args in
-    c.name_bytes.ensures ∙ name-rest a.digits a.name.now c.if-n-eq0.false c.if-n-gt-NAME_BYTES.false
+    c.name_bytes.ensures ∙ ap (all name_byte) (take_all _ (drop 1 a.name.now) (omega (arith, length-drop 1 a.name.now))) ∙ name-rest a.digits a.name.now c.if-n-eq0.false c.if-n-gt-NAME_BYTES.false
     (so c.good_start.ensures c.if-not-good_start.false) (so c.is_reserved.ensures c.if-is_reserved.false)

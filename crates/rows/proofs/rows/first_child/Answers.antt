@@ -1,7 +1,7 @@
 -- `rows::rows::first_child` gives the first child of a row.
 -- It is the next row, or the one after the inline struct's.
 use borrow.Author.Rules.{rules}
-use mathlib.Core.Path.{◌∙◌, ap}
+use mathlib.Core.Path.{ap}
 use mathlib.Core.Bool.{not}
 use native.Mathlib.Omega.{arith}
 use Rattle.rows.proofs.ChildLaws.{first_next, first_past}
@@ -13,6 +13,6 @@ returns-then-not-owns_struct c = record { is = first_next c.next_row-s.ensures c
 pub returns : goal.returns
 returns c =
     record {
-      is = first_past c.next_row-s.ensures c.owns_struct.ensures (ap not c.if-not-owns_struct.false) c.next_row.ensures (c.wide.ensures ∙ c.word.ensures) c.past_rows.ensures.0;
+      is = first_past c.next_row-s.ensures c.owns_struct.ensures (ap not c.if-not-owns_struct.false) c.next_row.ensures c.word.ensures c.past_rows.ensures.0;
       low = search rules;
     }

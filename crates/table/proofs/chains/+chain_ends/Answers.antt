@@ -1,6 +1,5 @@
 -- `chain_ends` meets its contract: a walk up the chain of bases.
 -- The measure is the number of structs left.
-use mathlib.Core.Path.{◌∙◌}
 use Rattle.table.proofs.ChainLaws.{walk_none, walk_out, walk-on, ends-walk}
 use Rattle.table.proofs.chains.+chain_ends.Goals as goal
 
@@ -13,4 +12,4 @@ returns-then-left-eq0 t c = walk_out (ends-walk _) c.if-link-eq0.false c.if-left
 pub returns : goal.returns
 returns t c =
     walk-on (ends-walk _) c.if-link-eq0.false c.if-left-eq0.false
-    (c.wide.ensures ∙ c.word.ensures) c.chain_ends.ensures
+    c.word.ensures c.chain_ends.ensures

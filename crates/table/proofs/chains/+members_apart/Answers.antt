@@ -15,25 +15,25 @@ returns-then-left-eq0 t c = walk_out (members_apart-walk _ _ _) c.if-link-eq0.fa
 
 pub returns-then-not-members_apart : goal.returns-then-not-members_apart
 returns-then-not-members_apart t c =
-    walk-on (members_apart-walk _ _ _) c.if-link-eq0.false c.if-left-eq0.false (c.wide-base.ensures ∙ c.word.ensures) (sym (so c.members_apart.ensures c.if-not-members_apart.true))
+    walk-on (members_apart-walk _ _ _) c.if-link-eq0.false c.if-left-eq0.false c.word-base.ensures (sym (so c.members_apart.ensures c.if-not-members_apart.true))
 
 pub lists_apart-requires : goal.lists_apart-requires
 lists_apart-requires t c =
     let n = ap number_of c.in-Children.is in
-    (omega arith, omega arith, c.requires.2)
+    (omega arith, omega arith)
 
 pub members_apart-requires-in-Members : goal.members_apart-requires-in-Members
 members_apart-requires-in-Members t c =
     let n = ap number_of c.in-Members.is in
     let m = ap structs_of c.in-Members.is in
-    (omega arith, (omega arith, omega arith, c.requires.2))
+    (omega arith, (omega arith, omega arith))
 
 pub returns-in-Children : goal.returns-in-Children
 returns-in-Children t c =
     own-children _ _ _ c.in-Children.is c.lists_apart.ensures
-    ∙ walk-on (members_apart-walk _ _ _) c.if-link-eq0.false c.if-left-eq0.false (c.wide-base.ensures ∙ c.word.ensures) (sym (so c.members_apart.ensures c.if-not-members_apart.false))
+    ∙ walk-on (members_apart-walk _ _ _) c.if-link-eq0.false c.if-left-eq0.false c.word-base.ensures (sym (so c.members_apart.ensures c.if-not-members_apart.false))
 
 pub returns-in-Members : goal.returns-in-Members
 returns-in-Members t c =
     own-members _ _ _ c.in-Members.is c.members_apart-in-Members.ensures
-    ∙ walk-on (members_apart-walk _ _ _) c.if-link-eq0.false c.if-left-eq0.false (c.wide-base.ensures ∙ c.word.ensures) (sym (so c.members_apart.ensures c.if-not-members_apart.false))
+    ∙ walk-on (members_apart-walk _ _ _) c.if-link-eq0.false c.if-left-eq0.false c.word-base.ensures (sym (so c.members_apart.ensures c.if-not-members_apart.false))

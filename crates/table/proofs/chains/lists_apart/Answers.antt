@@ -1,8 +1,9 @@
--- `table::chains::lists_apart` says whether no child of one row has the name of a child of another: two walks.
-use Rattle.table.proofs.ChainLaws.{lists_apart_of}
+-- Two walks over children.
+use Rattle.std.proofs.Common.{ap₂, ◌∙◌}
+use Rattle.rules.specs.Rules.{names_of, no_clash}
 use Rattle.table.proofs.chains.lists_apart.Goals as goal
 
 pub returns : goal.returns
 returns c =
-    lists_apart_of _ _ c.first_child-a.ensures c.child_count-m.ensures c.first_child-b.ensures c.child_count-n.ensures
     c.runs_apart.ensures
+    ∙ ap₂ (λ ss rs. no_clash (names_of c.args.table.schema.now c.args.table.rows.now ss) (names_of c.args.table.schema.now c.args.table.rows.now rs)) c.children.ensures c.children-2.ensures

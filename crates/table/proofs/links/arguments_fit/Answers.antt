@@ -1,13 +1,12 @@
 -- `arguments_fit` meets its contract.
 -- A law for each return: no link, or a link to the own inline struct or to one that has a name.
-use mathlib.Core.Path.{◌∙◌}
 use Rattle.table.proofs.ReferenceLaws.{arguments-none, arguments-link}
 use Rattle.table.proofs.links.arguments_fit.Goals as goal
 
 pub returns-then-link-eq0 : goal.returns-then-link-eq0
-returns-then-link-eq0 c = arguments-none _ _ (c.wide-link.ensures ∙ c.word.ensures) c.if-link-eq0.true
+returns-then-link-eq0 c = arguments-none _ _ c.word-link.ensures c.if-link-eq0.true
 
 pub returns : goal.returns
 returns c =
-    arguments-link _ _ (c.wide-link.ensures ∙ c.word.ensures) c.if-link-eq0.false
+    arguments-link _ _ c.word-link.ensures c.if-link-eq0.false
     c.to_own_or_struct.ensures

@@ -1,6 +1,5 @@
 -- `command_fits` meets its contract.
 -- A law for each return: no arguments, no flag, nothing returned, no flag of an array, or the type returned.
-use mathlib.Core.Path.{◌∙◌}
 use Rattle.rows.proofs.Walks.{so}
 use Rattle.table.proofs.ReferenceLaws.{command_no_arguments, command_no_flag, command-nothing, command-no_array, command-is}
 use Rattle.table.proofs.links.command_fits.Goals as goal
@@ -18,7 +17,7 @@ returns-then-t-eq0 c =
     command-nothing _ _
     (so c.arguments_fit.ensures
     c.if-not-arguments_fit.false) c.word.ensures
-    c.if-word-gt1.false (c.wide-t.ensures ∙ c.word-2.ensures)
+    c.if-word-gt1.false c.word-t.ensures
     c.word-array.ensures c.if-t-eq0.true
 
 pub returns-then-array-gt1 : goal.returns-then-array-gt1
@@ -27,7 +26,7 @@ returns-then-array-gt1 c =
     (so c.arguments_fit.ensures
     c.if-not-arguments_fit.false) c.word.ensures
     c.if-word-gt1.false
-    (c.wide-t.ensures ∙ c.word-2.ensures) c.word-array.ensures
+    c.word-t.ensures c.word-array.ensures
     c.if-t-eq0.false c.if-array-gt1.true
 
 pub returns : goal.returns
@@ -36,5 +35,5 @@ returns c =
     (so c.arguments_fit.ensures
     c.if-not-arguments_fit.false)
     c.word.ensures c.if-word-gt1.false
-    (c.wide-t.ensures ∙ c.word-2.ensures)
+    c.word-t.ensures
     c.word-array.ensures c.if-t-eq0.false c.if-array-gt1.false c.to_type.ensures

@@ -1,6 +1,5 @@
 -- `references_fit` meets its contract.
 -- A law for each kind of row.
-use mathlib.Core.Path.{◌∙◌}
 use native.Mathlib.Omega.{arith}
 use Rattle.table.proofs.ReferenceLaws.{refers-none, refers-base, refers-member, refers-union, refers-branch, refers-alternative, refers-command, refers-not}
 use Rattle.table.proofs.links.references_fit.Goals as goal
@@ -9,13 +8,13 @@ pub returns-then-link-eq0 : goal.returns-then-link-eq0
 returns-then-link-eq0 c =
     refers-none c.args.rows.now c.args.r
     c.word-k.ensures c.in-3.is
-    (c.wide-link.ensures ∙ c.word.ensures) c.if-link-eq0.true
+    c.word-link.ensures c.if-link-eq0.true
 
 pub returns-else-link-eq0 : goal.returns-else-link-eq0
 returns-else-link-eq0 c =
     refers-base c.args.rows.now
     c.args.r c.word-k.ensures
-    c.in-3.is (c.wide-link.ensures ∙ c.word.ensures)
+    c.in-3.is c.word-link.ensures
     c.if-link-eq0.false c.to_struct.ensures
 
 pub returns-in-4 : goal.returns-in-4
@@ -32,13 +31,13 @@ pub returns-in-6 : goal.returns-in-6
 returns-in-6 c =
     refers-branch c.args.rows.now c.args.r
     c.word-k.ensures c.in-6.is
-    (c.wide.ensures ∙ c.word-in-6.ensures) c.to_struct-in-6.ensures
+    c.word.ensures c.to_struct-in-6.ensures
 
 pub returns-in-8 : goal.returns-in-8
 returns-in-8 c =
     refers-alternative c.args.rows.now
     c.args.r c.word-k.ensures
-    c.in-8.is (c.wide-in-8.ensures ∙ c.word-in-8.ensures) c.to_type.ensures
+    c.in-8.is c.word-in-8.ensures c.to_type.ensures
 
 pub returns-in-9 : goal.returns-in-9
 returns-in-9 c =

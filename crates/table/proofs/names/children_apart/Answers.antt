@@ -9,10 +9,10 @@ use borrow.Author.Rules.{rules}
 use Rattle.table.proofs.names.children_apart.Goals as goal
 
 pub loop-r-init : goal.loop-r-init
-loop-r-init c = (refl, up_to-rows _ c.args.rows.now)
+loop-r-init c = (refl, up_to-rows _ c.args.table.rows.now)
 
 pub all_apart-requires : goal.all_apart-requires
-all_apart-requires c = let p = c.requires in (p.1, children-room c.first_child-a.ensures c.child_count-m.ensures, omega (arith, c.loop-r.invariant.0, p.2))
+all_apart-requires c = let p = c.requires in (children-room c.first_child-a.ensures c.child_count-m.ensures, omega (arith, c.loop-r.invariant.0, p.1))
 
 pub returns-then-not-all_apart : goal.returns-then-not-all_apart
 returns-then-not-all_apart c =

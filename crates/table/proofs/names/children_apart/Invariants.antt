@@ -1,6 +1,5 @@
 -- `table::names::children_apart` says whether in each list of children no two names are the same.
 -- The loop tests every row.
-use Prim.Native.Nat.{◌-◌}
 use mathlib.Core.Path.{◌≡◌}
 use lib.ListN.{length}
 use Rattle.grammar.specs.Notation.{apart}
@@ -13,7 +12,4 @@ use Rattle.table.proofs.names.children_apart.Given as goal
 
 abbrev pub invariant-loop-r : goal.invariant-loop-r
 invariant-loop-r l =
-    (length l.links ≡ length l.initial.links) × (children_apart l.schema l.rows ≡ up_to (λ x. apart clash (names_of l.schema l.rows (children l.rows x))) l.r l.n)
-
-abbrev pub decreases-loop-r : goal.decreases-loop-r
-decreases-loop-r l = l.n - l.r
+    (length l.links ≡ length l.initial.links) × (children_apart l.table.schema.now l.table.rows.now ≡ up_to (λ x. apart clash (names_of l.table.schema.now l.table.rows.now (children l.table.rows.now x))) l.r l.r-end)

@@ -1,6 +1,5 @@
--- `table::names::good_names` says whether rule 5 holds.
+-- `names::good_names` says whether rule 5 holds.
 -- The loop tests every row.
-use Prim.Native.Nat.{◌-◌}
 use mathlib.Core.Path.{◌≡◌}
 use Rattle.rules.specs.Rules.{good_names}
 use Rattle.table.specs.Definitions.{name_fits}
@@ -8,7 +7,4 @@ use Rattle.rows.proofs.Walks.{up_to}
 use Rattle.table.proofs.names.good_names.Given as goal
 
 abbrev pub invariant-loop-r : goal.invariant-loop-r
-invariant-loop-r l = good_names l.schema l.rows ≡ up_to (name_fits l.schema l.rows) l.r l.n
-
-abbrev pub decreases-loop-r : goal.decreases-loop-r
-decreases-loop-r l = l.n - l.r
+invariant-loop-r l = good_names l.schema l.rows ≡ up_to (name_fits l.schema l.rows) l.r l.r-end

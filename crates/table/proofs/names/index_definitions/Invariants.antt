@@ -7,6 +7,3 @@ use Rattle.table.proofs.names.index_definitions.Given as goal
 
 abbrev pub invariant-loop-r : goal.invariant-loop-r
 invariant-loop-r l = (length l.links ≡ length l.initial.links) × IndexFrom l.schema l.rows l.heads l.links l.r
-
-abbrev pub decreases-loop-r : goal.decreases-loop-r
-decreases-loop-r l = l.r

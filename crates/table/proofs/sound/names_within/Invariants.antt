@@ -1,6 +1,6 @@
 -- `names_within` meets its contract: of the rows from the first on, what is left to look at.
 -- At each row the end of its name is asked.
-use Prim.Native.Nat.{◌+◌, ◌-◌}
+use Prim.Native.Nat.{◌+◌}
 use lib.Dec.{leb}
 use lib.ListN.{length}
 use Rattle.rules.specs.Rows.{start, size}
@@ -9,7 +9,4 @@ use Rattle.rows.proofs.LoopLaws.{AllLeft}
 use Rattle.table.proofs.sound.names_within.Given as goal
 
 abbrev pub invariant-loop-r : goal.invariant-loop-r
-invariant-loop-r l = AllLeft (names_within l.schema l.rows) (λ x. leb (start l.rows x + size l.rows x) (length l.schema)) l.r l.n
-
-abbrev pub decreases-loop-r : goal.decreases-loop-r
-decreases-loop-r l = l.n - l.r
+invariant-loop-r l = AllLeft (names_within l.schema l.rows) (λ x. leb (start l.rows x + size l.rows x) (length l.schema)) l.r l.r-end

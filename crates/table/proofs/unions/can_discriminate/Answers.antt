@@ -1,6 +1,5 @@
 -- `can_discriminate` meets its contract.
 -- A law for each return: optional, an array, a built-in, or the kind of the type's row.
-use mathlib.Core.Path.{◌∙◌}
 use Rattle.table.proofs.UnionLaws.{optional-fails, array-fails, built_in-fails, enum-discriminates}
 use Rattle.table.proofs.unions.can_discriminate.Goals as goal
 
@@ -14,11 +13,11 @@ pub returns-then-t-lt-FIRST_ROW : goal.returns-then-t-lt-FIRST_ROW
 returns-then-t-lt-FIRST_ROW c =
     built_in-fails _ _ c.word.ensures c.if-word-ne0.false
     c.word-2.ensures c.if-word-ne0-2.false
-    (c.wide-t.ensures ∙ c.word-3.ensures) c.if-t-lt-FIRST_ROW.true
+    c.word-t.ensures c.if-t-lt-FIRST_ROW.true
 
 pub returns : goal.returns
 returns c =
     enum-discriminates _ _ c.word.ensures
     c.if-word-ne0.false c.word-2.ensures
-    c.if-word-ne0-2.false (c.wide-t.ensures ∙ c.word-3.ensures)
-    c.if-t-lt-FIRST_ROW.false c.word-4.ensures
+    c.if-word-ne0-2.false c.word-t.ensures
+    c.if-t-lt-FIRST_ROW.false c.word-3.ensures
