@@ -1,12 +1,13 @@
 -- Definitions of each kind: what the code finds under the keys makes the rows of the body that the keys say.
 use Prim.Native.Nat.{ℕ, ◌+◌}
-use native.Mathlib.Omega.{arith}
-use mathlib.Core.Path.{◌≡◌, refl, sym, ap, ap₂, ◌∙◌, subst}
+use mathlib.Core.Path.{◌≡◌, refl, sym, ap, ◌∙◌, subst}
 use mathlib.Core.Bool.{Bool, true, false, cond}
 use mathlib.Core.Logic.{◌⊎◌, inl, inr}
 use mathlib.Core.List.{List, [], ◌∷◌, map}
 use mathlib.Core.Option.{Option, none, some}
-use lib.ListN.{length-map}
+use lib.ListN.{set, length-map}
+use Rattle.std.specs.Prelude.{Some, None}
+use Rattle.std.specs.Prelude as Std
 use Rattle.grammar.specs.Notation.{text, same, all, apart}
 use Rattle.grammar.specs.Tree.{Json, Fields, start_of, end_of, kind_of}
 use Rattle.grammar.specs.Tree.Kind.{string}
@@ -24,53 +25,47 @@ use Rattle.rules.specs.Definitions.Data.{inline, named}
 use Rattle.rules.specs.Definitions.Body.{enum, struct, alternate}
 use Rattle.rules.specs.Values.{◌>>=◌, if_absent, value_at, any_of}
 use Rattle.rules.specs.Rules.{is}
-use Rattle.rules.specs.SchemaTable.{data_link}
+use Rattle.rules.specs.SchemaTable.{row, data_link}
 use Rattle.rules.specs.Serving.RawTable.{packed}
 use Rattle.rules.proofs.Lists.{clash, none-not-some, is_true}
-use Rattle.definitions.specs.Places.{Found, Named, NameWord, Links, BaseFits}
-use Rattle.definitions.specs.Parts.{value_row, member_row, pair_row, child_rows, counted_rows, CountedAt, FieldsAt, ListAt, KindKeys, keys_of_kind, BodyAt, body_rows, rows_at}
+use Rattle.definitions.specs.Places.{Found, Named, NamedRow, Links, BaseFits}
+use Rattle.definitions.specs.Parts.{value_row, member_row, pair_row, child_rows, counted_rows, CountedAt, FieldsAt, KindKeys, keys_of_kind, BodyAt, body_rows, rows_at}
 use Rattle.definitions.proofs.Options.{then, must-then, never}
 use Rattle.definitions.proofs.CountLaws.{counted_rows_lem}
 
 -- what stands under a key
-pub found_at : {s w : List ℕ} {name : List ℕ} {fs : Fields} {k r : ℕ} → FieldsAt s w fs k → FindsValue schema s w k name r → Found s w (value_at name fs) r
+pub found_at : {s w : List ℕ} {name : List ℕ} {fs : Fields} {k : ℕ} {r : Std.Option ℕ} → FieldsAt s w fs k → FindsValue schema s w k name r → Found s w (value_at name fs) r
 found_at {fs = fs} h g = record { small = h.small; level = h.level; found = g.told fs h.level h.holds }
 
 -- it is there, or nowhere
 pub record Somewhere (s w : List ℕ) (o : Option Json) (k : ℕ) : Type 0 where
   pub value : Json
   pub is : o ≡ some value
-  pub found : Found s w (some value) k
+  pub found : Found s w (some value) (Some k)
 
-pub somewhere : {s w : List ℕ} {k : ℕ} (o : Option Json) → Found s w o k → (k ≡ 0 → ⊥) → Somewhere s w o k
-somewhere none f n = absurd (n f.found)
-somewhere (some j) f n = record { value = j; is = refl; found = f }
+pub somewhere : {s w : List ℕ} {k : ℕ} {r : Std.Option ℕ} (o : Option Json) → Found s w o r → r ≡ Some k → Somewhere s w o k
+somewhere {s} {w} {k} o f e = go o (subst (Found s w o) e f)
+  where
+    go : (o : Option Json) → Found s w o (Some k) → Somewhere s w o k
+    go none f = absurd f.found
+    go (some j) f = record { value = j; is = refl; found = f }
 
-pub nowhere : {s w : List ℕ} {k : ℕ} (o : Option Json) → Found s w o k → k ≡ 0 → o ≡ none
-nowhere none f e = refl
-nowhere (some j) f e = absurd (omega (arith, f.found.0))
+pub nowhere : {s w : List ℕ} {r : Std.Option ℕ} (o : Option Json) → Found s w o r → r ≡ None → o ≡ none
+nowhere {s} {w} o f e = go o (subst (Found s w o) e f)
+  where
+    go : (o : Option Json) → Found s w o None → o ≡ none
+    go none f = refl
+    go (some j) f = absurd f.found
 
 -- a body that is a row and its children, whatever its kind
 counted-body : {A : Type 0} (f : A → List ℕ) (kind link n : ℕ) (name : Name) (body : List A → Body)
-    → ((l : List A) → body_rows n name (body l) ≡ counted_rows kind name.start name.size link (map f l)) → (shape : Json → Option (List A)) (o : Option Json)
+    → ((l : List A) → body_rows n name (body l) ≡ counted_rows (row kind name 0 link 0 0) (map f l)) → (shape : Json → Option (List A)) (o : Option Json)
     → ((must shape o >>= λ l. some (body l)) >>= λ b. some (body_rows n name b))
-    ≡ (must (λ j. shape j >>= λ l. some (map f l)) o >>= λ rs. some (counted_rows kind name.start name.size link rs))
+    ≡ (must (λ j. shape j >>= λ l. some (map f l)) o >>= λ rs. some (counted_rows (row kind name 0 link 0 0) rs))
 counted-body f kind link n name body same shape o =
     then body (λ b. some (body_rows n name b)) (must shape o)
-    ∙ counted_rows_lem f kind name.start name.size link (λ l. body_rows n name (body l)) same (must shape o)
-    ∙ ap (λ (x : Option (List (List ℕ))). x >>= λ rs. some (counted_rows kind name.start name.size link rs)) (sym (must-then (map f) shape o))
-
-pub list_counted : {s w : List ℕ} {kind link v d start size : ℕ} → NameWord w v 0 (λ n. n.start) start → NameWord w v 0 (λ n. n.size) size
-    → (o : Option (List ℕ)) → ListAt s w kind link v d o → CountedAt s w kind start size link d o
-list_counted {kind = kind} {link} a b o h =
-    record {
-      value = h.value;
-      found = h.found;
-      are =
-          h.are
-          ∙ ap₂ (λ (i j : ℕ). must (child_rows (kind + 1)) h.value >>= λ rs. some (counted_rows kind i j link rs)) (sym (a.told h.name h.named))
-          (sym (b.told h.name h.named));
-    }
+    ∙ counted_rows_lem f (row kind name 0 link 0 0) (λ l. body_rows n name (body l)) same (must shape o)
+    ∙ ap (λ (x : Option (List (List ℕ))). x >>= λ rs. some (counted_rows (row kind name 0 link 0 0) rs)) (sym (must-then (map f) shape o))
 
 -- with no other key, a definition is what its keys say
 only_none : (ks : List (List ℕ)) (fs : Fields) (name : Name) (o : Option Body) → all (any_of ks) (keys_of fs) ≡ false → only ks fs name o ≡ none
@@ -89,7 +84,7 @@ pub record BodyLeft (s w : List ℕ) (body : Fields → Option Body) (k v n : �
   pub named : Named w v 0 name
   pub are : o ≡ (body fs >>= λ b. some (body_rows n name b))
 
-module _ {s w : List ℕ} (ks : KindKeys) (a : apart same (ks.own ∷ ks.others) ≡ true) {k v n : ℕ} {vs : List ℕ} {t : Bool} (f : FindsEach schema s w k ks.others vs) (g : NoOthers w k (v ∷ vs) t) where
+module _ {s w : List ℕ} (ks : KindKeys) (a : apart same (ks.own ∷ ks.others) ≡ true) {k v n : ℕ} {vs : List (Std.Option ℕ)} {t : Bool} (f : FindsEach schema s w k ks.others vs) (g : NoOthers w k (Some v ∷ vs) t) where
   keys_are : {b : Bool} → t ≡ b → (o : Option (List ℕ)) (h : BodyAt s w ks k v n o) → all (any_of (ks.own ∷ ks.others)) (keys_of h.fs) ≡ b
   keys_are e o h = sym ((only_these Schema a (h.own and f) g e).told h.fs h.fields.level h.fields.holds h.once)
 
@@ -124,20 +119,17 @@ none_is : {A : Type 0} (o : Option A) → is o (λ _. true) ≡ false → o ≡ 
 none_is none e = refl
 none_is (some x) e = clash refl e
 
-module _ {s w : List ℕ} {k v n d : ℕ} (f : FindsValue schema s w k (text "data") d) where
-  list_of : {body : Fields → Option Body} (kind link : ℕ) (o : Option (List ℕ)) (h : BodyLeft s w body k v n o)
+named-kind : {w own : List ℕ} {v kind : ℕ} → NamedRow w v 0 kind own → (x : ℕ) → kind ≡ x → NamedRow w v 0 x own
+named-kind {w} {own} {v} m x e = subst (λ (i : ℕ). NamedRow w v 0 i own) e m
+
+module _ {s w : List ℕ} {k v n : ℕ} {d : Std.Option ℕ} (f : FindsValue schema s w k (text "data") d) where
+  list_of : {own : List ℕ} {body : Fields → Option Body} (kind link : ℕ) (o : Option (List ℕ)) (h : BodyLeft s w body k v n o) → own ≡ row kind h.name 0 link 0 0
       → (body h.fs >>= λ b. some (body_rows n h.name b))
-      ≡ (must (child_rows (kind + 1)) (value_at (text "data") h.fs) >>= λ rs. some (counted_rows kind h.name.start h.name.size link rs)) → ListAt s w kind link v d o
-  list_of kind link o h e = record { value = value_at (text "data") h.fs; found = found_at h.fields f; name = h.name; named = h.named; are = h.are ∙ e }
-
-  enum-list : (o : Option (List ℕ)) → BodyLeft s w enum_body k v n o → ListAt s w enum_kind 0 v d o
-  enum-list o h = list_of enum_kind 0 o h (counted-body value_row enum_kind 0 n h.name enum (λ l. rw (length-map l value_row)) as_names (value_at (text "data") h.fs))
-
-  alternate-list : (o : Option (List ℕ)) → BodyLeft s w alternate_body k v n o → ListAt s w alternate_kind 0 v d o
-  alternate-list o h = list_of alternate_kind 0 o h (counted-body (pair_row alternative_kind) alternate_kind 0 n h.name alternate (λ l. rw (length-map l (pair_row alternative_kind))) as_pairs (value_at (text "data") h.fs))
+      ≡ (must (child_rows (kind + 1)) (value_at (text "data") h.fs) >>= λ rs. some (counted_rows (row kind h.name 0 link 0 0) rs)) → CountedAt s w own d o
+  list_of {own} kind link o h q e = subst (λ (x : List ℕ). CountedAt s w x d o) (sym q) (record { value = value_at (text "data") h.fs; found = found_at h.fields f; are = h.are ∙ e })
 
   -- an enum or an alternate
-  module _ {kind : ℕ} {t : Bool} (g : NoOthers w k (v ∷ d ∷ []) t) where
+  module _ {kind : ℕ} {t : Bool} (g : NoOthers w k (Some v ∷ d ∷ []) t) where
     at-kind : (x : ℕ) → kind ≡ x → (o : Option (List ℕ)) → BodyAt s w (keys_of_kind kind) k v n o → BodyAt s w (keys_of_kind x) k v n o
     at-kind x e o h = subst (λ (i : ℕ). BodyAt s w (keys_of_kind i) k v n o) e h
 
@@ -145,22 +137,31 @@ module _ {s w : List ℕ} {k v n d : ℕ} (f : FindsValue schema s w k (text "da
     list-refused (inl p) e o h = other_key (keys_of_kind enum_kind) refl (f and nothing) g e o (at-kind enum_kind p o h)
     list-refused (inr p) e o h = other_key (keys_of_kind alternate_kind) refl (f and nothing) g e o (at-kind alternate_kind p o h)
 
-    pub list_handed : (kind ≡ enum_kind) ⊎ (kind ≡ alternate_kind) → t ≡ true → (o : Option (List ℕ)) → BodyAt s w (keys_of_kind kind) k v n o → ListAt s w kind 0 v d o
-    list_handed (inl p) e o h = rw p (enum-list o (no_other-key (keys_of_kind enum_kind) refl (f and nothing) g e o (at-kind enum_kind p o h)))
-    list_handed (inr p) e o h = rw p (alternate-list o (no_other-key (keys_of_kind alternate_kind) refl (f and nothing) g e o (at-kind alternate_kind p o h)))
+    module _ {own : List ℕ} (m : NamedRow w v 0 kind own) where
+      enum-list : kind ≡ enum_kind → (o : Option (List ℕ)) → BodyLeft s w enum_body k v n o → CountedAt s w own d o
+      enum-list e o h = list_of enum_kind 0 o h ((named-kind m enum_kind e).told h.name h.named) (counted-body value_row enum_kind 0 n h.name enum (λ l. rw (length-map l value_row)) as_names (value_at (text "data") h.fs))
 
-  pub struct-list : {base link : ℕ} {r : Bool} → FindsValue schema s w k (text "base") base → BaseFits w base r → r ≡ true → Links w base n link
-      → (o : Option (List ℕ)) → BodyLeft s w struct_body k v n o → ListAt s w struct_kind link v d o
-  struct-list {link = link} u e t l o h =
-      let b = value_at (text "base") h.fs in
-      let f = found_at h.fields u in
-      let x = is_true (may as_name b) (λ _. true) (e.told s b f ∙ t) in
-      let y : link ≡ if_absent 0 packed x.0 = l.told s b f (x.0 >>= λ i. some (named i)) (base_data b x.0 x.1) ∙ base_link n x.0 in
-      list_of struct_kind link o h
-      (ap (λ (i : Option (Option Name)). (must as_members (value_at (text "data") h.fs) >>= λ ms. i >>= λ b. some (struct b ms)) >>= λ b. some (body_rows n h.name b)) x.1
-      ∙ counted-body member_row struct_kind link n h.name (λ ms. struct x.0 ms) (λ ms. rw (y, length-map ms member_row)) as_members (value_at (text "data") h.fs))
+      alternate-list : kind ≡ alternate_kind → (o : Option (List ℕ)) → BodyLeft s w alternate_body k v n o → CountedAt s w own d o
+      alternate-list e o h = list_of alternate_kind 0 o h ((named-kind m alternate_kind e).told h.name h.named)
+          (counted-body (pair_row alternative_kind) alternate_kind 0 n h.name alternate (λ l. rw (length-map l (pair_row alternative_kind))) as_pairs (value_at (text "data") h.fs))
 
-pub struct-refused : {s w : List ℕ} {k v n base : ℕ} {r : Bool} → FindsValue schema s w k (text "base") base → BaseFits w base r → r ≡ false
+      pub list_handed : (kind ≡ enum_kind) ⊎ (kind ≡ alternate_kind) → t ≡ true → (o : Option (List ℕ)) → BodyAt s w (keys_of_kind kind) k v n o → CountedAt s w own d o
+      list_handed (inl p) e o h = enum-list p o (no_other-key (keys_of_kind enum_kind) refl (f and nothing) g e o (at-kind enum_kind p o h))
+      list_handed (inr p) e o h = alternate-list p o (no_other-key (keys_of_kind alternate_kind) refl (f and nothing) g e o (at-kind alternate_kind p o h))
+
+pub struct-list : {s w own : List ℕ} {k v n link : ℕ} {d base : Std.Option ℕ} {r : Bool} → FindsValue schema s w k (text "data") d → FindsValue schema s w k (text "base") base
+    → BaseFits w base r → r ≡ true → NamedRow w v 0 struct_kind own → Links w base n link
+    → (o : Option (List ℕ)) → BodyLeft s w struct_body k v n o → CountedAt s w (set own 4 link) d o
+struct-list {s} {n = n} {link} f u e t m l o h =
+    let b = value_at (text "base") h.fs in
+    let z = found_at h.fields u in
+    let x = is_true (may as_name b) (λ _. true) (e.told s b z ∙ t) in
+    let y : link ≡ if_absent 0 packed x.0 = l.told s b z (x.0 >>= λ i. some (named i)) (base_data b x.0 x.1) ∙ base_link n x.0 in
+    list_of f struct_kind link o h (ap (λ (i : List ℕ). set i 4 link) (m.told h.name h.named))
+    (ap (λ (i : Option (Option Name)). (must as_members (value_at (text "data") h.fs) >>= λ ms. i >>= λ b. some (struct b ms)) >>= λ b. some (body_rows n h.name b)) x.1
+    ∙ counted-body member_row struct_kind link n h.name (λ ms. struct x.0 ms) (λ ms. rw (y, length-map ms member_row)) as_members (value_at (text "data") h.fs))
+
+pub struct-refused : {s w : List ℕ} {k v n : ℕ} {base : Std.Option ℕ} {r : Bool} → FindsValue schema s w k (text "base") base → BaseFits w base r → r ≡ false
     → (o : Option (List ℕ)) → BodyLeft s w struct_body k v n o → o ≡ none
 struct-refused {s} {n = n} u e t o h =
     let b = value_at (text "base") h.fs in

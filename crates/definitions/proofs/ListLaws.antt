@@ -21,8 +21,9 @@ use Rattle.rules.specs.Kinds.{value_kind, member_kind}
 use Rattle.rules.specs.Definitions.{as_name, as_member, as_pair, each_item, each_field, as_names, as_members, as_pairs, must}
 use Rattle.rules.specs.Values.{◌>>=◌}
 use Rattle.rules.specs.SchemaTable.{concat}
-use Rattle.definitions.specs.declared.writing.Put.{Put}
-use Rattle.definitions.specs.declared.writing.Put.TheVariants.{Rows, Refused}
+use Rattle.std.specs.Prelude.{Some, None, Result, Ok, Err}
+use Rattle.std.specs.Prelude as Std
+use Rattle.definitions.specs.declared.writing.NotDefinitions.{NotDefinitions}
 use Rattle.definitions.specs.Places.{Held, Found}
 use Rattle.definitions.specs.Written.{RowPut, RowsAre, PutsRows}
 use Rattle.definitions.specs.Parts.{value_row, member_row, pair_row, child_rows, member_field, pair_field, FieldAt, ChildAt, ChildrenAt}
@@ -157,8 +158,8 @@ module _ {s w : List ℕ} {kind : ℕ} {old : List ℕ} {n b e : ℕ} where
 
   module _ {now : List ℕ} {a m : ℕ} (v : ChildrenLeft s w kind old now n b a e m) where
     -- one child more
-    module _ {new : List ℕ} {r : Put} (h : a < e) (g : PutsRows (ChildAt s w kind a) now new m 1 r) where
-      pub children-on : {p i : ℕ} → r ≡ Rows p → i ≡ next w a → a < i → i ≤ 0xFFFF_FFFF → ChildrenLeft s w kind old new n b i e p
+    module _ {new : List ℕ} {r : Result ℕ NotDefinitions} (h : a < e) (g : PutsRows (ChildAt s w kind a) now new m 1 r) where
+      pub children-on : {p i : ℕ} → r ≡ Ok p → i ≡ next w a → a < i → i ≤ 0xFFFF_FFFF → ChildrenLeft s w kind old new n b i e p
       children-on {p} {i} t y z j =
           let f = bounds g t in
           record {
@@ -180,7 +181,7 @@ module _ {s w : List ℕ} {kind : ℕ} {old : List ℕ} {n b e : ℕ} where
                 };
           }
 
-      pub children_fail : r ≡ Refused → (o : Option (List ℕ)) → Listed s w kind b e o → o ≡ none
+      pub children_fail : {bad : NotDefinitions} → r ≡ Err bad → (o : Option (List ℕ)) → Listed s w kind b e o → o ≡ none
       children_fail t o l =
           let u = v.passed o l in
           let x = listed-first s w kind h u.listed in
@@ -195,16 +196,16 @@ module _ {s w : List ℕ} {kind : ℕ} {old : List ℕ} {n b e : ℕ} where
         record { xs = u.xs; are = u.is ∙ ap (ahead u.xs) (listed-end s w kind h u.listed) ∙ ap some (append-nil u.xs); size = u.size; put = u.put }
 
 -- the value at node k lists children exactly if its kind is that of their list
-module _ {s w : List ℕ} {kind k x list : ℕ} (z : k ≡ 0 → ⊥) (e : x ≡ node_kind w k) (f : list ≡ cond (eqb kind value_kind) array_node object_node) where
+module _ {s w : List ℕ} {kind k x list : ℕ} {there_at : Std.Option ℕ} (z : there_at ≡ Some k) (e : x ≡ node_kind w k) (f : list ≡ cond (eqb kind value_kind) array_node object_node) where
   there : {P : Option (List ℕ) → Type 0}
-      → ((j : Json) → Held s w j k → (o : Option (List ℕ)) → o ≡ (child_rows kind j >>= λ rs. some (concat rs)) → P o) → (o : Option (List ℕ)) → ChildrenAt s w kind k o → P o
-  there {P} g o v = go v.value v.found v.are
+      → ((j : Json) → Held s w j k → (o : Option (List ℕ)) → o ≡ (child_rows kind j >>= λ rs. some (concat rs)) → P o) → (o : Option (List ℕ)) → ChildrenAt s w kind there_at o → P o
+  there {P} g o v = go v.value (subst (Found s w v.value) z v.found) v.are
     where
-      go : (y : Option Json) → Found s w y k → o ≡ (must (child_rows kind) y >>= λ rs. some (concat rs)) → P o
-      go none u q = absurd (z u.found)
+      go : (y : Option Json) → Found s w y (Some k) → o ≡ (must (child_rows kind) y >>= λ rs. some (concat rs)) → P o
+      go none u q = absurd u.found
       go (some j) u q = g j (held-there u) o q
 
-  pub children-other : (x ≡ list → ⊥) → (o : Option (List ℕ)) → ChildrenAt s w kind k o → o ≡ none
+  pub children-other : (x ≡ list → ⊥) → (o : Option (List ℕ)) → ChildrenAt s w kind there_at o → o ≡ none
   children-other n = there (λ j h o q. q ∙ go j h (eqb kind value_kind) (eqb kind member_kind) f)
     where
       go : (j : Json) → Held s w j k → (a b : Bool) → list ≡ cond a array_node object_node
@@ -216,7 +217,7 @@ module _ {s w : List ℕ} {kind k x list : ℕ} (z : k ≡ 0 → ⊥) (e : x ≡
       go j h false false y = rw (no_object j h (λ q. n (e ∙ q ∙ sym y)))
 
   module _ {end : ℕ} (t : x ≡ list) (p : end ≡ next w k) where
-    pub children-list : (o : Option (List ℕ)) → ChildrenAt s w kind k o → (k < end) × Listed s w kind (k + 1) end o
+    pub children-list : (o : Option (List ℕ)) → ChildrenAt s w kind there_at o → (k < end) × Listed s w kind (k + 1) end o
     children-list = there (λ j h o q. go j h o (eqb kind value_kind) (eqb kind member_kind) refl refl f q)
       where
         go : (j : Json) → Held s w j k → (o : Option (List ℕ)) (a b : Bool) → eqb kind value_kind ≡ a → eqb kind member_kind ≡ b → list ≡ cond a array_node object_node
@@ -244,12 +245,12 @@ module _ {s w : List ℕ} {kind k x list : ℕ} (z : k ≡ 0 → ⊥) (e : x ≡
                   (q ∙ rw r.is (mapped (pair_row kind) (each_field as_pair r.fs))),
             )
 
-    pub list_stuck : end ≤ k → (o : Option (List ℕ)) → ChildrenAt s w kind k o → o ≡ none
+    pub list_stuck : end ≤ k → (o : Option (List ℕ)) → ChildrenAt s w kind there_at o → o ≡ none
     list_stuck q o v = absurd (omega (arith, (children-list o v).0))
 
-pub list-absent : {s w : List ℕ} {kind k : ℕ} → k ≡ 0 → (o : Option (List ℕ)) → ChildrenAt s w kind k o → o ≡ none
-list-absent {s} {w} {kind} {k} e o v = go v.value v.found v.are
+pub list-absent : {s w : List ℕ} {kind : ℕ} {k : Std.Option ℕ} → k ≡ None → (o : Option (List ℕ)) → ChildrenAt s w kind k o → o ≡ none
+list-absent {s} {w} {kind} e o v = go v.value (subst (Found s w v.value) e v.found) v.are
   where
-    go : (y : Option Json) → Found s w y k → o ≡ (must (child_rows kind) y >>= λ rs. some (concat rs)) → o ≡ none
+    go : (y : Option Json) → Found s w y None → o ≡ (must (child_rows kind) y >>= λ rs. some (concat rs)) → o ≡ none
     go none u q = q
-    go (some j) u q = absurd (omega (arith, u.found.0))
+    go (some j) u q = absurd u.found

@@ -3,10 +3,11 @@ use Prim.Native.Nat.{ℕ, suc, ◌+◌, ◌-◌, ◌*◌, ◌^◌, ◌≤◌, �
 use Prim.Native.Char.{code}
 use native.Mathlib.Nat.{add-zero}
 use native.Mathlib.Omega.{arith}
-use mathlib.Core.Path.{◌≡◌, refl, sym, ap, ap₂, ◌∙◌, subst, subst₂}
+use mathlib.Core.Path.{◌≡◌, refl, sym, ap, ap₂, ◌∙◌, subst}
 use mathlib.Core.Bool.{Bool, true, false}
 use mathlib.Core.List.{List, [], ◌∷◌}
 use mathlib.Core.Option.{none, some}
+use mir.Val.{bool_byte}
 use lib.Dec.{eqb}
 use lib.ListN.{length, get_or}
 use lib.Seq.{get_or-drop}
@@ -29,8 +30,7 @@ use Rattle.rules.specs.Types.{same_kind}
 use Rattle.rules.specs.Definitions.{Name, TypeText, quoted, as_name, starred, keyed_member}
 use Rattle.rules.specs.SchemaTable.{flag}
 use Rattle.rules.specs.Serving.RawTable.{packed}
-use Rattle.definitions.specs.Written.{RowPut, NamedRowPut}
-use Rattle.definitions.specs.Places.{Held, Keyed, Named, NameWord, Star}
+use Rattle.definitions.specs.Places.{Held, Keyed, Named, NameWord, NamedRow, Star}
 
 -- a token from place a to e, `skip` bytes of it left out
 named-at : {s w : List ℕ} {k kind a e skip : ℕ} {cs : List ℕ} → length s ≤ schema_bytes → skip ≤ 1 → Node w k kind a e → Means schema s a e cs → Named w k skip (quoted (a + skip) e)
@@ -100,13 +100,12 @@ module _ {s w : List ℕ} {a i : ℕ} where
   inside : {x e : ℕ} {key : List ℕ} → i ≡ node_start w a + 1 → Keyed s w a x e key → i < length s
   inside p h = omega (arith, h.node_is.has_start, h.means.wide, h.means.within)
 
-  pub star-there : {r : Bool} → i ≡ node_start w a + 1 → Stands s i (code "*") r → r ≡ true → Star s w a 1
-  star-there p t e =
-      record { told = λ x y key h. sym (ap flag (first_byte p h ∙ eq-eqb (get_or s i 0) (code "*") (subst (λ (b : Bool). StandsTold s i (code "*") b) e t.told).1)) }
-
-  pub star-none : {r : Bool} → i ≡ node_start w a + 1 → Stands s i (code "*") r → r ≡ false → Star s w a 0
-  star-none p t e =
-      record { told = λ x y key h. sym (ap flag (first_byte p h ∙ ne_eqb (get_or s i 0) (code "*") (subst (λ (b : Bool). StandsTold s i (code "*") b) e t.told (inside p h)))) }
+  pub star_lem : {r : Bool} → i ≡ node_start w a + 1 → Stands s i (code "*") r → Star s w a r
+  star_lem {r} p t = record { told = λ x y key h. go r t.told (inside p h) ∙ sym (first_byte p h) }
+    where
+      go : (r : Bool) → StandsTold s i (code "*") r → i < length s → r ≡ eqb (get_or s i 0) (code "*")
+      go true q h = sym (eq-eqb (get_or s i 0) (code "*") q.1)
+      go false q h = sym (ne_eqb (get_or s i 0) (code "*") (q h))
 
 -- words about a name, as the code computes them
 module _ {w : List ℕ} {k skip x r : ℕ} (f : x < 2 ^ 32 → r ≡ x) where
@@ -127,10 +126,11 @@ packed-word {w} {k} {a = a} {b} f e g h =
           f (omega (arith, m.within)) ∙ e ∙ ap₂ (λ (i j : ℕ). schema_bytes * i + j) u v;
     }
 
-pub named-row : {w old new : List ℕ} {k skip n kind start size a b c d : ℕ} → NameWord w k skip (λ n. n.start) start → NameWord w k skip (λ n. n.size) size
-    → RowPut old new n (kind ∷ start ∷ size ∷ a ∷ b ∷ c ∷ d ∷ 0 ∷ []) → NamedRowPut w old new k skip n kind a b c d
-named-row {old = old} {new} {n = n} {kind} {a = a} {b} {c} {d} f g h =
-    record {
-      same_length = h.same_length;
-      told = λ (m : Name) x. subst₂ (λ (i j : ℕ). RowPut old new n (kind ∷ i ∷ j ∷ a ∷ b ∷ c ∷ d ∷ 0 ∷ [])) (f.told m x) (g.told m x) h;
-    }
+pub named_row_lem : {w : List ℕ} {k skip kind start size : ℕ} → NameWord w k skip (λ n. n.start) start → NameWord w k skip (λ n. n.size) size
+    → NamedRow w k skip kind (kind ∷ start ∷ size ∷ 0 ∷ 0 ∷ 0 ∷ 0 ∷ 0 ∷ [])
+named_row_lem {kind = kind} f g = record { first = refl; told = λ (m : Name) x. ap₂ (λ (i j : ℕ). kind ∷ i ∷ j ∷ 0 ∷ 0 ∷ 0 ∷ 0 ∷ 0 ∷ []) (f.told m x) (g.told m x) }
+
+-- a truth value as a word
+pub flag_word : (b : Bool) → bool_byte b ≡ flag b
+flag_word true = refl
+flag_word false = refl

@@ -27,17 +27,15 @@ use Rattle.rules.specs.Values.{◌>>=◌, if_absent, as_items, as_fields, as_fla
 use Rattle.rules.specs.Rules.{is}
 use Rattle.rules.specs.SchemaTable.{data_link}
 use Rattle.rules.specs.Serving.RawTable.{packed}
+use Rattle.std.specs.Prelude.{Some, None, Result, Ok, Err}
+use Rattle.std.specs.Prelude as Std
 use Rattle.definitions.specs.declared.shapes.TypeText as Text
-use Rattle.definitions.specs.declared.shapes.TypeText.TheVariants.{One, ListOf, Other}
-use Rattle.definitions.specs.declared.shapes.TypeRead.{TypeRead}
-use Rattle.definitions.specs.declared.shapes.FlagRead.{FlagRead}
-use Rattle.definitions.specs.declared.shapes.TypeRead.TheVariants as Types
-use Rattle.definitions.specs.declared.shapes.FlagRead.TheVariants as Flags
-use Rattle.definitions.specs.Places.{Held, Found, Named, NameWord, TextTold, ReadsList, ReadsType, TypeTold, ReturnTold, TakesType, TakesReturn, FlagTold, TakesFlag, Links, BaseFits}
+use Rattle.definitions.specs.declared.writing.NotDefinitions.{NotDefinitions}
+use Rattle.definitions.specs.Places.{Held, Found, Named, NameWord, ReadsList, ReadsType, TypeTold, ReturnTold, TakesReturn, FlagTold, TakesFlag, Links, BaseFits}
 use Rattle.definitions.specs.Parts.{FieldsAt}
 use Rattle.definitions.proofs.NameLaws.{is_name, no_string, no_name}
 
-pub held-there : {s w : List ℕ} {j : Json} {k : ℕ} → Found s w (some j) k → Held s w j k
+pub held-there : {s w : List ℕ} {j : Json} {k : ℕ} → Found s w (some j) (Some k) → Held s w j k
 held-there f = record { small = f.small; level = f.level; holds = f.found.1 }
 
 -- what stands at a node by its kind
@@ -118,145 +116,117 @@ LinkSo n r o = (d : Option Data) → o ≡ some d → r ≡ if_absent 0 (data_li
 link-is : (n r : ℕ) (x : Option Data) → r ≡ if_absent 0 (data_link packed n) x → LinkSo n r (some x)
 link-is n r x e d q = subst (λ (y : Option Data). r ≡ if_absent 0 (data_link packed n) y) (some_is q) e
 
+-- a type by the word of its name
+type_taken : {o : Option TypeText} {n : Name} {p : ℕ} (list : Bool) → o ≡ some (record { name = n; list = list }) → p ≡ packed n → TypeTold o (Ok (record { name = p; list = list }))
+type_taken {n = n} list e q = record { type = record { name = n; list = list }; is = e; place = q; list = refl }
+
 -- a return that is there
-type_returned : (o : Option TypeText) (r : TypeRead) → TypeTold o r → ReturnTold (o >>= λ t. some (some t)) r
-type_returned o (Types.Taken p q) t = record { type = some t.type; is = rw t.is; place = t.place; list = t.list }
-type_returned o Types.Refused t = rw t
+type_returned : (o : Option TypeText) (r : Result Text.TypeText NotDefinitions) → TypeTold o r → ReturnTold (o >>= λ t. some (some t)) r
+type_returned o (Ok t) m = record { type = some m.type; is = rw m.is; place = m.place; list = m.list }
+type_returned o (Err e) m = rw m
 
 -- a list type, by the tests of its reader
 module _ {w : List ℕ} {k : ℕ} where
-  pub list-no_array : {x : ℕ} → x ≡ node_kind w k → (x ≡ array_node → ⊥) → ReadsList w k Other
+  pub list-no_array : {bad : NotDefinitions} {x : ℕ} → x ≡ node_kind w k → (x ≡ array_node → ⊥) → ReadsList w k (Err bad)
   list-no_array e n = record { told = λ s j h. rw (no_array j h (λ q. n (e ∙ q))) }
 
   module _ {x end : ℕ} (e : x ≡ node_kind w k) (u : x ≡ array_node) (p : end ≡ next w k) where
-    list-so : {r : Text.TypeText} → ((s : List ℕ) (j : Json) (v : ArrayAt s w j k) → TextTold (list_type v.items) r) → ReadsList w k r
+    list-so : {r : Result Text.TypeText NotDefinitions} → ((s : List ℕ) (j : Json) (v : ArrayAt s w j k) → TypeTold (list_type v.items) r) → ReadsList w k r
     list-so f = record { told = λ s j h. let v = as_array j h (sym e ∙ u) in rw v.is (f s j v) }
 
-    pub list_stuck : end ≤ k → ReadsList w k Other
+    pub list_stuck : {bad : NotDefinitions} → end ≤ k → ReadsList w k (Err bad)
     list_stuck o = list-so (λ s j v. absurd (omega (arith, v.on)))
 
     module _ {first : ℕ} {t : Bool} (g : first ≡ suc k) (q : t ≡ string_kind (node_kind w first)) where
       there : {s : List ℕ} {j : Json} (v : ArrayAt s w j k) → HoldsItems schema s w v.items v.level first end
       there {s} v = subst₂ (λ (a b : ℕ). HoldsItems schema s w v.items v.level a b) (sym g) (sym p) v.holds
 
-      pub list_no_string : t ≡ false → ReadsList w k Other
+      pub list_no_string : {bad : NotDefinitions} → t ≡ false → ReadsList w k (Err bad)
       list_no_string f = list-so (λ s j v. no_first s w first end v.level v.small q f v.items (there v))
 
-      pub list-other : t ≡ true → (end - first ≡ 1 → ⊥) → ReadsList w k Other
+      pub list-other : {bad : NotDefinitions} → t ≡ true → (end - first ≡ 1 → ⊥) → ReadsList w k (Err bad)
       list-other f n = list-so (λ s j v. not-one s w first end v.level v.small q f n v.items (there v))
 
-      pub list-one : t ≡ true → end - first ≡ 1 → {r : ℕ} → NameWord w first 0 packed r → ReadsList w k (ListOf r)
-      list-one f n m = list-so (λ s j v. let y = just_one s w first end v.level v.small q f n v.items (there v) in (y.0, y.1, m.told y.0 y.2))
+      pub list-one : t ≡ true → end - first ≡ 1 → {r : ℕ} → NameWord w first 0 packed r → ReadsList w k (Ok (record { name = r; list = true }))
+      list-one f n m = list-so (λ s j v. let y = just_one s w first end v.level v.small q f n v.items (there v) in type_taken true y.1 (m.told y.0 y.2))
 
   module _ {t : Bool} (q : t ≡ string_kind (node_kind w k)) where
-    pub type_name_lem : t ≡ true → {r : ℕ} → NameWord w k 0 packed r → ReadsType w k (One r)
+    pub type_name_lem : t ≡ true → {r : ℕ} → NameWord w k 0 packed r → ReadsType w k (Ok (record { name = r; list = false }))
     type_name_lem f m =
         record {
-          told = λ s j h. let v = is_name h q f in (v.name, rw v.kind (ap (λ (n : Name). some (record { name = n; list = false })) (sym v.here)), m.told v.name v.named);
+          told = λ s j h. let v = is_name h q f in type_taken false (rw v.kind (ap (λ (n : Name). some (record { name = n; list = false })) (sym v.here))) (m.told v.name v.named);
         }
 
-    pub type-list : t ≡ false → {r : Text.TypeText} → ReadsList w k r → ReadsType w k r
+    pub type-list : t ≡ false → {r : Result Text.TypeText NotDefinitions} → ReadsList w k r → ReadsType w k r
     type-list f m = record { told = λ s j h. rw (no_string h q f) (m.told s j h) }
 
-  module _ {r : Text.TypeText} (m : ReadsType w k r) where
-    told_of : {x : Text.TypeText} → r ≡ x → (s : List ℕ) (j : Json) → Held s w j k → TextTold (as_type j) x
-    told_of e s j h = subst (λ (y : Text.TypeText). TextTold (as_type j) y) e (m.told s j h)
+-- a value that may be absent, by where it stands
+module _ {w : List ℕ} where
+  absent-so : {at : Std.Option ℕ} (P : Option Json → Type 0) → at ≡ None → P none → (s : List ℕ) (o : Option Json) → Found s w o at → P o
+  absent-so P e p s o f = go o (subst (Found s w o) e f)
+    where
+      go : (o : Option Json) → Found s w o None → P o
+      go none f = p
+      go (some j) f = absurd f.found
 
-    pub take-one : {p : ℕ} → r ≡ One p → TakesType w k (Types.Taken p 0)
-    take-one e = record { told = λ s j h. let v = told_of e s j h in record { type = record { name = v.0; list = false }; is = v.1; place = v.2; list = refl } }
+  there-so : {at : Std.Option ℕ} {k : ℕ} (P : Option Json → Type 0) → at ≡ Some k → ((s : List ℕ) (j : Json) → Held s w j k → P (some j)) → (s : List ℕ) (o : Option Json) → Found s w o at → P o
+  there-so {k = k} P e p s o f = go o (subst (Found s w o) e f)
+    where
+      go : (o : Option Json) → Found s w o (Some k) → P o
+      go none f = absurd f.found
+      go (some j) f = p s j (held-there f)
 
-    pub take-list : {p : ℕ} → r ≡ ListOf p → TakesType w k (Types.Taken p 1)
-    take-list e = record { told = λ s j h. let v = told_of e s j h in record { type = record { name = v.0; list = true }; is = v.1; place = v.2; list = refl } }
+  module _ {at : Std.Option ℕ} where
+    pub return_absent : at ≡ None → TakesReturn w at (Ok (record { name = 0; list = false }))
+    return_absent e = record { told = absent-so (λ o. ReturnTold (may as_type o) (Ok (record { name = 0; list = false }))) e (record { type = none; is = refl; place = refl; list = refl }) }
 
-    -- what the arm of a `let .. else` is told
-    pub take_none : ((p : ℕ) → r ≡ ListOf p → ⊥) → ((p : ℕ) → r ≡ One p → ⊥) → TakesType w k Types.Refused
-    take_none a b = record { told = told_of (other r a b) }
+    pub return_there : {k : ℕ} → at ≡ Some k → {r : Result Text.TypeText NotDefinitions} → ReadsType w k r → TakesReturn w at r
+    return_there e {r} m = record { told = there-so (λ o. ReturnTold (may as_type o) r) e (λ s j h. type_returned (as_type j) r (m.told s j h)) }
+
+    pub flag-absent : at ≡ None → TakesFlag w at (Ok false)
+    flag-absent e = record { told = absent-so (λ o. FlagTold (may as_flag o) (Ok false)) e (record { value = none; is = refl; says = refl }) }
+
+    module _ {k kind : ℕ} (n : at ≡ Some k) (e : kind ≡ node_kind w k) where
+      flag-so : {r : Result Bool NotDefinitions} → FlagTold (flag_of kind >>= λ b. some (some b)) r → TakesFlag w at r
+      flag-so {r} t = record {
+        told = there-so (λ o. FlagTold (may as_flag o) r) n
+            (λ s j h. subst (λ (o : Option Bool). FlagTold (o >>= λ b. some (some b)) r) (sym (flag_of_lem s w k j h.level h.holds ∙ ap flag_of (sym e))) t);
+      }
+
+      pub flag-false : kind ≡ false_node → TakesFlag w at (Ok false)
+      flag-false q = flag-so (rw q record { value = some false; is = refl; says = refl })
+
+      pub flag_true : kind ≡ true_node → TakesFlag w at (Ok true)
+      flag_true q = flag-so (rw q record { value = some true; is = refl; says = refl })
+
+      pub flag-other : {bad : NotDefinitions} → (kind ≡ false_node → ⊥) → (kind ≡ true_node → ⊥) → TakesFlag w at (Err bad)
+      flag-other a b = flag-so (rw (ne_eqb kind false_node a, ne_eqb kind true_node b) refl)
+
+    -- the link of a base or of data
+    module _ {n : ℕ} where
+      pub link-absent : at ≡ None → Links w at n 0
+      link-absent e = record { told = absent-so (λ o. LinkSo n 0 (may as_data o)) e (link-is n 0 none refl) }
+
+      module _ {k : ℕ} {t : Bool} (z : at ≡ Some k) (q : t ≡ string_kind (node_kind w k)) where
+        link-there : {r : ℕ} → ((s : List ℕ) (j : Json) → Held s w j k → LinkSo n r (as_data j >>= λ d. some (some d))) → Links w at n r
+        link-there {r} g = record { told = there-so (λ o. LinkSo n r (may as_data o)) z g }
+
+        pub link-name : t ≡ true → {r : ℕ} → NameWord w k 0 packed r → Links w at n r
+        link-name f {r} m = link-there (λ s j h. let v = is_name h q f in rw v.kind (link-is n r (some (named (quoted (start_of j) (end_of j)))) (m.told v.name v.named ∙ ap packed v.here)))
+
+        pub link_row : t ≡ false → Links w at n (n + 2)
+        link_row f = link-there (λ s j h. rw (no_string h q f) (go (as_members j)))
+          where
+            go : (o : Option (List Member)) → LinkSo n (n + 2) ((o >>= λ ms. some (inline ms)) >>= λ d. some (some d))
+            go none = λ d e. none-not-some e
+            go (some ms) = link-is n (n + 2) (some (inline ms)) (omega arith)
+
+    pub base-absent : at ≡ None → BaseFits w at true
+    base-absent e = record { told = absent-so (λ o. is (may as_name o) (λ _. true) ≡ true) e refl }
+
+    pub base_there : {k : ℕ} {r : Bool} → at ≡ Some k → r ≡ string_kind (node_kind w k) → BaseFits w at r
+    base_there {k} {r} z q = record { told = there-so (λ o. is (may as_name o) (λ _. true) ≡ r) z (λ s j h. by_name s j h r refl) }
       where
-        other : (x : Text.TypeText) → ((p : ℕ) → x ≡ ListOf p → ⊥) → ((p : ℕ) → x ≡ One p → ⊥) → x ≡ Other
-        other (One p) a b = absurd (b p refl)
-        other (ListOf p) a b = absurd (a p refl)
-        other Other a b = refl
-
-  -- a value that may be absent
-  pub return_absent : k ≡ 0 → TakesReturn w k (Types.Taken 0 0)
-  return_absent e = record { told = go }
-    where
-      go : (s : List ℕ) (o : Option Json) → Found s w o k → ReturnTold (may as_type o) (Types.Taken 0 0)
-      go s none f = record { type = none; is = refl; place = refl; list = refl }
-      go s (some j) f = absurd (omega (arith, f.found.0))
-
-  pub return_there : (k ≡ 0 → ⊥) → {r : TypeRead} → TakesType w k r → TakesReturn w k r
-  return_there n {r} m = record { told = go }
-    where
-      go : (s : List ℕ) (o : Option Json) → Found s w o k → ReturnTold (may as_type o) r
-      go s none f = absurd (n f.found)
-      go s (some j) f = type_returned (as_type j) r (m.told s j (held-there f))
-
-  pub flag-absent : k ≡ 0 → TakesFlag w k (Flags.Flag 0)
-  flag-absent e = record { told = go }
-    where
-      go : (s : List ℕ) (o : Option Json) → Found s w o k → FlagTold (may as_flag o) (Flags.Flag 0)
-      go s none f = record { value = none; is = refl; word = refl }
-      go s (some j) f = absurd (omega (arith, f.found.0))
-
-  module _ {kind : ℕ} (n : k ≡ 0 → ⊥) (e : kind ≡ node_kind w k) where
-    flag-so : {r : FlagRead} → FlagTold (flag_of kind >>= λ b. some (some b)) r → TakesFlag w k r
-    flag-so {r} t = record { told = go }
-      where
-        go : (s : List ℕ) (o : Option Json) → Found s w o k → FlagTold (may as_flag o) r
-        go s none f = absurd (n f.found)
-        go s (some j) f = subst (λ (o : Option Bool). FlagTold (o >>= λ b. some (some b)) r) (sym (flag_of_lem s w k j f.level f.found.1 ∙ ap flag_of (sym e))) t
-
-    pub flag-false : kind ≡ false_node → TakesFlag w k (Flags.Flag 0)
-    flag-false q = flag-so (rw q record { value = some false; is = refl; word = refl })
-
-    pub flag_true : kind ≡ true_node → TakesFlag w k (Flags.Flag 1)
-    flag_true q = flag-so (rw q record { value = some true; is = refl; word = refl })
-
-    pub flag-other : (kind ≡ false_node → ⊥) → (kind ≡ true_node → ⊥) → TakesFlag w k Flags.Refused
-    flag-other a b = flag-so (rw (ne_eqb kind false_node a, ne_eqb kind true_node b) refl)
-
-  -- the link of a base or of data
-  module _ {n : ℕ} where
-    pub link-absent : k ≡ 0 → Links w k n 0
-    link-absent e = record { told = go }
-      where
-        go : (s : List ℕ) (o : Option Json) → Found s w o k → LinkSo n 0 (may as_data o)
-        go s none f = link-is n 0 none refl
-        go s (some j) f = absurd (omega (arith, f.found.0))
-
-    link-there : {r : ℕ} → (k ≡ 0 → ⊥) → ((s : List ℕ) (j : Json) → Held s w j k → LinkSo n r (as_data j >>= λ d. some (some d))) → Links w k n r
-    link-there {r} z g = record { told = go }
-      where
-        go : (s : List ℕ) (o : Option Json) → Found s w o k → LinkSo n r (may as_data o)
-        go s none f = absurd (z f.found)
-        go s (some j) f = g s j (held-there f)
-
-    module _ {t : Bool} (z : k ≡ 0 → ⊥) (q : t ≡ string_kind (node_kind w k)) where
-      pub link-name : t ≡ true → {r : ℕ} → NameWord w k 0 packed r → Links w k n r
-      link-name f {r} m = link-there z (λ s j h. let v = is_name h q f in rw v.kind (link-is n r (some (named (quoted (start_of j) (end_of j)))) (m.told v.name v.named ∙ ap packed v.here)))
-
-      pub link_row : t ≡ false → Links w k n (n + 2)
-      link_row f = link-there z (λ s j h. rw (no_string h q f) (go (as_members j)))
-        where
-          go : (o : Option (List Member)) → LinkSo n (n + 2) ((o >>= λ ms. some (inline ms)) >>= λ d. some (some d))
-          go none = λ d e. none-not-some e
-          go (some ms) = link-is n (n + 2) (some (inline ms)) (omega arith)
-
-  pub base-absent : k ≡ 0 → BaseFits w k true
-  base-absent e = record { told = go }
-    where
-      go : (s : List ℕ) (o : Option Json) → Found s w o k → is (may as_name o) (λ _. true) ≡ true
-      go s none f = refl
-      go s (some j) f = absurd (omega (arith, f.found.0))
-
-  pub base_there : {r : Bool} → (k ≡ 0 → ⊥) → r ≡ string_kind (node_kind w k) → BaseFits w k r
-  base_there {r} z q = record { told = go }
-    where
-      by_name : (s : List ℕ) (j : Json) → Held s w j k → (b : Bool) → r ≡ b → is (as_name j >>= λ n. some (some n)) (λ _. true) ≡ b
-      by_name s j h true e = rw (is_name h q e).is
-      by_name s j h false e = rw (no_name h q e)
-
-      go : (s : List ℕ) (o : Option Json) → Found s w o k → is (may as_name o) (λ _. true) ≡ r
-      go s none f = absurd (z f.found)
-      go s (some j) f = by_name s j (held-there f) r refl
+        by_name : (s : List ℕ) (j : Json) → Held s w j k → (b : Bool) → r ≡ b → is (as_name j >>= λ n. some (some n)) (λ _. true) ≡ b
+        by_name s j h true e = rw (is_name h q e).is
+        by_name s j h false e = rw (no_name h q e)

@@ -1,18 +1,18 @@
 -- Rows stored one after the other, and a row stored under those after it: what stands there in the end.
 -- Stores by induction on the words stored; what functions answer by cases on the answer.
-use Prim.Native.Nat.{ℕ, suc, ◌+◌, ◌*◌, ◌/◌, ◌≤◌, ◌<◌}
+use Prim.Native.Nat.{ℕ, suc, ◌+◌, ◌-◌, ◌*◌, ◌/◌, ◌≤◌, ◌<◌}
 use native.Mathlib.Nat.{add-zero}
 use native.Mathlib.Omega.{arith}
-use mathlib.Core.Path.{◌≡◌, refl, sym, ap, ◌∙◌, subst}
+use mathlib.Core.Path.{◌≡◌, refl, sym, ap, ap₂, ◌∙◌, subst}
 use mathlib.Core.List.{List, [], ◌∷◌, ◌++◌}
 use mathlib.Core.Option.{Option, none}
-use lib.ListN.{length, set, length-append}
-use lib.Seq.{sets, set_comm, length-sets}
+use lib.ListN.{length, set, take, drop, length-append}
+use borrow.Rule.Slice.PartMut.{put_mid}
+use Rattle.std.proofs.lemmas.Slice.{put_mid-paste}
+use lib.Seq.{sets, sets-eq, set_comm, length-sets, take-length}
 use Rattle.grammar.specs.Limits.{row_words}
-use Rattle.words.specs.Items.{put_item}
-use Rattle.words.proofs.WordLaws.{item-written}
-use Rattle.definitions.specs.declared.writing.Put.{Put}
-use Rattle.definitions.specs.declared.writing.Put.TheVariants.{Rows, Refused}
+use Rattle.std.specs.Prelude.{Result, Ok, Err, IsErr}
+use Rattle.definitions.specs.declared.writing.NotDefinitions.{NotDefinitions}
 use Rattle.definitions.specs.Written.{RowPut, RowsAre, RowsTold, Few, PutsRows}
 
 sets-append : (xs ys l : List ℕ) (i : ℕ) → sets l i (xs ++ ys) ≡ sets (sets l i xs) (i + length xs) ys
@@ -59,40 +59,45 @@ module _ {old mid new xs ys : List ℕ} {n m : ℕ} (e : row_words * m ≡ row_w
             ∙ ap (λ (i : ℕ). sets (sets old (row_words * n) xs) i ys) e ∙ sym (sets-append xs ys old (row_words * n));
       }
 
--- a row is two items of four words
-pub put_halves : (old : List ℕ) {mid new : List ℕ} {n a b c d e f g h : ℕ} → n < length old / row_words
-    → mid ≡ put_item 4 old (2 * n) (a ∷ b ∷ c ∷ d ∷ []) → new ≡ put_item 4 mid (2 * n + 1) (e ∷ f ∷ g ∷ h ∷ []) → RowPut old new n (a ∷ b ∷ c ∷ d ∷ e ∷ f ∷ g ∷ h ∷ [])
-put_halves old {mid} {new} {n} {a} {b} {c} {d} {e} {f} {g} {h} fits p q =
-    let xs : List ℕ = a ∷ b ∷ c ∷ d ∷ [] in
-    let ys : List ℕ = e ∷ f ∷ g ∷ h ∷ [] in
-    let first : 4 * (2 * n) ≡ row_words * n = omega arith in
-    let second : 4 * (2 * n + 1) ≡ row_words * n + 4 = omega arith in
-    let one : mid ≡ sets old (row_words * n) xs = p ∙ item-written 4 old xs (omega arith) (omega arith) ∙ ap (λ (i : ℕ). sets old i xs) first in
-    let same : length mid ≡ length old = ap length one ∙ length-sets old (row_words * n) xs in
-    let two : new ≡ sets mid (row_words * n + 4) ys = q ∙ item-written 4 mid ys (omega arith) (omega arith) ∙ ap (λ (i : ℕ). sets mid i ys) second in
-    record {
-      same_length = ap length two ∙ length-sets mid (row_words * n + 4) ys ∙ same;
-      words = λ _. two ∙ ap (λ (k : List ℕ). sets k (row_words * n + 4) ys) one ∙ sym (sets-append xs ys old (row_words * n));
-    }
+-- a whole row, as a write to that part of the words gives it
+pub put_whole : (old xs : List ℕ) {ys : List ℕ} {n : ℕ} → length xs ≡ row_words → n < length old / row_words → ys ≡ xs
+    → RowPut old (put_mid (row_words * n) (row_words * n + row_words - row_words * n) old ys) n xs
+put_whole old xs {ys} {n} w fits e =
+    let h : row_words * n + length xs ≤ length old = omega arith in
+    let room : row_words ≡ row_words * n + row_words - row_words * n = omega arith in
+    let whole : take row_words xs ≡ xs = ap (λ (i : ℕ). take i xs) (sym w) ∙ take-length xs in
+    let q : put_mid (row_words * n) (row_words * n + row_words - row_words * n) old ys ≡ sets old (row_words * n) xs =
+    put_mid-paste (row_words * n) (row_words * n + row_words - row_words * n) old ys xs row_words e room (sym w)
+    ∙ ap₂ (λ (x : List ℕ) (i : ℕ). take (row_words * n) old ++ x ++ drop (row_words * n + i) old) whole (sym w) ∙ sym (sets-eq xs old (row_words * n) h) in
+    record { same_length = ap length q ∙ length-sets old (row_words * n) xs; words = λ _. q }
+
+pub put-past : (old xs : List ℕ) {n : ℕ} → length xs ≡ row_words → length old / row_words ≤ n → RowPut old old n xs
+put-past old xs w h = record { same_length = refl; words = λ q. absurd (omega arith) }
 
 -- what an answer says
-module _ {P : Option (List ℕ) → Type 0} {old new : List ℕ} {n most : ℕ} {r : Put} (h : PutsRows P old new n most r) where
-  pub came : {m : ℕ} → r ≡ Rows m → (o : Option (List ℕ)) → P o → RowsAre o old new n m
-  came e o p = subst (λ (x : Put). RowsTold o old new n x) e (h.told o p)
+module _ {P : Option (List ℕ) → Type 0} {old new : List ℕ} {n most : ℕ} {r : Result ℕ NotDefinitions} (h : PutsRows P old new n most r) where
+  pub came : {m : ℕ} → r ≡ Ok m → (o : Option (List ℕ)) → P o → RowsAre o old new n m
+  came e o p = subst (λ (x : Result ℕ NotDefinitions). RowsTold o old new n x) e (h.told o p)
 
-  pub bounds : {m : ℕ} → r ≡ Rows m → (n ≤ m) × (m ≤ n + most)
-  bounds e = subst (λ (x : Put). Few n most x) e h.few
+  pub bounds : {m : ℕ} → r ≡ Ok m → (n ≤ m) × (m ≤ n + most)
+  bounds e = subst (λ (x : Result ℕ NotDefinitions). Few n most x) e h.few
 
-  pub failed : r ≡ Refused → (o : Option (List ℕ)) → P o → o ≡ none
-  failed e o p = subst (λ (x : Put). RowsTold o old new n x) e (h.told o p)
+  pub failed : {bad : NotDefinitions} → r ≡ Err bad → (o : Option (List ℕ)) → P o → o ≡ none
+  failed e o p = subst (λ (x : Result ℕ NotDefinitions). RowsTold o old new n x) e (h.told o p)
 
-few-more : (n a b : ℕ) (r : Put) → a ≤ b → Few n a r → Few n b r
-few-more n a b (Rows m) h f = (f.0, omega (arith, f.1))
-few-more n a b Refused h f = tt
+few-more : (n a b : ℕ) (r : Result ℕ NotDefinitions) → a ≤ b → Few n a r → Few n b r
+few-more n a b (Ok m) h f = (f.0, omega (arith, f.1))
+few-more n a b (Err e) h f = tt
 
 -- an answer handed on
-pub handed : {P Q : Option (List ℕ) → Type 0} {old new : List ℕ} {n a b : ℕ} {r : Put} → a ≤ b → ((o : Option (List ℕ)) → Q o → P o) → PutsRows P old new n a r → PutsRows Q old new n b r
+pub handed : {P Q : Option (List ℕ) → Type 0} {old new : List ℕ} {n a b : ℕ} {r : Result ℕ NotDefinitions} → a ≤ b → ((o : Option (List ℕ)) → Q o → P o) → PutsRows P old new n a r → PutsRows Q old new n b r
 handed {r = r} g f h = record { same_length = h.same_length; few = few-more _ _ _ r g h.few; told = λ o q. h.told o (f o q) }
 
-pub refused : {P : Option (List ℕ) → Type 0} {old new : List ℕ} {n most : ℕ} → length new ≡ length old → ((o : Option (List ℕ)) → P o → o ≡ none) → PutsRows P old new n most Refused
+pub refused : {P : Option (List ℕ) → Type 0} {old new : List ℕ} {n most : ℕ} {bad : NotDefinitions} → length new ≡ length old → ((o : Option (List ℕ)) → P o → o ≡ none) → PutsRows P old new n most (Err bad)
 refused e f = record { same_length = e; few = tt; told = f }
+
+-- a refusal handed on
+pub passed_on : {P : Option (List ℕ) → Type 0} {old new : List ℕ} {n most : ℕ} {r : Result ℕ NotDefinitions} → IsErr r → length new ≡ length old → ((o : Option (List ℕ)) → P o → o ≡ none)
+    → PutsRows P old new n most r
+passed_on {r = Ok m} q e f = absurd (cc)
+passed_on {r = Err b} q e f = refused e f

@@ -23,12 +23,12 @@ use Rattle.rules.specs.Definitions.Body.{enum, struct, union, alternate, command
 use Rattle.rules.specs.Values.{◌>>=◌, as_fields}
 use Rattle.rules.specs.SchemaTable.{inline_members, row, concat, data_link, inline_rows, inline_struct, rows_taken}
 use Rattle.rules.specs.Serving.RawTable.{packed, raw_from}
-use Rattle.definitions.specs.declared.writing.Put.{Put}
-use Rattle.definitions.specs.declared.writing.Put.TheVariants.{Rows, Refused}
+use Rattle.std.specs.Prelude.{Result, Ok, Err, IsErr}
+use Rattle.definitions.specs.declared.writing.NotDefinitions.{NotDefinitions}
 use Rattle.definitions.specs.Places.{Held}
 use Rattle.definitions.specs.Written.{RowPut, RowsAre, PutsRows}
 use Rattle.definitions.specs.Parts.{value_row, member_row, pair_row, body_rows, rows_at, DefinitionAt}
-use Rattle.definitions.specs.Puts.{RowsPut, Fit}
+use Rattle.definitions.specs.Puts.{RowsPut, Fit, PutsDefinitions}
 use Rattle.definitions.proofs.Options.{came_of, none_of}
 use Rattle.definitions.proofs.Stores.{put-none, put-after, came, failed}
 use Rattle.definitions.proofs.ListLaws.{ahead, ahead_none, ahead_more}
@@ -121,9 +121,9 @@ first-value s w count k l (item j js) h x o =
     let p = both (keys_once j) (keys_once_i js) o in record { value = j; rest = js; is = refl; here = x.1; after = x.2; once = p.0; rest_once = p.1 }
 
 module _ {s w old now : List ℕ} {count k n : ℕ} (v : DefinitionsLeft s w old now count k n) where
-  module _ {new : List ℕ} {most : ℕ} {r : Put} (h : k < count) (g : PutsRows (DefinitionAt s w k n) now new n most r) where
+  module _ {new : List ℕ} {most : ℕ} {r : Result ℕ NotDefinitions} (h : k < count) (g : PutsRows (DefinitionAt s w k n) now new n most r) where
     -- the definition that was put, and how many rows it took
-    module _ {m : ℕ} (t : r ≡ Rows m) (j : Json) (u : Held s w j k) (o : keys_once j ≡ true) where
+    module _ {m : ℕ} (t : r ≡ Ok m) (j : Json) (u : Held s w j k) (o : keys_once j ≡ true) where
       here : RowsAre (as_fields j >>= as_definition >>= rows_at n) now new n m
       here = came g t (as_fields j >>= as_definition >>= rows_at n) (record { value = j; held = u; once = o; are = refl })
 
@@ -133,7 +133,7 @@ module _ {s w old now : List ℕ} {count k n : ℕ} (v : DefinitionsLeft s w old
       taken : m ≡ n + rows_taken definition.0.body
       taken = let d = definition in omega (arith, here.size, ap length d.2, body-wide n d.0.name d.0.body)
 
-    pub definitions-on : {m i : ℕ} → r ≡ Rows m → i ≡ next w k → m ≤ i → DefinitionsLeft s w old new count i m
+    pub definitions-on : {m i : ℕ} → r ≡ Ok m → i ≡ next w k → m ≤ i → DefinitionsLeft s w old new count i m
     definitions-on {m} {i} t e o =
         record {
           same_length = g.same_length ∙ v.same_length;
@@ -160,7 +160,7 @@ module _ {s w old now : List ℕ} {count k n : ℕ} (v : DefinitionsLeft s w old
               };
         }
 
-    pub definitions_fail : r ≡ Refused → (js : Items) (l : ℕ) → Fit s js → HoldsItems schema s w js l 0 count → definitions js ≡ none
+    pub definitions_fail : {bad : NotDefinitions} → r ≡ Err bad → (js : Items) (l : ℕ) → Fit s js → HoldsItems schema s w js l 0 count → definitions js ≡ none
     definitions_fail t js l z x =
         let p = v.passed js l z x in
         let f = first-value s w count k l p.rest h p.holds p.once in
@@ -179,7 +179,7 @@ module _ {s w old now : List ℕ} {count k n : ℕ} (v : DefinitionsLeft s w old
         let f = first-value s w count k l p.rest h p.holds p.once in
         absurd (omega (arith, goes_on schema s w f.value l k f.here))
 
-    pub definitions-over : {m i : ℕ} → r ≡ Rows m → i ≡ next w k → i < m → (js : Items) (l : ℕ) → Fit s js → HoldsItems schema s w js l 0 count → definitions js ≡ none
+    pub definitions-over : {m i : ℕ} → r ≡ Ok m → i ≡ next w k → i < m → (js : Items) (l : ℕ) → Fit s js → HoldsItems schema s w js l 0 count → definitions js ≡ none
     definitions-over t e o js l z x =
         let p = v.passed js l z x in
         let f = first-value s w count k l p.rest h p.holds p.once in
@@ -207,3 +207,9 @@ module _ {s w old now : List ℕ} {count k n : ℕ} (v : DefinitionsLeft s w old
       none_left : (is : Items) → HoldsItems schema s w is l k count → (is ≡ no_items) × (k ≡ count)
       none_left no_items h = (refl, h)
       none_left (item j is) h = absurd (omega (arith, h.0))
+
+-- a refusal handed on
+pub put_failed : {s w old new : List ℕ} {count : ℕ} {r : Result ℕ NotDefinitions} → IsErr r → length new ≡ length old
+    → ((js : Items) (l : ℕ) → Fit s js → HoldsItems schema s w js l 0 count → definitions js ≡ none) → PutsDefinitions s w old new count r
+put_failed {r = Ok m} q e f = absurd (cc)
+put_failed {r = Err b} q e f = record { same_length = e; told = f }

@@ -5,7 +5,7 @@ use mathlib.Core.Path.{◌≡◌, refl, sym, ap, ◌∙◌, subst}
 use mathlib.Core.Bool.{Bool, true, false}
 use mathlib.Core.List.{List, ◌++◌, map, append_assoc}
 use mathlib.Core.Option.{Option, none, some}
-use lib.ListN.{length, length-append, length-map}
+use lib.ListN.{length, set, length-append, length-map}
 use Rattle.grammar.specs.Limits.{row_words}
 use Rattle.grammar.specs.Notation.{text}
 use Rattle.grammar.specs.Tree.{Json}
@@ -19,10 +19,11 @@ use Rattle.rules.specs.Definitions.Body.{union}
 use Rattle.rules.specs.Values.{◌>>=◌, value_at}
 use Rattle.rules.specs.SchemaTable.{row, concat, data_link}
 use Rattle.rules.specs.Serving.RawTable.{packed}
-use Rattle.definitions.specs.Places.{Found, Named, NameWord, Links}
-use Rattle.definitions.specs.declared.writing.Put.{Put}
-use Rattle.definitions.specs.declared.writing.Put.TheVariants.{Rows, Refused}
-use Rattle.definitions.specs.Written.{RowPut, NamedRowPut, RowsAre, PutsRows}
+use Rattle.definitions.specs.Places.{Found, Named, NameWord, NamedRow, Links}
+use Rattle.std.specs.Prelude.{Some, None, Result, Ok, Err}
+use Rattle.std.specs.Prelude as Std
+use Rattle.definitions.specs.declared.writing.NotDefinitions.{NotDefinitions}
+use Rattle.definitions.specs.Written.{RowPut, RowsAre, PutsRows}
 use Rattle.definitions.specs.Parts.{pair_row, ChildrenAt, InlineAt, inline_words, UnionAt, body_rows}
 use Rattle.definitions.proofs.Options.{came_of, none_of, must-then, never, both-there}
 use Rattle.definitions.proofs.NameLaws.{is_name, no_name}
@@ -45,34 +46,37 @@ module _ (n : ℕ) (name : Name) where
   union-given (some b) discriminator none = refl
   union-given (some b) discriminator (some ps) = refl
 
-module _ {s w : List ℕ} {k : ℕ} where
-  discriminator-named : {r : Bool} → (k ≡ 0 → ⊥) → r ≡ string_kind (node_kind w k) → r ≡ true → (o : Option Json) → Found s w o k → (discriminator : Name) × (must as_name o ≡ some discriminator) × Named w k 0 discriminator
-  discriminator-named z q e none u = absurd (z u.found)
-  discriminator-named z q e (some j) u = let x = is_name (held-there u) q e in (x.name, x.is, x.named)
+module _ {s w : List ℕ} {k : ℕ} {at : Std.Option ℕ} where
+  discriminator-named : {r : Bool} → at ≡ Some k → r ≡ string_kind (node_kind w k) → r ≡ true → (o : Option Json) → Found s w o at → (discriminator : Name) × (must as_name o ≡ some discriminator) × Named w k 0 discriminator
+  discriminator-named {r} z q e o u = go o (subst (Found s w o) z u)
+    where
+      go : (o : Option Json) → Found s w o (Some k) → (discriminator : Name) × (must as_name o ≡ some discriminator) × Named w k 0 discriminator
+      go none u = absurd u.found
+      go (some j) u = let x = is_name (held-there u) q e in (x.name, x.is, x.named)
 
-module _ {s w : List ℕ} {k v n b : ℕ} (f : FindsValue schema s w k (text "base") b) where
-  pub union_no_base : b ≡ 0 → (o : Option (List ℕ)) → BodyLeft s w union_body k v n o → o ≡ none
+module _ {s w : List ℕ} {k v n : ℕ} {b : Std.Option ℕ} (f : FindsValue schema s w k (text "base") b) where
+  pub union_no_base : b ≡ None → (o : Option (List ℕ)) → BodyLeft s w union_body k v n o → o ≡ none
   union_no_base e o h = h.are ∙ rw (nowhere (value_at (text "base") h.fs) (found_at h.fields f) e)
 
-  module _ {t : ℕ} (g : FindsValue schema s w k (text "discriminator") t) where
+  module _ {t : Std.Option ℕ} (g : FindsValue schema s w k (text "discriminator") t) where
     without_discriminator : (o : Option (List ℕ)) (h : BodyLeft s w union_body k v n o) → must as_name (value_at (text "discriminator") h.fs) ≡ none → o ≡ none
     without_discriminator o h e =
         h.are
         ∙ ap (λ (y : Option Name). union_so n h.name (must as_data (value_at (text "base") h.fs)) y (must as_pairs (value_at (text "data") h.fs))) e
         ∙ union_without n h.name (must as_data (value_at (text "base") h.fs)) (must as_pairs (value_at (text "data") h.fs))
 
-    pub union_no_discriminator : t ≡ 0 → (o : Option (List ℕ)) → BodyLeft s w union_body k v n o → o ≡ none
+    pub union_no_discriminator : t ≡ None → (o : Option (List ℕ)) → BodyLeft s w union_body k v n o → o ≡ none
     union_no_discriminator e o h = without_discriminator o h (ap (must as_name) (nowhere (value_at (text "discriminator") h.fs) (found_at h.fields g) e))
 
-    module _ {r : Bool} (z : t ≡ 0 → ⊥) (q : r ≡ string_kind (node_kind w t)) where
+    module _ {discriminator : ℕ} {r : Bool} (z : t ≡ Some discriminator) (q : r ≡ string_kind (node_kind w discriminator)) where
       pub union-bad-discriminator : r ≡ false → (o : Option (List ℕ)) → BodyLeft s w union_body k v n o → o ≡ none
-      union-bad-discriminator e o h = without_discriminator o h (go (value_at (text "discriminator") h.fs) (found_at h.fields g))
+      union-bad-discriminator e o h = let y = value_at (text "discriminator") h.fs in without_discriminator o h (go y (subst (Found s w y) z (found_at h.fields g)))
         where
-          go : (y : Option Json) → Found s w y t → must as_name y ≡ none
+          go : (y : Option Json) → Found s w y (Some discriminator) → must as_name y ≡ none
           go none u = refl
           go (some j) u = no_name (held-there u) q e
 
-      pub union_handed : {d : ℕ} → r ≡ true → (b ≡ 0 → ⊥) → FindsValue schema s w k (text "data") d → (o : Option (List ℕ)) → BodyLeft s w union_body k v n o → UnionAt s w v b t d n o
+      pub union_handed : {base : ℕ} {d : Std.Option ℕ} → r ≡ true → b ≡ Some base → FindsValue schema s w k (text "data") d → (o : Option (List ℕ)) → BodyLeft s w union_body k v n o → UnionAt s w v base discriminator d n o
       union_handed e m l o h =
           let base = somewhere (value_at (text "base") h.fs) (found_at h.fields f) m in
           let branches = value_at (text "data") h.fs in
@@ -97,20 +101,21 @@ same-union : {l c t i j k : ℕ} {rs : List (List ℕ)} (ps : List Pair) (name :
 same-union {i = i} {j} {k} ps name xs e f g h = cc (append_assoc (row union_kind name i j k 0) xs (concat (map (pair_row branch_kind) ps)))
 
 -- the rows of a union, out of what was put
-module _ {s w : List ℕ} {v b t d n : ℕ} {old mid : List ℕ} {next most : ℕ} {r : Put} (h : PutsRows (InlineAt s w b) old mid next most r) where
-  pub union-bad-base : r ≡ Refused → (o : Option (List ℕ)) → UnionAt s w v b t d n o → o ≡ none
+module _ {s w : List ℕ} {v b t n : ℕ} {d : Std.Option ℕ} {old mid : List ℕ} {next most : ℕ} {r : Result ℕ NotDefinitions} (h : PutsRows (InlineAt s w (Some b)) old mid next most r) where
+  pub union-bad-base : {bad : NotDefinitions} → r ≡ Err bad → (o : Option (List ℕ)) → UnionAt s w v b t d n o → o ≡ none
   union-bad-base q o u = u.are ∙ rw (none_of some (as_data u.base) (inline-none h u.base_found q))
 
-  module _ {first : ℕ} (q : r ≡ Rows first) {late : List ℕ} {more : ℕ} {p : Put} (g : PutsRows (ChildrenAt s w branch_kind d) mid late first more p) where
-    pub union-bad-branches : p ≡ Refused → (o : Option (List ℕ)) → UnionAt s w v b t d n o → o ≡ none
+  module _ {first : ℕ} (q : r ≡ Ok first) {late : List ℕ} {more : ℕ} {p : Result ℕ NotDefinitions} (g : PutsRows (ChildrenAt s w branch_kind d) mid late first more p) where
+    pub union-bad-branches : {bad : NotDefinitions} → p ≡ Err bad → (o : Option (List ℕ)) → UnionAt s w v b t d n o → o ≡ none
     union-bad-branches y o u =
         let x : must as_pairs u.branches ≡ none = none_of (map (pair_row branch_kind)) (must as_pairs u.branches) (sym (must-then (map (pair_row branch_kind)) as_pairs u.branches) ∙ children-none g u.branches_found y) in
         u.are
         ∙ ap (λ (i : Option (List Pair)). as_data u.base >>= λ z. i >>= λ ps. some (body_rows n u.name (union z u.discriminator ps))) x ∙ never (as_data u.base)
 
-    pub union-put : {new : List ℕ} {m link count discriminator : ℕ} → next ≡ n + 1 → p ≡ Rows m → Links w b n link → count ≡ m - first → NameWord w t 0 packed discriminator → NamedRowPut w late new v 0 n union_kind link count discriminator 0
+    pub union-put : {new own : List ℕ} {m link count discriminator : ℕ} → next ≡ n + 1 → p ≡ Ok m → NamedRow w v 0 union_kind own → Links w (Some b) n link → count ≡ m - first → NameWord w t 0 packed discriminator
+        → RowPut late new n (set (set (set own 3 link) 4 count) 5 discriminator)
         → (o : Option (List ℕ)) → UnionAt s w v b t d n o → RowsAre o old new n m
-    union-put {new} {m} {link} {count} {discriminator} e y l c z k o u =
+    union-put {new} {own} {m} {link} {count} {discriminator} e y names l c z k o u =
         let i = inline-put h u.base_found q in
         let x = children-put g u.branches_found y in
         let ps = came_of (map (pair_row branch_kind)) (must as_pairs u.branches) (sym (must-then (map (pair_row branch_kind)) as_pairs u.branches) ∙ x.are) in
@@ -120,8 +125,9 @@ module _ {s w : List ℕ} {v b t d n : ℕ} {old mid : List ℕ} {next most : �
         let a : link ≡ data_link packed n base.0 = l.told s (some u.base) u.base_found (some base.0) (i.are ∙ ap some base.2) in
         let f : count ≡ length ps.0 = c ∙ x.count ∙ ap length ps.2 ∙ length-map ps.0 (pair_row branch_kind) in
         let j : discriminator ≡ packed u.discriminator = z.told u.discriminator u.discriminator_at in
-        let own : RowPut late new n (row union_kind u.name link count discriminator 0) = k.told u.name u.named in
-        let all : RowPut old new n (row union_kind u.name link count discriminator 0 ++ (inline_words (some base.0) ++ concat x.rs)) = put_under (omega arith) (put-after inline-size inline-words x.put) own in
+        let put : RowPut late new n (row union_kind u.name link count discriminator 0) =
+        subst (λ (x : List ℕ). RowPut late new n (set (set (set x 3 link) 4 count) 5 discriminator)) (names.told u.name u.named) k in
+        let all : RowPut old new n (row union_kind u.name link count discriminator 0 ++ (inline_words (some base.0) ++ concat x.rs)) = put_under (omega arith) (put-after inline-size inline-words x.put) put in
         let same : row union_kind u.name link count discriminator 0 ++ (inline_words (some base.0) ++ concat x.rs) ≡ body_rows n u.name (union base.0 u.discriminator ps.0) =
         same-union ps.0 u.name (inline_words (some base.0)) a f j ps.2 in
         record {

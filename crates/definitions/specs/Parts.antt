@@ -1,5 +1,6 @@
 -- Serves contracts: the rows of the parts of a definition, as functions of the trees that the nodes hold; no rows where the table of keys is broken.
-use Rattle.std.specs.Prelude.{ℕ, suc, ◌+◌, ◌≤◌, ◌≡◌, true, cond, List, [], ◌∷◌, ◌++◌, map, eqb, length}
+use Rattle.std.specs.Prelude.{ℕ, suc, ◌+◌, ◌≤◌, ◌≡◌, Bool, true, cond, List, [], ◌∷◌, ◌++◌, map, eqb, length, get_or, set, Some, None}
+use Rattle.std.specs.Prelude as Std
 use Rattle.std.proofs.Math.Option.{Option, none, some}
 use Rattle.grammar.specs.Limits.{schema_bytes}
 use Rattle.grammar.specs.Notation.{text, same, apart}
@@ -16,7 +17,7 @@ use Rattle.rules.specs.Values.{◌>>=◌, if_absent, as_fields}
 use Rattle.rules.specs.SchemaTable.{inline_members, row, concat, flag, list_flag, type_of, data_link, inline_struct, rows_of}
 use Rattle.rules.specs.Serving.RawTable.{packed}
 use Rattle.definitions.specs.declared.definitions.KindKey.{KindKey}
-use Rattle.definitions.specs.declared.definitions.KindKey.TheVariants.{Key, NoKey}
+use Rattle.definitions.specs.declared.shapes.TypeText as Text
 use Rattle.definitions.specs.Places.{Held, Found, Keyed, Named}
 
 -- one child: a value of an enum, a member, a branch or an alternative
@@ -61,25 +62,30 @@ pub data ChildAt (s w : List ℕ) (kind a : ℕ) (o : Option (List ℕ)) : Type 
   pair : (kind ≡ value_kind → ⊥) → (kind ≡ member_kind → ⊥) → FieldAt s w (pair_field kind) a o → ChildAt s w kind a o
 
 -- the children that the value at node k lists
-pub record ChildrenAt (s w : List ℕ) (kind k : ℕ) (o : Option (List ℕ)) : Type 0 where
+pub record ChildrenAt (s w : List ℕ) (kind : ℕ) (k : Std.Option ℕ) (o : Option (List ℕ)) : Type 0 where
   pub value : Option Json
   pub found : Found s w value k
   pub are : o ≡ (must (child_rows kind) value >>= λ rs. some (concat rs))
 
--- a row that counts the children after it
-abbrev pub counted_rows : ℕ → ℕ → ℕ → ℕ → List (List ℕ) → List ℕ
-counted_rows kind start size link rs = (kind ∷ start ∷ size ∷ length rs ∷ link ∷ 0 ∷ 0 ∷ 0 ∷ []) ++ concat rs
+-- the word in which a row counts its children
+abbrev pub count_word : ℕ
+count_word = 3
 
-pub record CountedAt (s w : List ℕ) (kind start size link k : ℕ) (o : Option (List ℕ)) : Type 0 where
+-- a row that counts the children after it
+abbrev pub counted_rows : List ℕ → List (List ℕ) → List ℕ
+counted_rows own rs = set own count_word (length rs) ++ concat rs
+
+-- such a row, and the children that a value lists; their kind is the next one
+pub record CountedAt (s w own : List ℕ) (k : Std.Option ℕ) (o : Option (List ℕ)) : Type 0 where
   pub value : Option Json
   pub found : Found s w value k
-  pub are : o ≡ (must (child_rows (kind + 1)) value >>= λ rs. some (counted_rows kind start size link rs))
+  pub are : o ≡ (must (child_rows (get_or own 0 0 + 1)) value >>= λ rs. some (counted_rows own rs))
 
 -- the inline struct of a base or of data, if it has one
 abbrev pub inline_words : Option Data → List ℕ
 inline_words d = inline_struct packed (d >>= inline_members)
 
-pub record InlineAt (s w : List ℕ) (k : ℕ) (o : Option (List ℕ)) : Type 0 where
+pub record InlineAt (s w : List ℕ) (k : Std.Option ℕ) (o : Option (List ℕ)) : Type 0 where
   pub value : Option Json
   pub found : Found s w value k
   pub are : o ≡ (may as_data value >>= λ d. some (inline_words d))
@@ -97,18 +103,10 @@ pub record FieldsAt (s w : List ℕ) (fs : Fields) (k : ℕ) : Type 0 where
   pub level : ℕ
   pub holds : HoldsFields schema s w fs level (suc k) (next w k)
 
--- a row of that kind with the name at node v and a link, and the children that the value at node d lists
-pub record ListAt (s w : List ℕ) (kind link v d : ℕ) (o : Option (List ℕ)) : Type 0 where
-  pub value : Option Json
-  pub found : Found s w value d
-  pub name : Name
-  pub named : Named w v 0 name
-  pub are : o ≡ (must (child_rows (kind + 1)) value >>= λ rs. some (counted_rows kind name.start name.size link rs))
-
 -- the rows of a union and of a command, out of what their keys have
-pub record UnionAt (s w : List ℕ) (v b t d n : ℕ) (o : Option (List ℕ)) : Type 0 where
+pub record UnionAt (s w : List ℕ) (v b t : ℕ) (d : Std.Option ℕ) (n : ℕ) (o : Option (List ℕ)) : Type 0 where
   pub base : Json
-  pub base_found : Found s w (some base) b
+  pub base_found : Found s w (some base) (Some b)
   pub branches : Option Json
   pub branches_found : Found s w branches d
   pub discriminator : Name
@@ -117,12 +115,12 @@ pub record UnionAt (s w : List ℕ) (v b t d n : ℕ) (o : Option (List ℕ)) : 
   pub named : Named w v 0 name
   pub are : o ≡ (as_data base >>= λ x. must as_pairs branches >>= λ ps. some (body_rows n name (union x discriminator ps)))
 
-pub record CommandAt (s w : List ℕ) (v d n oob place list : ℕ) (o : Option (List ℕ)) : Type 0 where
+pub record CommandAt (s w : List ℕ) (v : ℕ) (d : Std.Option ℕ) (n : ℕ) (oob : Bool) (returns : Text.TypeText) (o : Option (List ℕ)) : Type 0 where
   pub value : Option Json
   pub found : Found s w value d
   pub name : Name
   pub named : Named w v 0 name
-  pub are : o ≡ (may as_data value >>= λ x. some (row command_kind name (if_absent 0 (data_link packed n) x) oob place list ++ inline_words x))
+  pub are : o ≡ (may as_data value >>= λ x. some (row command_kind name (if_absent 0 (data_link packed n) x) (flag oob) returns.name (flag returns.list) ++ inline_words x))
 
 -- The table of keys: a kind's own key, those that it may have beside it, and what they say.
 pub record KindKeys : Type 0 where
@@ -147,7 +145,7 @@ pub record BodyAt (s w : List ℕ) (ks : KindKeys) (k v n : ℕ) (o : Option (Li
   pub fs : Fields
   pub fields : FieldsAt s w fs k
   pub once : apart same (keys_of fs) ≡ true
-  pub own : FindsValue schema s w k ks.own v
+  pub own : FindsValue schema s w k ks.own (Some v)
   pub name : Name
   pub named : Named w v 0 name
   pub are : o ≡ (defined ks fs name >>= rows_at n)
@@ -160,21 +158,21 @@ pub record KindAt (s w : List ℕ) (kind k v n : ℕ) (o : Option (List ℕ)) : 
   pub fs : Fields
   pub fields : FieldsAt s w fs k
   pub once : apart same (keys_of fs) ≡ true
-  pub own : FindsValue schema s w k (keys_of_kind kind).own v
+  pub own : FindsValue schema s w k (keys_of_kind kind).own (Some v)
   pub value : Json
   pub held : Held s w value v
   pub are : o ≡ (kind_only kind fs value >>= rows_at n)
 
--- the kind key of the object at node k: its kind and the node of its value
-abbrev pub KindFound : List ℕ → List ℕ → ℕ → KindKey → Type 0
-KindFound s w k (Key kind v) = FindsValue schema s w k (keys_of_kind kind).own v
-KindFound s w k NoKey = Unit {0}
+-- the kind key of the object at node k
+abbrev pub KindFound : List ℕ → List ℕ → ℕ → Std.Option KindKey → Type 0
+KindFound s w k (Some key) = FindsValue schema s w k (keys_of_kind key.kind).own (Some key.node)
+KindFound s w k None = Unit {0}
 
-abbrev pub KindTold : List ℕ → List ℕ → Fields → KindKey → Type 0
-KindTold s w fs (Key kind v) = (j : Json) × Held s w j v × (as_definition fs ≡ kind_only kind fs j)
-KindTold s w fs NoKey = as_definition fs ≡ none
+abbrev pub KindTold : List ℕ → List ℕ → Fields → Std.Option KindKey → Type 0
+KindTold s w fs (Some key) = (j : Json) × Held s w j key.node × (as_definition fs ≡ kind_only key.kind fs j)
+KindTold s w fs None = as_definition fs ≡ none
 
-pub record FindsKind (s w : List ℕ) (k : ℕ) (r : KindKey) : Type 0 where
+pub record FindsKind (s w : List ℕ) (k : ℕ) (r : Std.Option KindKey) : Type 0 where
   pub found : KindFound s w k r
   pub told : (fs : Fields) → FieldsAt s w fs k → KindTold s w fs r
 

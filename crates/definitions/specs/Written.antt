@@ -1,14 +1,10 @@
 -- Serves contracts: rows written into lent words one after the other, where they fit, or refusal.
-use Rattle.std.specs.Prelude.{ℕ, ◌+◌, ◌*◌, ◌^◌, ◌≤◌, ◌≡◌, List, length}
+use Rattle.std.specs.Prelude.{ℕ, ◌+◌, ◌*◌, ◌^◌, ◌≤◌, ◌≡◌, List, Result, Ok, Err, length}
 use Rattle.std.proofs.Math.Option.{Option, none, some}
 use Rattle.std.proofs.lemmas.List.Edits.{sets}
 use Rattle.grammar.specs.Limits.{row_words}
-use Rattle.rules.specs.Definitions.{Name}
-use Rattle.rules.specs.SchemaTable.{row}
 use Rattle.text.specs.Nodes.{text_bound}
-use Rattle.definitions.specs.declared.writing.Put.{Put}
-use Rattle.definitions.specs.declared.writing.Put.TheVariants.{Rows, Refused}
-use Rattle.definitions.specs.Places.{Named}
+use Rattle.definitions.specs.declared.writing.NotDefinitions.{NotDefinitions}
 
 -- Bounds below which rows are counted, so that no count goes past a number of the machine. A row comes from a node of its own, and a schema has
 -- fewer nodes than bytes: so many rows at most stand before a definition, and the link to the row after the next fits in a word.
@@ -35,11 +31,6 @@ pub record RowPut (old new : List ℕ) (n : ℕ) (xs : List ℕ) : Type 0 where
   pub same_length : length new ≡ length old
   pub words : row_words * n + length xs ≤ length old → new ≡ sets old (row_words * n) xs
 
--- a row with the name at node k
-pub record NamedRowPut (w old new : List ℕ) (k skip n kind a b c d : ℕ) : Type 0 where
-  pub same_length : length new ≡ length old
-  pub told : (name : Name) → Named w k skip name → RowPut old new n (row kind name a b c d)
-
 -- there are rows, and they stand from row n up to row m
 pub record RowsAre (o : Option (List ℕ)) (old new : List ℕ) (n m : ℕ) : Type 0 where
   pub xs : List ℕ
@@ -47,17 +38,17 @@ pub record RowsAre (o : Option (List ℕ)) (old new : List ℕ) (n m : ℕ) : Ty
   pub size : row_words * m ≡ row_words * n + length xs
   pub put : RowPut old new n xs
 
-abbrev pub RowsTold : Option (List ℕ) → List ℕ → List ℕ → ℕ → Put → Type 0
-RowsTold o old new n (Rows m) = RowsAre o old new n m
-RowsTold o old new n Refused = o ≡ none
+abbrev pub RowsTold : Option (List ℕ) → List ℕ → List ℕ → ℕ → Result ℕ NotDefinitions → Type 0
+RowsTold o old new n (Ok m) = RowsAre o old new n m
+RowsTold o old new n (Err e) = o ≡ none
 
 -- at most so many rows are put
-abbrev pub Few : ℕ → ℕ → Put → Type 0
-Few n most (Rows m) = (n ≤ m) × (m ≤ n + most)
-Few n most Refused = Unit {0}
+abbrev pub Few : ℕ → ℕ → Result ℕ NotDefinitions → Type 0
+Few n most (Ok m) = (n ≤ m) × (m ≤ n + most)
+Few n most (Err e) = Unit {0}
 
 -- the rows of what the nodes hold are put from row n on, for all that P says the nodes may hold
-pub record PutsRows (P : Option (List ℕ) → Type 0) (old new : List ℕ) (n most : ℕ) (r : Put) : Type 0 where
+pub record PutsRows (P : Option (List ℕ) → Type 0) (old new : List ℕ) (n most : ℕ) (r : Result ℕ NotDefinitions) : Type 0 where
   pub same_length : length new ≡ length old
   pub few : Few n most r
   pub told : (o : Option (List ℕ)) → P o → RowsTold o old new n r

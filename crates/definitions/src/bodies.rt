@@ -1,200 +1,155 @@
 // A definition of each kind: its keys' values, its row and the rows after it. The object stands at node k, its name at node v.
 // A key that isn't the kind's is refused.
 ghost use Rattle.std.specs.Prelude.{◌<◌, ◌≡◌, ◌⊎◌};
-ghost use Rattle.rules.specs.Kinds.{enum_kind, struct_kind, union_kind, alternate_kind, alternative_kind, command_kind};
+ghost use Rattle.rules.specs.Kinds.{enum_kind, struct_kind, union_kind, alternate_kind, command_kind};
 ghost use Rattle.definitions.specs.Written.{node_bound, definition_rows, PutsRows};
-ghost use Rattle.definitions.specs.Parts.{keys_of_kind, ListAt, BodyAt, UnionAt, CommandAt};
+ghost use Rattle.definitions.specs.Parts.{keys_of_kind, BodyAt, UnionAt, CommandAt};
 
 use crate::lists::{put_children, put_counted, put_inline};
-use crate::shapes::{FlagRead, TypeRead, base_fits, data_link, take_flag, take_return};
-use crate::values::{name_size, name_start, name_word};
-use crate::writing::{Put, Row, put_named_row};
+use crate::shapes::{TypeText, base_fits, data_link, take_flag, take_return};
+use crate::source::{Source, value_at};
+use crate::values::name_word;
+use crate::writing::{NotDefinitions, named_row, put_row};
 use lookups::counts::no_others;
-use lookups::values::{is_string, value_at};
-use rules::kind;
-use strings::dialects::Dialect;
-
-// The row of that kind with a link and the name at node v, and the children that the value at node d lists.
-fn put_list_rows(
-    s: &[u8],
-    nodes: &[u32],
-    v: usize,
-    d: usize,
-    rows: &mut [u32],
-    n: usize,
-    kind: u32,
-    link: u32,
-) -> Put
-    requires { (n < node_bound) × (kind < alternative_kind) }
-    ensures { PutsRows (ListAt s.now nodes.now kind link v d) rows.old rows.new n definition_rows result }
-{
-    let start = name_start(nodes, v, 0);
-    let size = name_size(nodes, v, 0);
-    let row = Row {
-        kind,
-        start,
-        size,
-        a: 0,
-        b: link,
-        c: 0,
-        d: 0,
-    };
-    put_counted(s, nodes, d, rows, n, row)
-}
+use lookups::values::is_string;
+use rules::{kind, row};
 
 // An enum or an alternate: a list and nothing else.
 pub fn put_list(
-    s: &[u8],
-    nodes: &[u32],
+    source: &Source,
     k: usize,
     v: usize,
     rows: &mut [u32],
     n: usize,
     kind: u32,
-) -> Put
+) -> Result<usize, NotDefinitions>
     requires { (n < node_bound) × ((kind ≡ enum_kind) ⊎ (kind ≡ alternate_kind)) }
-    ensures { PutsRows (BodyAt s.now nodes.now (keys_of_kind kind) k v n) rows.old rows.new n definition_rows result }
+    ensures { PutsRows (BodyAt source.now.bytes.now source.now.nodes.now (keys_of_kind kind) k v n) rows.old rows.new n definition_rows result }
 {
-    let d = value_at(s, Dialect::Schema, nodes, k, b"data");
-    if !no_others(nodes, k, &[v, d]) {
-        return Put::Refused;
+    let d = value_at(source, k, b"data");
+    if !no_others(source.nodes, k, &[Some(v), d]) {
+        return Err(NotDefinitions);
     }
-    put_list_rows(s, nodes, v, d, rows, n, kind, 0)
+    put_counted(source, d, rows, n, named_row(source.nodes, v, 0, kind))
 }
 
-pub fn put_struct(s: &[u8], nodes: &[u32], k: usize, v: usize, rows: &mut [u32], n: usize) -> Put
+pub fn put_struct(
+    source: &Source,
+    k: usize,
+    v: usize,
+    rows: &mut [u32],
+    n: usize,
+) -> Result<usize, NotDefinitions>
     requires { n < node_bound }
-    ensures { PutsRows (BodyAt s.now nodes.now (keys_of_kind struct_kind) k v n) rows.old rows.new n definition_rows result }
+    ensures { PutsRows (BodyAt source.now.bytes.now source.now.nodes.now (keys_of_kind struct_kind) k v n) rows.old rows.new n definition_rows result }
 {
-    let d = value_at(s, Dialect::Schema, nodes, k, b"data");
-    let b = value_at(s, Dialect::Schema, nodes, k, b"base");
-    if !no_others(nodes, k, &[v, d, b]) {
-        return Put::Refused;
+    let d = value_at(source, k, b"data");
+    let b = value_at(source, k, b"base");
+    if !no_others(source.nodes, k, &[Some(v), d, b]) {
+        return Err(NotDefinitions);
     }
-    if !base_fits(nodes, b) {
-        return Put::Refused;
+    if !base_fits(source.nodes, b) {
+        return Err(NotDefinitions);
     }
-    let link = data_link(nodes, b, n);
-    put_list_rows(s, nodes, v, d, rows, n, kind::STRUCT, link)
+    let mut own = named_row(source.nodes, v, 0, kind::STRUCT);
+    own[row::BASE] = data_link(source.nodes, b, n);
+    put_counted(source, d, rows, n, own)
 }
 
 // The rows of a union whose base, discriminator and branches stand at nodes b, t and d.
 fn put_union_rows(
-    s: &[u8],
-    nodes: &[u32],
+    source: &Source,
     v: usize,
     b: usize,
     t: usize,
-    d: usize,
+    d: Option<usize>,
     rows: &mut [u32],
     n: usize,
-) -> Put
+) -> Result<usize, NotDefinitions>
     requires { n < node_bound }
-    ensures { PutsRows (UnionAt s.now nodes.now v b t d n) rows.old rows.new n definition_rows result }
+    ensures { PutsRows (UnionAt source.now.bytes.now source.now.nodes.now v b t d n) rows.old rows.new n definition_rows result }
 {
-    let p = put_inline(s, nodes, b, rows, n + 1);
-    let Put::Rows(first) = p else {
-        return Put::Refused;
-    };
-    let q = put_children(s, nodes, d, kind::BRANCH, rows, first);
-    let Put::Rows(m) = q else {
-        return Put::Refused;
-    };
-    let count = (m - first) as u32;
-    let link = data_link(nodes, b, n);
-    let discriminator = name_word(nodes, t);
-    let row = Row {
-        kind: kind::UNION,
-        start: 0,
-        size: 0,
-        a: link,
-        b: count,
-        c: discriminator,
-        d: 0,
-    };
-    put_named_row(nodes, v, 0, rows, n, row);
-    Put::Rows(m)
+    let first = put_inline(source, Some(b), rows, n + 1)?;
+    let m = put_children(source, d, kind::BRANCH, rows, first)?;
+    let mut own = named_row(source.nodes, v, 0, kind::UNION);
+    own[row::UNION_BASE] = data_link(source.nodes, Some(b), n);
+    own[row::BRANCH_COUNT] = (m - first) as u32;
+    own[row::DISCRIMINATOR] = name_word(source.nodes, t);
+    put_row(rows, n, &own);
+    Ok(m)
 }
 
-pub fn put_union(s: &[u8], nodes: &[u32], k: usize, v: usize, rows: &mut [u32], n: usize) -> Put
-    requires { n < node_bound }
-    ensures { PutsRows (BodyAt s.now nodes.now (keys_of_kind union_kind) k v n) rows.old rows.new n definition_rows result }
-{
-    let b = value_at(s, Dialect::Schema, nodes, k, b"base");
-    let t = value_at(s, Dialect::Schema, nodes, k, b"discriminator");
-    let d = value_at(s, Dialect::Schema, nodes, k, b"data");
-    if !no_others(nodes, k, &[v, b, t, d]) {
-        return Put::Refused;
-    }
-    if b == 0 {
-        return Put::Refused;
-    }
-    if t == 0 {
-        return Put::Refused;
-    }
-    if !is_string(nodes, t) {
-        return Put::Refused;
-    }
-    put_union_rows(s, nodes, v, b, t, d, rows, n)
-}
-
-// The rows of a command whose data stands at node d, with the link to it in place of word 4.
-fn put_command_rows(
-    s: &[u8],
-    nodes: &[u32],
+pub fn put_union(
+    source: &Source,
+    k: usize,
     v: usize,
-    d: usize,
     rows: &mut [u32],
     n: usize,
-    row: Row,
-) -> Put
+) -> Result<usize, NotDefinitions>
     requires { n < node_bound }
-    ensures { PutsRows (CommandAt s.now nodes.now v d n row.b row.c row.d) rows.old rows.new n definition_rows result }
+    ensures { PutsRows (BodyAt source.now.bytes.now source.now.nodes.now (keys_of_kind union_kind) k v n) rows.old rows.new n definition_rows result }
 {
-    let p = put_inline(s, nodes, d, rows, n + 1);
-    let Put::Rows(m) = p else {
-        return Put::Refused;
+    let b = value_at(source, k, b"base");
+    let t = value_at(source, k, b"discriminator");
+    let d = value_at(source, k, b"data");
+    if !no_others(source.nodes, k, &[Some(v), b, t, d]) {
+        return Err(NotDefinitions);
+    }
+    let Some(base) = b else {
+        return Err(NotDefinitions);
     };
-    let link = data_link(nodes, d, n);
-    let own = Row {
-        kind: kind::COMMAND,
-        start: 0,
-        size: 0,
-        a: link,
-        b: row.b,
-        c: row.c,
-        d: row.d,
+    let Some(discriminator) = t else {
+        return Err(NotDefinitions);
     };
-    put_named_row(nodes, v, 0, rows, n, own);
-    Put::Rows(m)
+    if !is_string(source.nodes, discriminator) {
+        return Err(NotDefinitions);
+    }
+    put_union_rows(source, v, base, discriminator, d, rows, n)
 }
 
-pub fn put_command(s: &[u8], nodes: &[u32], k: usize, v: usize, rows: &mut [u32], n: usize) -> Put
+// The rows of a command whose data stands at node d, by what it returns and whether it may be out of band.
+fn put_command_rows(
+    source: &Source,
+    v: usize,
+    d: Option<usize>,
+    rows: &mut [u32],
+    n: usize,
+    returns: TypeText,
+    oob: bool,
+) -> Result<usize, NotDefinitions>
     requires { n < node_bound }
-    ensures { PutsRows (BodyAt s.now nodes.now (keys_of_kind command_kind) k v n) rows.old rows.new n definition_rows result }
+    ensures { PutsRows (CommandAt source.now.bytes.now source.now.nodes.now v d n oob returns) rows.old rows.new n definition_rows result }
 {
-    let d = value_at(s, Dialect::Schema, nodes, k, b"data");
-    let returns = value_at(s, Dialect::Schema, nodes, k, b"returns");
-    let flag = value_at(s, Dialect::Schema, nodes, k, b"allow-oob");
-    if !no_others(nodes, k, &[v, d, returns, flag]) {
-        return Put::Refused;
+    let m = put_inline(source, d, rows, n + 1)?;
+    let mut own = named_row(source.nodes, v, 0, kind::COMMAND);
+    own[row::DATA_STRUCT] = data_link(source.nodes, d, n);
+    own[row::ALLOW_OOB] = oob as u32;
+    own[row::RETURNS] = returns.name;
+    own[row::RETURNS_ARRAY] = returns.list as u32;
+    put_row(rows, n, &own);
+    Ok(m)
+}
+
+pub fn put_command(
+    source: &Source,
+    k: usize,
+    v: usize,
+    rows: &mut [u32],
+    n: usize,
+) -> Result<usize, NotDefinitions>
+    requires { n < node_bound }
+    ensures { PutsRows (BodyAt source.now.bytes.now source.now.nodes.now (keys_of_kind command_kind) k v n) rows.old rows.new n definition_rows result }
+{
+    let d = value_at(source, k, b"data");
+    let returns = value_at(source, k, b"returns");
+    let flag = value_at(source, k, b"allow-oob");
+    if !no_others(source.nodes, k, &[Some(v), d, returns, flag]) {
+        return Err(NotDefinitions);
     }
-    let t = take_return(nodes, returns);
-    let TypeRead::Taken(place, list) = t else {
-        return Put::Refused;
+    // A type is taken by `let .. else`: the project's scope names this form (docs/DECISIONS.md).
+    let Ok(t) = take_return(source.nodes, returns) else {
+        return Err(NotDefinitions);
     };
-    let f = take_flag(nodes, flag);
-    let FlagRead::Flag(oob) = f else {
-        return Put::Refused;
-    };
-    let row = Row {
-        kind: kind::COMMAND,
-        start: 0,
-        size: 0,
-        a: 0,
-        b: oob,
-        c: place,
-        d: list,
-    };
-    put_command_rows(s, nodes, v, d, rows, n, row)
+    let oob = take_flag(source.nodes, flag)?;
+    put_command_rows(source, v, d, rows, n, t, oob)
 }

@@ -5,108 +5,114 @@ ghost use Rattle.definitions.specs.Written.{node_bound, definition_rows, PutsRow
 ghost use Rattle.definitions.specs.Parts.{FindsKind, KindAt, DefinitionAt};
 
 use crate::bodies::{put_command, put_list, put_struct, put_union};
-use crate::writing::Put;
-use lookups::values::{is_string, value_at};
+use crate::source::{Source, value_at};
+use crate::writing::NotDefinitions;
+use lookups::values::is_string;
 use rules::kind;
-use strings::dialects::Dialect;
 use text::nodes::{NODE_KIND, NODE_NEXT, node_number, node_word};
 use tokens::node;
 
 // The row kind that a kind key says, and the node of its value.
 #[derive(Clone, Copy)]
-pub enum KindKey {
-    Key(u32, usize),
-    NoKey,
+pub struct KindKey {
+    pub kind: u32,
+    pub node: usize,
 }
 
-// The kind key of the object at node k. With two of them, one is outside the other's keys.
-fn kind_key(s: &[u8], nodes: &[u32], k: usize) -> KindKey
-    ensures { FindsKind s.now nodes.now k result }
+// The kind key of the object at node k, if it has one. With two of them, one is outside the other's keys.
+fn kind_key(source: &Source, k: usize) -> Option<KindKey>
+    ensures { FindsKind source.now.bytes.now source.now.nodes.now k result }
 {
-    let e = value_at(s, Dialect::Schema, nodes, k, b"enum");
-    if e != 0 {
-        return KindKey::Key(kind::ENUM, e);
+    if let Some(node) = value_at(source, k, b"enum") {
+        let kind = kind::ENUM;
+        return Some(KindKey { kind, node });
     }
-    let t = value_at(s, Dialect::Schema, nodes, k, b"struct");
-    if t != 0 {
-        return KindKey::Key(kind::STRUCT, t);
+    if let Some(node) = value_at(source, k, b"struct") {
+        let kind = kind::STRUCT;
+        return Some(KindKey { kind, node });
     }
-    let u = value_at(s, Dialect::Schema, nodes, k, b"union");
-    if u != 0 {
-        return KindKey::Key(kind::UNION, u);
+    if let Some(node) = value_at(source, k, b"union") {
+        let kind = kind::UNION;
+        return Some(KindKey { kind, node });
     }
-    let a = value_at(s, Dialect::Schema, nodes, k, b"alternate");
-    if a != 0 {
-        return KindKey::Key(kind::ALTERNATE, a);
+    if let Some(node) = value_at(source, k, b"alternate") {
+        let kind = kind::ALTERNATE;
+        return Some(KindKey { kind, node });
     }
-    let c = value_at(s, Dialect::Schema, nodes, k, b"command");
-    if c != 0 {
-        return KindKey::Key(kind::COMMAND, c);
+    if let Some(node) = value_at(source, k, b"command") {
+        let kind = kind::COMMAND;
+        return Some(KindKey { kind, node });
     }
-    KindKey::NoKey
+    None
 }
 
 // The definition of that row kind whose name is the value at node v.
 fn put_kind(
-    s: &[u8],
-    nodes: &[u32],
+    source: &Source,
     k: usize,
     kind: u32,
     v: usize,
     rows: &mut [u32],
     n: usize,
-) -> Put
+) -> Result<usize, NotDefinitions>
     requires { n < node_bound }
-    ensures { PutsRows (KindAt s.now nodes.now kind k v n) rows.old rows.new n definition_rows result }
+    ensures { PutsRows (KindAt source.now.bytes.now source.now.nodes.now kind k v n) rows.old rows.new n definition_rows result }
 {
-    if !is_string(nodes, v) {
-        return Put::Refused;
+    if !is_string(source.nodes, v) {
+        return Err(NotDefinitions);
     }
     match kind {
-        kind::ENUM => put_list(s, nodes, k, v, rows, n, kind::ENUM),
-        kind::STRUCT => put_struct(s, nodes, k, v, rows, n),
-        kind::UNION => put_union(s, nodes, k, v, rows, n),
-        kind::ALTERNATE => put_list(s, nodes, k, v, rows, n, kind::ALTERNATE),
-        _ => put_command(s, nodes, k, v, rows, n),
+        kind::ENUM => put_list(source, k, v, rows, n, kind::ENUM),
+        kind::STRUCT => put_struct(source, k, v, rows, n),
+        kind::UNION => put_union(source, k, v, rows, n),
+        kind::ALTERNATE => put_list(source, k, v, rows, n, kind::ALTERNATE),
+        _ => put_command(source, k, v, rows, n),
     }
 }
 
 // The definition that is the value at node k, from row n on.
-fn put_definition(s: &[u8], nodes: &[u32], k: usize, rows: &mut [u32], n: usize) -> Put
+fn put_definition(
+    source: &Source,
+    k: usize,
+    rows: &mut [u32],
+    n: usize,
+) -> Result<usize, NotDefinitions>
     requires { n < node_bound }
-    ensures { PutsRows (DefinitionAt s.now nodes.now k n) rows.old rows.new n definition_rows result }
+    ensures { PutsRows (DefinitionAt source.now.bytes.now source.now.nodes.now k n) rows.old rows.new n definition_rows result }
 {
-    if node_word(nodes, k, NODE_KIND) != node::OBJECT {
-        return Put::Refused;
+    if node_word(source.nodes, k, NODE_KIND) != node::OBJECT {
+        return Err(NotDefinitions);
     }
-    let key = kind_key(s, nodes, k);
-    let KindKey::Key(kind, v) = key else {
-        return Put::Refused;
+    let Some(key) = kind_key(source, k) else {
+        return Err(NotDefinitions);
     };
-    put_kind(s, nodes, k, kind, v, rows, n)
+    put_kind(source, k, key.kind, key.node, rows, n)
 }
 
-// The definitions of the objects from node 0 up to `count`, from row 0 on. Each row comes from a node of its own.
-pub fn put_definitions(s: &[u8], nodes: &[u32], count: usize, rows: &mut [u32]) -> Put
+// The definitions of the objects from node 0 up to `count`, from row 0 on: how many rows they have. Each row comes from a node of its own.
+pub fn put_definitions(
+    s: &[u8],
+    nodes: &[u32],
+    count: usize,
+    rows: &mut [u32],
+) -> Result<usize, NotDefinitions>
     requires { count < node_bound }
     ensures { PutsDefinitions s.now nodes.now rows.old rows.new count result }
 {
+    let source = Source { bytes: s, nodes };
     let mut k = 0;
     let mut n = 0;
     while k < count {
-        let p = put_definition(s, nodes, k, rows, n);
-        let Put::Rows(m) = p else {
-            return Put::Refused;
-        };
+        let m = put_definition(&source, k, rows, n)?;
         let next = node_number(nodes, k, NODE_NEXT);
         if next <= k {
-            return Put::Refused;
+            return Err(NotDefinitions);
         }
         if next < m {
-            return Put::Refused;
+            return Err(NotDefinitions);
         }
         k = next;
         n = m;
     }
-    Put::Rows(n)
+    Ok(n)
 }

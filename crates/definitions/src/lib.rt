@@ -5,5 +5,6 @@ pub mod bodies;
 pub mod definitions;
 pub mod lists;
 pub mod shapes;
+pub mod source;
 pub mod values;
 pub mod writing;

@@ -1,93 +1,89 @@
 // The children that a value lists, as rows: values of an enum, members, branches, alternatives.
-ghost use Rattle.std.specs.Prelude.{ℕ, ◌^◌, ◌<◌, List, ◌≡◌, cond, eqb};
+ghost use Rattle.std.specs.Prelude.{ℕ, ◌^◌, ◌<◌, List, ◌≡◌, cond, eqb, get_or};
 ghost use Rattle.rules.specs.Kinds.{value_kind, alternative_kind};
 ghost use Rattle.tokens.specs.NodeKinds.{array_node, object_node};
 ghost use Rattle.definitions.specs.Written.{list_bound, children_bound, child_bound, PutsRows};
 ghost use Rattle.definitions.specs.Parts.{ValueAt, FieldAt, member_field, pair_field, ChildAt, ChildrenAt, CountedAt, InlineAt};
 
-use crate::shapes::{TypeRead, take_type};
-use crate::values::{name_word, star, wide};
-use crate::writing::{Put, Row, put_named_row, put_row};
+use crate::shapes::read_type;
+use crate::source::Source;
+use crate::values::{name_word, star};
+use crate::writing::{NotDefinitions, named_row, put_row};
 use lookups::values::is_string;
-use rules::kind;
+use rules::{ROW_WORDS, kind, row};
 use text::nodes::{NODE_KIND, NODE_NEXT, node_word};
 use tokens::node;
 
 // The string at node a, as a value of an enum.
-fn put_value(nodes: &[u32], a: usize, rows: &mut [u32], n: usize) -> Put
+fn put_value(nodes: &[u32], a: usize, rows: &mut [u32], n: usize) -> Result<usize, NotDefinitions>
     requires { n < child_bound }
     ensures { (s : List ℕ) → PutsRows (ValueAt s nodes.now a) rows.old rows.new n 1 result }
 {
     if !is_string(nodes, a) {
-        return Put::Refused;
+        return Err(NotDefinitions);
     }
-    let row = Row {
-        kind: kind::VALUE,
-        start: 0,
-        size: 0,
-        a: 0,
-        b: 0,
-        c: 0,
-        d: 0,
-    };
-    put_named_row(nodes, a, 0, rows, n, row);
-    Put::Rows(n + 1)
+    put_row(rows, n, &named_row(nodes, a, 0, kind::VALUE));
+    Ok(n + 1)
 }
 
 // The member whose key stands at node a; a `*` in front of the key is no part of its name.
-fn put_member(s: &[u8], nodes: &[u32], a: usize, rows: &mut [u32], n: usize) -> Put
+fn put_member(
+    source: &Source,
+    a: usize,
+    rows: &mut [u32],
+    n: usize,
+) -> Result<usize, NotDefinitions>
     requires { (a < child_bound) × (n < child_bound) }
-    ensures { PutsRows (FieldAt s.now nodes.now member_field a) rows.old rows.new n 1 result }
+    ensures { PutsRows (FieldAt source.now.bytes.now source.now.nodes.now member_field a) rows.old rows.new n 1 result }
 {
-    let t = take_type(nodes, a + 1);
-    let TypeRead::Taken(place, list) = t else {
-        return Put::Refused;
+    // A type is taken by `let .. else`: the project's scope names this form (docs/DECISIONS.md).
+    let Ok(t) = read_type(source.nodes, a + 1) else {
+        return Err(NotDefinitions);
     };
-    let optional = star(s, nodes, a);
-    let row = Row {
-        kind: kind::MEMBER,
-        start: 0,
-        size: 0,
-        a: place,
-        b: list,
-        c: optional,
-        d: 0,
-    };
-    put_named_row(nodes, a, optional, rows, n, row);
-    Put::Rows(n + 1)
+    let optional = star(source, a) as u32;
+    let mut own = named_row(source.nodes, a, optional, kind::MEMBER);
+    own[row::TYPE_REF] = t.name;
+    own[row::ARRAY_MARK] = t.list as u32;
+    own[row::OPTIONAL] = optional;
+    put_row(rows, n, &own);
+    Ok(n + 1)
 }
 
 // The branch or alternative whose key stands at node a.
-fn put_pair(nodes: &[u32], a: usize, kind: u32, rows: &mut [u32], n: usize) -> Put
+fn put_pair(
+    nodes: &[u32],
+    a: usize,
+    kind: u32,
+    rows: &mut [u32],
+    n: usize,
+) -> Result<usize, NotDefinitions>
     requires { (a < child_bound) × (n < child_bound) }
     ensures { (s : List ℕ) → PutsRows (FieldAt s nodes.now (pair_field kind) a) rows.old rows.new n 1 result }
 {
     let b = a + 1;
     if !is_string(nodes, b) {
-        return Put::Refused;
+        return Err(NotDefinitions);
     }
-    let place = name_word(nodes, b);
-    let row = Row {
-        kind,
-        start: 0,
-        size: 0,
-        a: place,
-        b: 0,
-        c: 0,
-        d: 0,
-    };
-    put_named_row(nodes, a, 0, rows, n, row);
-    Put::Rows(n + 1)
+    let mut own = named_row(nodes, a, 0, kind);
+    own[row::TYPE_REF] = name_word(nodes, b);
+    put_row(rows, n, &own);
+    Ok(n + 1)
 }
 
-fn put_child(s: &[u8], nodes: &[u32], a: usize, kind: u32, rows: &mut [u32], n: usize) -> Put
+fn put_child(
+    source: &Source,
+    a: usize,
+    kind: u32,
+    rows: &mut [u32],
+    n: usize,
+) -> Result<usize, NotDefinitions>
     requires { (a < child_bound) × (n < child_bound) }
-    ensures { PutsRows (ChildAt s.now nodes.now kind a) rows.old rows.new n 1 result }
+    ensures { PutsRows (ChildAt source.now.bytes.now source.now.nodes.now kind a) rows.old rows.new n 1 result }
 {
     match kind {
-        kind::VALUE => put_value(nodes, a, rows, n),
-        kind::MEMBER => put_member(s, nodes, a, rows, n),
-        _ => put_pair(nodes, a, kind, rows, n),
+        kind::VALUE => put_value(source.nodes, a, rows, n),
+        kind::MEMBER => put_member(source, a, rows, n),
+        _ => put_pair(source.nodes, a, kind, rows, n),
     }
 }
 
@@ -96,86 +92,82 @@ fn list_kind(kind: u32) -> u32
     ensures { result ≡ cond (eqb kind value_kind) array_node object_node }
 {
     if kind == kind::VALUE {
-        return node::ARRAY;
+        node::ARRAY
+    } else {
+        node::OBJECT
     }
-    node::OBJECT
 }
 
-// The children that the value at node k lists, from row n on; there must be one.
-pub fn put_children(s: &[u8], nodes: &[u32], k: usize, kind: u32, rows: &mut [u32], n: usize) -> Put
+// The children that a value lists, by its node, from row n on; there must be one.
+pub fn put_children(
+    source: &Source,
+    list: Option<usize>,
+    kind: u32,
+    rows: &mut [u32],
+    n: usize,
+) -> Result<usize, NotDefinitions>
     requires { n < children_bound }
-    ensures { PutsRows (ChildrenAt s.now nodes.now kind k) rows.old rows.new n 0xFFFF_FFFF result }
+    ensures { PutsRows (ChildrenAt source.now.bytes.now source.now.nodes.now kind list) rows.old rows.new n 0xFFFF_FFFF result }
 {
-    if k == 0 {
-        return Put::Refused;
+    let Some(k) = list else {
+        return Err(NotDefinitions);
+    };
+    if node_word(source.nodes, k, NODE_KIND) != list_kind(kind) {
+        return Err(NotDefinitions);
     }
-    if node_word(nodes, k, NODE_KIND) != list_kind(kind) {
-        return Put::Refused;
-    }
-    let end = wide(node_word(nodes, k, NODE_NEXT));
+    let end = node_word(source.nodes, k, NODE_NEXT) as usize;
     if end <= k {
-        return Put::Refused;
+        return Err(NotDefinitions);
     }
     let mut a = k + 1;
     let mut m = n;
     while a < end {
-        let p = put_child(s, nodes, a, kind, rows, m);
-        let Put::Rows(more) = p else {
-            return Put::Refused;
-        };
-        let next = wide(node_word(nodes, a, NODE_NEXT));
+        let more = put_child(source, a, kind, rows, m)?;
+        let next = node_word(source.nodes, a, NODE_NEXT) as usize;
         if next <= a {
-            return Put::Refused;
+            return Err(NotDefinitions);
         }
         m = more;
         a = next;
     }
-    Put::Rows(m)
+    Ok(m)
 }
 
-// A row with a link that counts its children in word 4, and these, which the value at node k lists. Their kind is the next.
-pub fn put_counted(s: &[u8], nodes: &[u32], k: usize, rows: &mut [u32], n: usize, row: Row) -> Put
-    requires { (n < list_bound) × (row.kind < alternative_kind) }
-    ensures { PutsRows (CountedAt s.now nodes.now row.kind row.start row.size row.b k) rows.old rows.new n (2 ^ 32) result }
+// A row that counts its children, and these, which a value lists, by its node. Their kind is the next one.
+pub fn put_counted(
+    source: &Source,
+    list: Option<usize>,
+    rows: &mut [u32],
+    n: usize,
+    mut own: [u32; ROW_WORDS],
+) -> Result<usize, NotDefinitions>
+    requires { (n < list_bound) × (get_or own 0 0 < alternative_kind) }
+    ensures { PutsRows (CountedAt source.now.bytes.now source.now.nodes.now own list) rows.old rows.new n (2 ^ 32) result }
 {
     let first = n + 1;
-    let p = put_children(s, nodes, k, row.kind + 1, rows, first);
-    let Put::Rows(m) = p else {
-        return Put::Refused;
-    };
-    let count = (m - first) as u32;
-    let own = Row {
-        kind: row.kind,
-        start: row.start,
-        size: row.size,
-        a: count,
-        b: row.b,
-        c: 0,
-        d: 0,
-    };
-    put_row(rows, n, own);
-    Put::Rows(m)
+    let m = put_children(source, list, own[row::KIND] + 1, rows, first)?;
+    own[row::COUNT] = (m - first) as u32;
+    put_row(rows, n, &own);
+    Ok(m)
 }
 
-// The inline struct of the base or data at node k, from row n on; none where that is a name or absent.
-pub fn put_inline(s: &[u8], nodes: &[u32], k: usize, rows: &mut [u32], n: usize) -> Put
+// The inline struct of a base or of data, by its node, from row n on; none where that is a name or absent.
+pub fn put_inline(
+    source: &Source,
+    value: Option<usize>,
+    rows: &mut [u32],
+    n: usize,
+) -> Result<usize, NotDefinitions>
     requires { n < list_bound }
-    ensures { PutsRows (InlineAt s.now nodes.now k) rows.old rows.new n (2 ^ 32) result }
+    ensures { PutsRows (InlineAt source.now.bytes.now source.now.nodes.now value) rows.old rows.new n (2 ^ 32) result }
 {
-    if k == 0 {
-        return Put::Rows(n);
-    }
-    if is_string(nodes, k) {
-        return Put::Rows(n);
-    }
-    let row = Row {
-        kind: kind::STRUCT,
-        start: 0,
-        size: 0,
-        a: 0,
-        b: 0,
-        c: 0,
-        d: 0,
+    let Some(k) = value else {
+        return Ok(n);
     };
-    put_counted(s, nodes, k, rows, n, row)
+    if is_string(source.nodes, k) {
+        return Ok(n);
+    }
+    let mut own = [0u32; ROW_WORDS];
+    own[row::KIND] = kind::STRUCT;
+    put_counted(source, value, rows, n, own)
 }

@@ -1,123 +1,105 @@
-// The shapes of values: a type, a flag, a base or data.
+// The shapes of values: a type, a flag, a base or data. Any node may be asked.
 ghost use Rattle.std.specs.Prelude.{◌<◌};
 ghost use Rattle.definitions.specs.Written.{node_bound};
-ghost use Rattle.definitions.specs.Places.{ReadsList, ReadsType, TakesType, TakesReturn, TakesFlag, Links, BaseFits};
+ghost use Rattle.definitions.specs.Places.{ReadsList, ReadsType, TakesReturn, TakesFlag, Links, BaseFits};
 
 use crate::values::name_word;
+use crate::writing::NotDefinitions;
 use lookups::values::is_string;
 use text::nodes::{NODE_KIND, NODE_NEXT, node_number, node_word};
 use tokens::node;
 
-// A type: a name, or a list of one name, by the word of the name; or any other value.
+// A type by the word of its name, and whether it is a list.
 #[derive(Clone, Copy)]
-pub enum TypeText {
-    One(u32),
-    ListOf(u32),
-    Other,
+pub struct TypeText {
+    pub name: u32,
+    pub list: bool,
 }
 
 // The value at node k, no string, as a type.
-fn list_type(nodes: &[u32], k: usize) -> TypeText
+fn list_type(nodes: &[u32], k: usize) -> Result<TypeText, NotDefinitions>
     ensures { ReadsList nodes.now k result }
 {
     if node_word(nodes, k, NODE_KIND) != node::ARRAY {
-        return TypeText::Other;
+        return Err(NotDefinitions);
     }
     let end = node_number(nodes, k, NODE_NEXT);
     if end <= k {
-        return TypeText::Other;
+        return Err(NotDefinitions);
     }
     let first = k + 1;
     if !is_string(nodes, first) {
-        return TypeText::Other;
+        return Err(NotDefinitions);
     }
     if end - first != 1 {
-        return TypeText::Other;
+        return Err(NotDefinitions);
     }
-    TypeText::ListOf(name_word(nodes, first))
+    Ok(TypeText {
+        name: name_word(nodes, first),
+        list: true,
+    })
 }
 
-pub fn read_type(nodes: &[u32], k: usize) -> TypeText
+// The value at node k as a type: a name, or a list of one name.
+pub fn read_type(nodes: &[u32], k: usize) -> Result<TypeText, NotDefinitions>
     ensures { ReadsType nodes.now k result }
 {
     if is_string(nodes, k) {
-        return TypeText::One(name_word(nodes, k));
+        return Ok(TypeText {
+            name: name_word(nodes, k),
+            list: false,
+        });
     }
     list_type(nodes, k)
 }
 
-// A type as the words of a row: the word of its name and 1 if it is a list; or refusal 4.
-#[derive(Clone, Copy)]
-pub enum TypeRead {
-    Taken(u32, u32),
-    Refused,
+// What a command returns, by its node; a name of no bytes where that is absent.
+pub fn take_return(nodes: &[u32], returns: Option<usize>) -> Result<TypeText, NotDefinitions>
+    ensures { TakesReturn nodes.now returns result }
+{
+    match returns {
+        Some(k) => read_type(nodes, k),
+        None => Ok(TypeText {
+            name: 0,
+            list: false,
+        }),
+    }
 }
 
-pub fn take_type(nodes: &[u32], k: usize) -> TypeRead
-    ensures { TakesType nodes.now k result }
+// A flag by its node; false where that is absent.
+pub fn take_flag(nodes: &[u32], flag: Option<usize>) -> Result<bool, NotDefinitions>
+    ensures { TakesFlag nodes.now flag result }
 {
-    let t = read_type(nodes, k);
-    if let TypeText::ListOf(p) = t {
-        return TypeRead::Taken(p, 1);
-    }
-    let TypeText::One(p) = t else {
-        return TypeRead::Refused;
+    let Some(k) = flag else {
+        return Ok(false);
     };
-    TypeRead::Taken(p, 0)
-}
-
-// What a command returns, at node k; 0, 0 where it is absent.
-pub fn take_return(nodes: &[u32], k: usize) -> TypeRead
-    ensures { TakesReturn nodes.now k result }
-{
-    if k == 0 {
-        return TypeRead::Taken(0, 0);
-    }
-    take_type(nodes, k)
-}
-
-// A flag: 0 or 1, or no flag.
-#[derive(Clone, Copy)]
-pub enum FlagRead {
-    Flag(u32),
-    Refused,
-}
-
-// The flag at node k; 0 where it is absent.
-pub fn take_flag(nodes: &[u32], k: usize) -> FlagRead
-    ensures { TakesFlag nodes.now k result }
-{
-    if k == 0 {
-        return FlagRead::Flag(0);
-    }
-    let kind = node_word(nodes, k, NODE_KIND);
-    match kind {
-        node::FALSE => FlagRead::Flag(0),
-        node::TRUE => FlagRead::Flag(1),
-        _ => FlagRead::Refused,
+    match node_word(nodes, k, NODE_KIND) {
+        node::FALSE => Ok(false),
+        node::TRUE => Ok(true),
+        _ => Err(NotDefinitions),
     }
 }
 
-// The link of the base or data at node k, 0 where it is absent, of the owner at row n: the row after its owner, or a name.
-pub fn data_link(nodes: &[u32], k: usize, n: usize) -> u32
+// The link of a base or of data by its node, 0 where that is absent, of the owner at row n: the row after its owner, or a name.
+pub fn data_link(nodes: &[u32], value: Option<usize>, n: usize) -> u32
     requires { n < node_bound }
-    ensures { Links nodes.now k n result }
+    ensures { Links nodes.now value n result }
 {
-    if k == 0 {
+    let Some(k) = value else {
         return 0;
-    }
+    };
     if is_string(nodes, k) {
         return name_word(nodes, k);
     }
     (n + 2) as u32
 }
 
-// Whether the base at node k of a struct is a name, or absent.
-pub fn base_fits(nodes: &[u32], k: usize) -> bool
-    ensures { BaseFits nodes.now k result }
+// Whether a struct's base is a name, or absent.
+pub fn base_fits(nodes: &[u32], base: Option<usize>) -> bool
+    ensures { BaseFits nodes.now base result }
 {
-    if k == 0 {
-        return true;
+    match base {
+        Some(k) => is_string(nodes, k),
+        None => true,
     }
-    is_string(nodes, k)
 }

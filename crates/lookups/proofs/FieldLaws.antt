@@ -6,6 +6,8 @@ use mathlib.Core.Path.{◌≡◌, refl, sym, ap, ◌∙◌, subst}
 use mathlib.Core.Bool.{Bool, true, false}
 use mathlib.Core.List.{List}
 use mathlib.Core.Option.{Option, some}
+use Rattle.std.specs.Prelude.{Some, None}
+use Rattle.std.specs.Prelude as Std
 use Rattle.grammar.specs.Notation.{same}
 use Rattle.grammar.specs.Tree.{Json, Fields}
 use Rattle.grammar.specs.Tree.Fields.{no_fields, field}
@@ -76,28 +78,28 @@ module _ (D : Dialect) (s w : List ℕ) where
     left_stuck m q p o fs l h = omega (arith, (left-first q fs l h).on)
 
   -- the value under a key of the object at node k, whose next is n; the fields from node a on are left
-  found-so : (k n : ℕ) {name : List ℕ} {r : ℕ} → n ≡ next w k
+  found-so : (k n : ℕ) {name : List ℕ} {r : Std.Option ℕ} → n ≡ next w k
       → ((fs : Fields) (l : ℕ) → HoldsFields D s w fs l (suc k) n → ValueFound D s w l (value_at name fs) r) → FindsValue D s w k name r
   found-so k n p g = record { told = λ fs l h. g fs l (subst (λ (i : ℕ). HoldsFields D s w fs l (suc k) i) (sym p) h) }
 
-  pub value-end : {k n a : ℕ} {name : List ℕ} → n ≡ next w k → FieldsLeft (value_at name) (suc k) a n → n ≤ a → FindsValue D s w k name 0
-  value-end {k} {n} {name = name} p v q = found-so k n p (λ fs l h. subst (λ (o : Option Json). ValueFound D s w l o 0) (sym (left_end v q fs l h)) refl)
+  pub value-end : {k n a : ℕ} {name : List ℕ} → n ≡ next w k → FieldsLeft (value_at name) (suc k) a n → n ≤ a → FindsValue D s w k name None
+  value-end {k} {n} {name = name} p v q = found-so k n p (λ fs l h. subst (λ (o : Option Json). ValueFound D s w l o None) (sym (left_end v q fs l h)) tt)
 
-  pub value_none : {k n : ℕ} (name : List ℕ) → n ≡ next w k → n ≤ k → FindsValue D s w k name 0
+  pub value_none : {k n : ℕ} (name : List ℕ) → n ≡ next w k → n ≤ k → FindsValue D s w k name None
   value_none {k} {n} name p q = value-end p (all_left (value_at name) (suc k) n) (omega arith)
 
-  pub value_stuck : {k n a : ℕ} {name : List ℕ} (m : ℕ) → n ≡ next w k → FieldsLeft (value_at name) (suc k) a n → a < n → m ≡ next w a → m ≤ a → FindsValue D s w k name 0
+  pub value_stuck : {k n a : ℕ} {name : List ℕ} (m : ℕ) → n ≡ next w k → FieldsLeft (value_at name) (suc k) a n → a < n → m ≡ next w a → m ≤ a → FindsValue D s w k name None
   value_stuck {k} {n} m p v q e o = found-so k n p (λ fs l h. absurd (left_stuck v m q e o fs l h))
 
   pub value_hit : {k n a : ℕ} {name : List ℕ} {r : Bool} → n ≡ next w k → FieldsLeft (value_at name) (suc k) a n → a < n
-      → NodeMeans D s w a name r → r ≡ true → FindsValue D s w k name (a + 1)
+      → NodeMeans D s w a name r → r ≡ true → FindsValue D s w k name (Some (a + 1))
   value_hit {k} {n} {a} {name} {r} p v q g t = found-so k n p (λ fs l h. go fs l h (left-first v q fs l h))
     where
-      go : (fs : Fields) (l : ℕ) (h : HoldsFields D s w fs l (suc k) n) → FirstField (v.rest fs l h) l a n → ValueFound D s w l (value_at name fs) (a + 1)
+      go : (fs : Fields) (l : ℕ) (h : HoldsFields D s w fs l (suc k) n) → FirstField (v.rest fs l h) l a n → ValueFound D s w l (value_at name fs) (Some (a + 1))
       go fs l h y =
           let e : same y.key name ≡ true = sym (g.key y.key y.at) ∙ t in
           let u : value_at name fs ≡ some y.value = v.same_so fs l h ∙ ap (value_at name) y.is ∙ rw e refl in
-          subst (λ (o : Option Json). ValueFound D s w l o (a + 1)) (sym u) (omega arith, subst (λ (i : ℕ). Holds D s w y.value l i) (sym (add-one a)) y.holds)
+          subst (λ (o : Option Json). ValueFound D s w l o (Some (a + 1))) (sym u) (omega arith, subst (λ (i : ℕ). Holds D s w y.value l i) (sym (add-one a)) y.holds)
 
   pub value_on : {k n a : ℕ} {name : List ℕ} {r : Bool} (m : ℕ) → FieldsLeft (value_at name) (suc k) a n → a < n
       → NodeMeans D s w a name r → r ≡ false → m ≡ next w a → FieldsLeft (value_at name) (suc k) m n

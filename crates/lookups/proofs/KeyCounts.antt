@@ -8,9 +8,11 @@ use mathlib.Core.Bool.{Bool, true, false, not, cond, ◌&&◌, ◌||◌}
 use mathlib.Core.List.{List, [], ◌∷◌}
 use mathlib.Core.Option.{Option, none, some}
 use lib.Dec.{eqb, eqb-suc-suc}
-use lib.ListN.{length, get_or, drop, drop_of_length-le}
-use lib.Seq.{drop-cons}
-use borrow.Author.Tests.{eq-eqb, ne_eqb}
+use lib.ListN.{length}
+use borrow.Author.Tests.{ne_eqb}
+use Rattle.std.specs.Prelude.{Some, None, is_some, count_by}
+use Rattle.std.specs.Prelude as Std
+use Rattle.std.proofs.lemmas.List.Sums.{sum_by-cons}
 use Rattle.grammar.specs.Notation.{same, all, apart}
 use Rattle.grammar.specs.Tree.{Json, Fields}
 use Rattle.grammar.specs.Tree.Fields.{no_fields, field}
@@ -24,7 +26,7 @@ use Rattle.rules.proofs.Lists.{same_true, same_refl, all_true, of_not, any_of-tr
 use Rattle.rules.proofs.First.{decided}
 use Rattle.text.specs.Nodes.{next, HoldsFields}
 use Rattle.text.proofs.KeyLaws.{no_keys}
-use Rattle.lookups.specs.Lookups.{ValueFound, CountsFields, NoOtherKeys, FindsEach, found_count, NoOthers}
+use Rattle.lookups.specs.Lookups.{ValueFound, CountsFields, NoOtherKeys, FindsEach, NoOthers}
 use Rattle.lookups.specs.Lookups.FindsEach.{nothing, ◌and◌}
 use Rattle.lookups.proofs.FieldLaws.{first_field}
 
@@ -97,46 +99,25 @@ module _ (names : List (List ℕ)) (d : apart same names ≡ true) where
 
 -- nodes found for names: as many as there are keys among these
 module _ {D : Dialect} {s w : List ℕ} {k : ℕ} (fs : Fields) (l : ℕ) (h : HoldsFields D s w fs l (suc k) (next w k)) where
-  found_each : {names : List (List ℕ)} {vs : List ℕ} → FindsEach D s w k names vs → found_count vs ≡ keys_found names fs
-  unfolding found_count keys_found
+  found_each : {names : List (List ℕ)} {vs : List (Std.Option ℕ)} → FindsEach D s w k names vs → count_by is_some vs ≡ keys_found names fs
+  unfolding keys_found
   found_each nothing = refl
-  found_each (◌and◌ {name} {v} f rest) = ap₂ (λ (i j : ℕ). i + j) (at (value_at name fs) (f.told fs l h)) (found_each rest)
+  found_each (◌and◌ {name} {v} {vs = vs} f rest) = sum_by-cons (λ x. cond (is_some x) 1 0) v vs ∙ ap₂ (λ (i j : ℕ). i + j) (at (value_at name fs) v (f.told fs l h)) (found_each rest)
     where
-      at : (o : Option Json) → ValueFound D s w l o v → cond (eqb v 0) 0 1 ≡ present o
-      at none e = rw (eq-eqb v 0 e)
-      at (some j) e = rw (ne_eqb v 0 (λ (z : v ≡ 0). omega (arith, e.0)))
+      at : (o : Option Json) (v : Std.Option ℕ) → ValueFound D s w l o v → cond (is_some v) 1 0 ≡ present o
+      at none None e = refl
+      at none (Some i) e = absurd e
+      at (some j) None e = absurd e
+      at (some j) (Some i) e = refl
 
 -- the law over nodes
-pub no_other : {w vs : List ℕ} {k n c : ℕ} → n ≡ found_count vs → CountsFields w k c → NoOthers w k vs (eqb n c)
+pub no_other : {w : List ℕ} {vs : List (Std.Option ℕ)} {k n c : ℕ} → n ≡ count_by is_some vs → CountsFields w k c → NoOthers w k vs (eqb n c)
 no_other e g =
     record { told = λ d s names a f. record { told = λ fs l h o. rw (e, found_each fs l h f, g.told d s fs l h) (found_all names a fs o) } }
 
-pub only_these : (d : Dialects.Dialect) {s w vs : List ℕ} {k : ℕ} {names : List (List ℕ)} {r t : Bool} → apart same names ≡ true
+pub only_these : (d : Dialects.Dialect) {s w : List ℕ} {vs : List (Std.Option ℕ)} {k : ℕ} {names : List (List ℕ)} {r t : Bool} → apart same names ≡ true
     → FindsEach (grammar_of d) s w k names vs → NoOthers w k vs r → r ≡ t → NoOtherKeys (grammar_of d) s w k names t
 only_these d {s} {w} {k = k} {names} a f g e = subst (NoOtherKeys (grammar_of d) s w k names) e (g.told d s names a f)
-
--- found nodes counted one by one: c of those before the i-th
-pub record FoundLeft (vs : List ℕ) (i c : ℕ) : Type 0 where
-  pub few : c ≤ i
-  pub left : found_count vs ≡ c + found_count (drop i vs)
-
-pub found_begin : (vs : List ℕ) → FoundLeft vs 0 0
-found_begin vs = record { few = omega arith; left = omega arith }
-
-module _ {vs : List ℕ} {i c : ℕ} (v : FoundLeft vs i c) where
-  next-left : i < length vs → found_count vs ≡ c + (cond (eqb (get_or vs i 0) 0) 0 1 + found_count (drop (i + 1) vs))
-  unfolding found_count
-  next-left q = v.left ∙ rw (add-one i, drop-cons vs i 0)
-
-  pub found-one : {n : ℕ} → i < length vs → (get_or vs i 0 ≡ 0 → ⊥) → n ≡ c + 1 → FoundLeft vs (i + 1) n
-  found-one q e p = record { few = omega (arith, v.few); left = next-left q ∙ rw (ne_eqb (get_or vs i 0) 0 e) (omega arith) }
-
-  pub found_none : {n : ℕ} → i < length vs → get_or vs i 0 ≡ 0 → n ≡ c → FoundLeft vs (i + 1) n
-  found_none q e p = record { few = omega (arith, v.few); left = next-left q ∙ rw (eq-eqb (get_or vs i 0) 0 e) (omega arith) }
-
-  pub found-end : length vs ≤ i → c ≡ found_count vs
-  unfolding found_count
-  found-end q = sym (v.left ∙ rw (drop_of_length-le vs q) (omega arith))
 
 -- fields counted one by one: c of those from node b on are passed, the ones from node a on are left
 pub record CountLeft (w : List ℕ) (b a n c : ℕ) : Type 0 where

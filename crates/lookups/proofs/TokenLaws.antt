@@ -8,7 +8,7 @@ use Rattle.grammar.specs.Notation.{same}
 use Rattle.grammar.specs.Tree.Scalar.{str}
 use Rattle.grammar.specs.Serving.Machine.Message.{message}
 use Rattle.strings.specs.declared.dialects.Dialect.TheVariants.{Message}
-use Rattle.strings.specs.declared.decoded.Decoded.{Decoded}
+use Rattle.std.specs.Prelude.{Option}
 use Rattle.strings.specs.Strings.{plain_string, Means}
 use Rattle.strings.specs.Meanings.{inside}
 use Rattle.strings.specs.Decoding.{Decodes}
@@ -46,7 +46,7 @@ module _ {m w : List ℕ} {k a : ℕ} (pa : a ≡ node_start w k) where
         h ∙ ap₂ (λ (y z : ℕ). take y (drop z m)) p q ∙ ap₂ (λ (y z : ℕ). inside m y z) pa pe ∙ sym (plain-means Message v.means (v.plain t));
   }
 
-  pub token_decodes : {bytes : List ℕ} {r : Decoded} → Decodes message m a bytes r → NodeDecodes m w k bytes r
+  pub token_decodes : {bytes : List ℕ} {r : Option ℕ} → Decodes message m a bytes r → NodeDecodes m w k bytes r
   token_decodes h = record {
     fits = h.fits;
     told = λ cs u. h.told (node_end w k) cs (subst (λ (y : ℕ). Means message m y (node_end w k) cs) (sym pa) (token u).means);

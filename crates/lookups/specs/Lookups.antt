@@ -1,5 +1,6 @@
 -- Serves contracts: what is found in nodes, for every tree that they hold.
-use Rattle.std.specs.Prelude.{ℕ, suc, ◌+◌, ◌≤◌, ◌<◌, ◌≡◌, Bool, true, cond, ◌||◌, List, [], ◌∷◌, eqb, length}
+use Rattle.std.specs.Prelude as Std
+use Rattle.std.specs.Prelude.{ℕ, suc, ◌+◌, ◌≤◌, ◌<◌, ◌≡◌, Bool, true, cond, ◌||◌, List, [], ◌∷◌, Some, None, eqb, length}
 use Rattle.std.proofs.Math.Option.{Option, none, some}
 use Rattle.grammar.specs.Notation.{same, all, apart}
 use Rattle.grammar.specs.Tree.{Json, Fields}
@@ -9,7 +10,6 @@ use Rattle.grammar.specs.Keys.{keys_of}
 use Rattle.grammar.specs.Serving.Machine.{Dialect}
 use Rattle.grammar.specs.Serving.Machine.Message.{message}
 use Rattle.strings.specs.declared.dialects.Dialect as Dialects
-use Rattle.strings.specs.declared.decoded.Decoded.{Decoded}
 use Rattle.strings.specs.Strings.{grammar_of}
 use Rattle.strings.specs.Decoding.{DecodedAs, decoded_size}
 use Rattle.rules.specs.Values.{value_at, any_of}
@@ -39,16 +39,18 @@ pub record InnerBytes (m w : List ℕ) (k : ℕ) (bytes : List ℕ) : Type 0 whe
   pub told : (cs : List ℕ) → MeaningAt m w k cs → plain_kind (node_kind w k) ≡ true → bytes ≡ cs
 
 -- the key or string, decoded into the bytes
-pub record NodeDecodes (m w : List ℕ) (k : ℕ) (bytes : List ℕ) (r : Decoded) : Type 0 where
+pub record NodeDecodes (m w : List ℕ) (k : ℕ) (bytes : List ℕ) (r : Std.Option ℕ) : Type 0 where
   pub fits : decoded_size r ≤ length bytes
   pub told : (cs : List ℕ) → MeaningAt m w k cs → DecodedAs cs bytes r
 
 -- where the value under a key stands: at a node, or nowhere
-abbrev pub ValueFound : Dialect → List ℕ → List ℕ → ℕ → Option Json → ℕ → Type 0
-ValueFound D s w l none r = r ≡ 0
-ValueFound D s w l (some j) r = (0 < r) × Holds D s w j l r
+abbrev pub ValueFound : Dialect → List ℕ → List ℕ → ℕ → Option Json → Std.Option ℕ → Type 0
+ValueFound D s w l none None = Unit {0}
+ValueFound D s w l none (Some k) = ⊥
+ValueFound D s w l (some j) None = ⊥
+ValueFound D s w l (some j) (Some k) = (0 < k) × Holds D s w j l k
 
-pub record FindsValue (D : Dialect) (s w : List ℕ) (k : ℕ) (name : List ℕ) (r : ℕ) : Type 0 where
+pub record FindsValue (D : Dialect) (s w : List ℕ) (k : ℕ) (name : List ℕ) (r : Std.Option ℕ) : Type 0 where
   pub told : (fs : Fields) (l : ℕ) → HoldsFields D s w fs l (suc k) (next w k) → ValueFound D s w l (value_at name fs) r
 
 -- the object at node k has that many fields
@@ -61,15 +63,10 @@ pub record NoOtherKeys (D : Dialect) (s w : List ℕ) (k : ℕ) (names : List (L
 
 -- the values under these names stand at these nodes, or nowhere
 infixr 20 ◌and◌
-pub data FindsEach (D : Dialect) (s w : List ℕ) (k : ℕ) : List (List ℕ) → List ℕ → Type 0 where
+pub data FindsEach (D : Dialect) (s w : List ℕ) (k : ℕ) : List (List ℕ) → List (Std.Option ℕ) → Type 0 where
   nothing : FindsEach D s w k [] []
-  ◌and◌ : {name : List ℕ} {v : ℕ} {names : List (List ℕ)} {vs : List ℕ} → FindsValue D s w k name v → FindsEach D s w k names vs → FindsEach D s w k (name ∷ names) (v ∷ vs)
-
--- how many of these nodes are somewhere
-unfoldable pub found_count : List ℕ → ℕ
-found_count [] = 0
-found_count (v ∷ vs) = cond (eqb v 0) 0 1 + found_count vs
+  ◌and◌ : {name : List ℕ} {v : Std.Option ℕ} {names : List (List ℕ)} {vs : List (Std.Option ℕ)} → FindsValue D s w k name v → FindsEach D s w k names vs → FindsEach D s w k (name ∷ names) (v ∷ vs)
 
 -- no other key, whatever names were looked for, no two of them the same
-pub record NoOthers (w : List ℕ) (k : ℕ) (vs : List ℕ) (r : Bool) : Type 0 where
+pub record NoOthers (w : List ℕ) (k : ℕ) (vs : List (Std.Option ℕ)) (r : Bool) : Type 0 where
   pub told : (d : Dialects.Dialect) (s : List ℕ) (names : List (List ℕ)) → apart same names ≡ true → FindsEach (grammar_of d) s w k names vs → NoOtherKeys (grammar_of d) s w k names r

@@ -1,6 +1,5 @@
 // Keys counted: an object that repeats no key has no key but given names exactly if it has as many fields as names that are keys.
-ghost use Rattle.std.specs.Prelude.{◌≡◌};
-ghost use Rattle.lookups.specs.Lookups.{CountsFields, found_count, NoOthers};
+ghost use Rattle.lookups.specs.Lookups.{CountsFields, NoOthers};
 
 use text::nodes::{NODE_NEXT, node_number};
 
@@ -25,24 +24,9 @@ fn field_count(nodes: &[u32], k: usize) -> usize
     count
 }
 
-// How many of these nodes are those of values that were found.
-fn found_count(values: &[usize]) -> usize
-    ensures { result ≡ found_count values.now }
-{
-    let mut count = 0;
-    let mut i = 0;
-    while i < values.len() {
-        if values[i] != 0 {
-            count += 1;
-        }
-        i += 1;
-    }
-    count
-}
-
-// Whether the object at node k, which repeats no key, has no key but those whose values were looked up and stand at these nodes, 0 for none.
-pub fn no_others(nodes: &[u32], k: usize, values: &[usize]) -> bool
+// Whether the object at node k, which repeats no key, has no key but those whose values were looked up and stand at these nodes.
+pub fn no_others(nodes: &[u32], k: usize, values: &[Option<usize>]) -> bool
     ensures { NoOthers nodes.now k values.now result }
 {
-    found_count(values) == field_count(nodes, k)
+    values.iter().filter(|v| v.is_some()).count() == field_count(nodes, k)
 }

@@ -12,22 +12,14 @@ use tokens::node;
 fn string_kind(kind: u32) -> bool
     ensures { result ≡ string_kind kind }
 {
-    match kind {
-        node::PLAIN_STRING => true,
-        node::OTHER_STRING => true,
-        _ => false,
-    }
+    matches!(kind, node::PLAIN_STRING | node::OTHER_STRING)
 }
 
 // Whether the kind is that of a string or a key whose bytes are its code points.
 pub fn plain_kind(kind: u32) -> bool
     ensures { result ≡ plain_kind kind }
 {
-    match kind {
-        node::PLAIN_STRING => true,
-        node::PLAIN_KEY => true,
-        _ => false,
-    }
+    matches!(kind, node::PLAIN_STRING | node::PLAIN_KEY)
 }
 
 // Whether the value at node k is a string.
@@ -47,24 +39,24 @@ pub fn node_means(s: &[u8], dialect: Dialect, nodes: &[u32], k: usize, name: &[u
     means(s, dialect, a, e, plain, name)
 }
 
-// The node of the value under a key of the object at node k; 0 if it has no such key.
-pub fn value_at(s: &[u8], dialect: Dialect, nodes: &[u32], k: usize, name: &[u8]) -> usize
+// The node of the value under a key of the object at node k, if it has the key.
+pub fn value_at(s: &[u8], dialect: Dialect, nodes: &[u32], k: usize, name: &[u8]) -> Option<usize>
     ensures { FindsValue (grammar_of dialect) s.now nodes.now k name.now result }
 {
     let end = node_number(nodes, k, NODE_NEXT);
     if end <= k {
-        return 0;
+        return None;
     }
     let mut a = k + 1;
     while a < end {
         if node_means(s, dialect, nodes, a, name) {
-            return a + 1;
+            return Some(a + 1);
         }
         let n = node_number(nodes, a, NODE_NEXT);
         if n <= a {
-            return 0;
+            return None;
         }
         a = n;
     }
-    0
+    None
 }

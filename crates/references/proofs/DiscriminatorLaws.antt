@@ -7,6 +7,11 @@ use mathlib.Core.List.{List, [], ◌∷◌, ◌++◌}
 use mathlib.Core.Option.{Option, none, some}
 use native.Mathlib.Numerals.{add-one}
 use native.Mathlib.Omega.{arith}
+use Rattle.std.specs.Prelude.{Some, None, is_some, Result, Ok, Err, min}
+use Rattle.std.specs.Result.{OkIff, result_unwrap_or}
+use Rattle.std.specs.Prelude as Std
+use Rattle.rows.proofs.WalkRuns.{first_that}
+use Rattle.references.specs.Lookups.{row_of}
 use lib.Dec.{eqb}
 use lib.ListN.{length, get_or, set, length-set}
 use borrow.Author.Tests.{ne_eqb, lt-ltb, le-ltb}
@@ -28,14 +33,31 @@ use Rattle.references.specs.Discriminators.{or_else, member_link, narrow, discri
 pub narrow-fits : (l : ℕ) → l < 2 ^ 32 → l ≡ narrow l
 narrow-fits l h = rw (lt-ltb l (2 ^ 32) h)
 
-pub narrow_out : (l : ℕ) → 2 ^ 32 ≤ l → 0 ≡ narrow l
-narrow_out l h = rw (le-ltb l (2 ^ 32) h)
+-- a row's link as a word, if it fits
+pub link_word : {E : Type 0} (m : ℕ) {k v : ℕ} (r : Result ℕ E) → k ≡ min (m + 1) 18446744073709551615 → OkIff r (k < 4294967296) k → v ≡ result_unwrap_or r 0 → v ≡ narrow (suc m)
+link_word m {k} (Ok x) a b e =
+    let f : suc m < 2 ^ 32 = omega arith in
+    let g : k ≡ suc m = omega arith in
+    e ∙ b.1 ∙ g ∙ narrow-fits (suc m) f
+link_word m {k} (Err d) a b e =
+    let f : 2 ^ 32 ≤ suc m = omega arith in
+    e ∙ rw (le-ltb (suc m) (2 ^ 32) f)
+
+-- the first of some rows that has the name
+pub child_named : (S T x ms : List ℕ) → first_that (λ m. same_name x (name_of S T m)) ms ≡ row_of (member_in S T x ms)
+child_named S T x [] = refl
+child_named S T x (m ∷ ms) = go (same_name x (name_of S T m)) (child_named S T x ms)
+  where
+    go : (b : Bool) → first_that (λ m. same_name x (name_of S T m)) ms ≡ row_of (member_in S T x ms)
+        → cond b (Some m) (first_that (λ m. same_name x (name_of S T m)) ms) ≡ row_of (cond b (suc m) (member_in S T x ms))
+    go true e = refl
+    go false e = e
 
 -- the walk up the chain, by structs left and link
 module _ (S T : List ℕ) (n l : ℕ) (x : List ℕ) where
-  pub walk_none : l ≡ 0 → 0 ≡ member_link S T n l x
+  pub walk_none : l ≡ 0 → None ≡ row_of (member_link S T n l x)
   unfolding member_link
-  walk_none e = go n l e
+  walk_none e = ap row_of (go n l e)
     where
       go : (n l : ℕ) → l ≡ 0 → 0 ≡ member_link S T n l x
       go zero zero e = refl
@@ -43,32 +65,36 @@ module _ (S T : List ℕ) (n l : ℕ) (x : List ℕ) where
       go (suc n) zero e = refl
       go (suc n) (suc l) e = absurd (omega arith)
 
-  pub walk_out : n ≡ 0 → 0 ≡ member_link S T n l x
+  pub walk_out : n ≡ 0 → None ≡ row_of (member_link S T n l x)
   unfolding member_link
-  walk_out e = go n l e
+  walk_out e = ap row_of (go n l e)
     where
       go : (n l : ℕ) → n ≡ 0 → 0 ≡ member_link S T n l x
       go zero zero e = refl
       go zero (suc l) e = refl
       go (suc n) l e = absurd (omega arith)
 
-  module _ (h : l ≡ 0 → ⊥) (k : n ≡ 0 → ⊥) {a link : ℕ} (p : link ≡ base T (l - 1)) (q : a ≡ member_link S T (n - 1) link x) where
-    walk-on : member_link S T n l x ≡ or_else a (member_in S T x (children T (l - 1)))
+  module _ (h : l ≡ 0 → ⊥) (k : n ≡ 0 → ⊥) {link : ℕ} (p : link ≡ base T (l - 1)) where
+    walk-on : member_link S T n l x ≡ or_else (member_link S T (n - 1) link x) (member_in S T x (children T (l - 1)))
     unfolding member_link
     walk-on =
         let s : l ≡ suc (l - 1) = omega arith in
         let m : n ≡ suc (n - 1) = omega arith in
-        ap₂ (λ i j. member_link S T i j x) m s ∙ rw (← p, ← q)
+        ap₂ (λ i j. member_link S T i j x) m s ∙ rw (← p)
 
-    pub walk-inherited : (a ≡ 0 → ⊥) → a ≡ member_link S T n l x
-    walk-inherited z = sym (walk-on ∙ go a z)
+    pub walk-inherited : {r : Std.Option ℕ} → r ≡ row_of (member_link S T (n - 1) link x) → is_some r ≡ true → r ≡ row_of (member_link S T n l x)
+    walk-inherited {r} e z = e ∙ ap row_of (sym (walk-on ∙ go (member_link S T (n - 1) link x) (ap is_some (sym e) ∙ z)))
       where
-        go : (a : ℕ) → (a ≡ 0 → ⊥) → or_else a (member_in S T x (children T (l - 1))) ≡ a
-        go zero z = absurd (z refl)
+        go : (a : ℕ) → is_some (row_of a) ≡ true → or_else a (member_in S T x (children T (l - 1))) ≡ a
+        go zero z = absurd (cc)
         go (suc a) z = refl
 
-    pub walk-own : a ≡ 0 → {b : ℕ} → b ≡ member_in S T x (children T (l - 1)) → b ≡ member_link S T n l x
-    walk-own z e = sym (walk-on ∙ rw (z, ← e))
+    pub walk-own : {r o : Std.Option ℕ} → r ≡ row_of (member_link S T (n - 1) link x) → is_some r ≡ false → o ≡ row_of (member_in S T x (children T (l - 1))) → o ≡ row_of (member_link S T n l x)
+    walk-own {r} e z q = q ∙ ap row_of (sym (walk-on ∙ go (member_link S T (n - 1) link x) (ap is_some (sym e) ∙ z)))
+      where
+        go : (a : ℕ) → is_some (row_of a) ≡ false → or_else a (member_in S T x (children T (l - 1))) ≡ member_in S T x (children T (l - 1))
+        go zero z = refl
+        go (suc a) z = absurd (cc)
 
 -- where the members are found, the walk finds the one of that name
 module _ (S T x : List ℕ) where
@@ -107,16 +133,28 @@ module _ (S U : List ℕ) (r : ℕ) {b : ℕ} {t : Bool} (p : b ≡ union_base U
       go none e = refl
       go (some ms) e = absurd (clash refl (ap (λ (o : Option (List ℕ)). is o (λ _. true)) (sym e) ∙ ends ∙ denied refl n))
 
-  pub discriminator_found_lem : not t ≡ false → {w l v : ℕ} {x : List ℕ} → w ≡ get_or U (row_words * r + discriminator_word) 0 → x ≡ name_in S w → l ≡ member_link S U chain_structs b x → v ≡ narrow l
-      → v ≡ discriminator_found S r U
-  unfolding discriminator_found
-  discriminator_found_lem n {w} {l} {v} {x} e f g h =
-      let z : l ≡ member_in_chain S U (name_in S (get_or U (row_words * r + discriminator_word) 0)) (members U chain_structs (union_base U r)) = rw (← e, ← f) (g ∙ ap (λ b. member_link S U chain_structs b x) p ∙ go (members U chain_structs (union_base U r)) refl) in
-      h ∙ ap narrow z
-    where
-      go : (o : Option (List ℕ)) → members U chain_structs (union_base U r) ≡ o → member_link S U chain_structs (union_base U r) x ≡ member_in_chain S U x o
-      go none e = absurd (clash (granted refl n) (sym ends ∙ ap (λ (o : Option (List ℕ)). is o (λ _. true)) e))
-      go (some ms) e = member_link-is S U x chain_structs (union_base U r) ms e
+  module _ (n : not t ≡ false) {w : ℕ} {l : Std.Option ℕ} {x : List ℕ} (e : w ≡ get_or U (row_words * r + discriminator_word) 0) (f : x ≡ name_in S w) (g : l ≡ row_of (member_link S U chain_structs b x)) where
+    discriminator-so : (i : ℕ) → l ≡ row_of i → narrow i ≡ discriminator_found S r U
+    unfolding discriminator_found
+    discriminator-so i h =
+        let z : member_link S U chain_structs b x ≡ member_in_chain S U (name_in S (get_or U (row_words * r + discriminator_word) 0)) (members U chain_structs (union_base U r)) = rw (← e, ← f) (ap (λ b. member_link S U chain_structs b x) p ∙ go (members U chain_structs (union_base U r)) refl) in
+        ap narrow (same_row i (member_link S U chain_structs b x) (sym h ∙ g) ∙ z)
+      where
+        same_row : (i j : ℕ) → row_of i ≡ row_of j → i ≡ j
+        same_row zero zero q = refl
+        same_row zero (suc j) q = absurd (cc)
+        same_row (suc i) zero q = absurd (cc)
+        same_row (suc i) (suc j) q = cc
+
+        go : (o : Option (List ℕ)) → members U chain_structs (union_base U r) ≡ o → member_link S U chain_structs (union_base U r) x ≡ member_in_chain S U x o
+        go none e = absurd (clash (granted refl n) (sym ends ∙ ap (λ (o : Option (List ℕ)). is o (λ _. true)) e))
+        go (some ms) e = member_link-is S U x chain_structs (union_base U r) ms e
+
+    pub discriminator_none : l ≡ None → 0 ≡ discriminator_found S r U
+    discriminator_none h = discriminator-so 0 h
+
+    pub discriminator_found_lem : {m v : ℕ} → l ≡ Some m → v ≡ narrow (suc m) → v ≡ discriminator_found S r U
+    discriminator_found_lem {m} h q = q ∙ discriminator-so (suc m) h
 
 -- union by union
 module _ (S U : List ℕ) (r : ℕ) {k : ℕ} (p : k ≡ kind U r) where

@@ -2,10 +2,14 @@
 -- The idea: rows with the heads of the indexed table have its kinds and names, and definitions of one name are in one bucket, in the order of rows.
 use Prim.{tt}
 use Prim.Native.Nat.{ℕ, zero, suc, ◌+◌, ◌-◌, ◌*◌, ◌≤◌, ◌<◌, ◌^◌}
-use mathlib.Core.Path.{◌≡◌, refl, sym, ap, ◌∙◌}
+use mathlib.Core.Path.{◌≡◌, refl, sym, ap, ◌∙◌, subst}
 use mathlib.Core.Bool.{Bool, true, false, not, cond, ◌||◌}
 use mathlib.Core.List.{List, [], ◌∷◌}
+use native.Mathlib.Numerals.{add-one}
 use native.Mathlib.Omega.{arith}
+use Rattle.std.specs.Prelude.{Option, Some, None}
+use Rattle.builtins.specs.Names.{if_any}
+use Rattle.table.specs.Definitions.{DefinitionIndex}
 use lib.Dec.{eqb, ltb}
 use lib.ListN.{length, get_or, get_or-eq_default}
 use borrow.Author.Tests.{ne_eqb, eqb-false, ltb-true, ltb-false}
@@ -27,7 +31,7 @@ use Rattle.rows.proofs.Walks.{granted, denied}
 use Rattle.buckets.proofs.ChainWalks.{walk_start, walk_end, walk_out}
 use Rattle.rows.proofs.IndexLaws.{Walk, Says, walk_hit, walk-on}
 use Rattle.table.proofs.DistinctLaws.{few_rows}
-use Rattle.references.specs.Lookups.{name_in, fitting, find_row, refers_to, word_refers, Heads, Finds, Refers}
+use Rattle.references.specs.Lookups.{name_in, fitting, find_row, refers_to, word_refers, row_of, Heads, Finds, Refers}
 
 -- kinds that may be meant
 pub fit-type : (s : Bool) {k n : ℕ} → k ≡ n → eqb n struct_kind ≡ false → (eqb n enum_kind || eqb n struct_kind || eqb n union_kind || eqb n alternate_kind) ≡ true → not s ≡ fitting s k
@@ -94,32 +98,40 @@ pub record Left (S U links : List ℕ) (s : Bool) (x : List ℕ) (head y n : ℕ
 pub left-start : {S U links : List ℕ} {s : Bool} {x : List ℕ} {head : ℕ} → Left S U links s x head head (length links)
 left-start {S} {U} {links} {s} {x} = record { told = λ T h. walk_start }
 
+row_small : (v : ℕ) → v ≤ 2 ^ 29 → (i : ℕ) → row_of v ≡ Some i → i < 2 ^ 29
+row_small zero h i e = absurd (cc)
+row_small (suc v) h i e = let z : v ≡ i = cc in omega arith
+
+pub row_there : (y : ℕ) → 0 < y → row_of y ≡ Some (y - 1)
+row_there zero h = absurd (omega arith)
+row_there (suc y) h = ap Some (omega arith)
+
 module _ {S U heads links : List ℕ} {s : Bool} {x : List ℕ} {m head : ℕ} (p : m ≡ hash_of x) (q : head ≡ get_or heads (bucket_of m) 0) where
   -- what the chain says is what all definitions say
-  found : (v : ℕ) → v ≤ 2 ^ 29 → ((T : List ℕ) → Heads T U → Says (first_link (is_named S T (fitting s) x)) links head (length links) v) → Finds S U heads links s x v
+  found : (v : ℕ) → v ≤ 2 ^ 29 → ((T : List ℕ) → Heads T U → Says (first_link (is_named S T (fitting s) x)) links head (length links) v) → Finds S U heads links s x (row_of v)
   unfolding find_row
   found v small says = record {
-    small = small;
-    told = λ T k h.
+    small = row_small v small;
+    told = λ T k h. ap row_of (
         let few : length (in_bucket (row_hash S T) (bucket_of m) (definition_rows T)) ≤ length links =
         omega (arith, bucket-short (row_hash S T) (bucket_of m) (definition_rows T), few_rows T, k.room) in
         sym ((says T h).told (in_bucket (row_hash S T) (bucket_of m) (definition_rows T)) (index-walk itself (row_hash S T) k.rows.chains m q) few tt)
         ∙ bucket-first (row_hash S T) (is_named S T (fitting s) x) m
-        (λ r e. ap hash_of (sym (same_true x (name_of S T r) (and_right (fitting s (kind T r)) (same_name x (name_of S T r)) e))) ∙ sym p) (definition_rows T);
+        (λ r e. ap hash_of (sym (same_true x (name_of S T r) (and_right (fitting s (kind T r)) (same_name x (name_of S T r)) e))) ∙ sym p) (definition_rows T));
   }
 
   module _ {y n : ℕ} (w : Left S U links s x head y n) where
-    pub left_end : y ≡ 0 → Finds S U heads links s x 0
+    pub left_end : y ≡ 0 → Finds S U heads links s x None
     left_end e = found 0 (omega arith) (λ T h. walk_end (w.told T h) e)
 
-    pub left_out : n ≤ 0 → Finds S U heads links s x 0
+    pub left_out : n ≤ 0 → Finds S U heads links s x None
     left_out e = found 0 (omega arith) (λ T h. walk_out (w.told T h) e)
 
-    pub left_hit : y ≤ 2 ^ 29 → 0 < y → {b : Bool} → b ≡ is_named S U (fitting s) x (y - 1) → b ≡ true → Finds S U heads links s x y
+    pub left_hit : y ≤ 2 ^ 29 → 0 < y → {b : Bool} → b ≡ is_named S U (fitting s) x (y - 1) → b ≡ true → Finds S U heads links s x (Some (y - 1))
     left_hit small low t e =
         let z : suc (y - 1) ≡ y = omega arith in
-        found y small (λ T h. walk_hit (w.told T h) low y
-        (λ rs. rw (sym (t ∙ heads_named h (y - 1) S s x) ∙ e) z))
+        subst (λ (o : Option ℕ). Finds S U heads links s x o) (row_there y low) (found y small (λ T h. walk_hit (w.told T h) low y
+        (λ rs. rw (sym (t ∙ heads_named h (y - 1) S s x) ∙ e) z)))
 
 pub left-on : {S U links : List ℕ} {s : Bool} {x : List ℕ} {head y n k : ℕ} {b : Bool} → Left S U links s x head y n → 0 < y → b ≡ is_named S U (fitting s) x (y - 1) → b ≡ false
     → k ≡ get_or links (y - 1) 0 → Left S U links s x head k (n - 1)
@@ -137,30 +149,53 @@ word-named : (S T : List ℕ) (s : Bool) (w : ℕ) (x : List ℕ) → (w ≡ 0 �
 unfolding word_refers
 word-named S T s w x n p = rw (ne_eqb w 0 n, p)
 
-by_name : (b l : ℕ) → (b ≡ 0 → ⊥) → reference b l ≡ b
-by_name zero l n = absurd (n refl)
-by_name (suc b) l n = refl
+-- a number by what the code finds
+row_is : (v : ℕ) {i : ℕ} → Some i ≡ row_of v → v ≡ suc i
+row_is zero e = absurd (cc)
+row_is (suc v) e = cc
 
-by_row : (r : ℕ) → (r ≡ 0 → ⊥) → reference 0 r ≡ r - 1 + first_row
-by_row zero n = absurd (n refl)
-by_row (suc r) n = omega arith
+none_is : (v : ℕ) → None ≡ row_of v → v ≡ 0
+none_is zero e = refl
+none_is (suc v) e = absurd (cc)
+
+built_is : (p l : ℕ) {b : ℕ} → Some b ≡ if_any p → Some b ≡ if_any (reference p l)
+built_is zero l e = absurd (cc)
+built_is (suc p) l e = e
+
+built_none : (p : ℕ) → None ≡ if_any p → p ≡ 0
+built_none zero e = refl
+built_none (suc p) e = absurd (cc)
+
+any_some : (n : ℕ) → 0 < n → Some n ≡ if_any n
+any_some zero h = absurd (omega arith)
+any_some (suc n) h = refl
+
+by_row : (r : ℕ) → Some (r + first_row) ≡ if_any (reference 0 (suc r))
+by_row r = let e : r + first_row ≡ reference 0 (suc r) = omega arith in any_some (r + first_row) (omega arith) ∙ ap if_any e
 
 module _ {S U heads links : List ℕ} {s : Bool} {w : ℕ} where
-  pub ref-none : w ≡ 0 → Refers S U heads links s w 0
+  pub ref-none : w ≡ 0 → Refers S U heads links s w None
   unfolding word_refers
   ref-none e = record { told = λ T k h. rw e }
 
   module _ (n : w ≡ 0 → ⊥) {x : List ℕ} (p : x ≡ name_in S w) where
-    pub ref-struct : s ≡ true → {r : ℕ} → Finds S U heads links true x r → Refers S U heads links s w r
-    ref-struct e f = record { told = λ T k h. f.told T k h ∙ sym (word-named S T s w x n p ∙ rw e) }
+    ref-so : {r : Option ℕ} → ((T : List ℕ) → DefinitionIndex S T heads links → Heads T U → r ≡ if_any (refers_to S T s x)) → Refers S U heads links s w r
+    ref-so f = record { told = λ T k h. f T k h ∙ sym (ap if_any (word-named S T s w x n p)) }
 
-    module _ (e : s ≡ false) {b : ℕ} (q : b ≡ place_in built_ins x) where
-      pub ref-built_in : (b ≡ 0 → ⊥) → Refers S U heads links s w b
-      ref-built_in z = record { told = λ T k h. sym (word-named S T s w x n p ∙ rw (e, ← q) (by_name b (find_row S T false x) z)) }
+    module _ (e : s ≡ true) {r : Option ℕ} (f : Finds S U heads links true x r) where
+      pub ref-struct : {i : ℕ} → r ≡ Some i → Refers S U heads links s w (Some (i + 1))
+      ref-struct {i} q = ref-so (λ T k h. rw (e, row_is (find_row S T true x) (sym q ∙ f.told T k h), add-one i))
 
-      module _ (z : b ≡ 0) {r : ℕ} (f : Finds S U heads links false x r) where
-        pub ref_missing : r ≡ 0 → Refers S U heads links s w 0
-        ref_missing y = record { told = λ T k h. sym (word-named S T s w x n p ∙ rw (e, ← q, z, ← f.told T k h, y)) }
+      pub ref_no_struct : r ≡ None → Refers S U heads links s w None
+      ref_no_struct q = ref-so (λ T k h. rw (e, none_is (find_row S T true x) (sym q ∙ f.told T k h)))
 
-        pub ref-row : (r ≡ 0 → ⊥) → Refers S U heads links s w (r - 1 + first_row)
-        ref-row y = record { told = λ T k h. sym (word-named S T s w x n p ∙ rw (e, ← q, z, ← f.told T k h) (by_row r y)) }
+    module _ (e : s ≡ false) {b : Option ℕ} (q : b ≡ if_any (place_in built_ins x)) where
+      pub ref-built_in : {i : ℕ} → b ≡ Some i → Refers S U heads links s w (Some i)
+      ref-built_in z = ref-so (λ T k h. rw e (built_is (place_in built_ins x) (find_row S T false x) (sym z ∙ q)))
+
+      module _ (z : b ≡ None) {r : Option ℕ} (f : Finds S U heads links false x r) where
+        pub ref_missing : r ≡ None → Refers S U heads links s w None
+        ref_missing y = ref-so (λ T k h. rw (e, built_none (place_in built_ins x) (sym z ∙ q), none_is (find_row S T false x) (sym y ∙ f.told T k h)))
+
+        pub ref-row : {i : ℕ} → r ≡ Some i → Refers S U heads links s w (Some (i + first_row))
+        ref-row {i} y = ref-so (λ T k h. rw (e, built_none (place_in built_ins x) (sym z ∙ q), row_is (find_row S T false x) (sym y ∙ f.told T k h)) (by_row i))

@@ -2,14 +2,16 @@
 -- The idea: only words 4 to 6 of a row are ever put, so the rows keep the heads of the indexed table.
 use Prim.Native.Nat.{ℕ, zero, suc, ◌+◌, ◌*◌, ◌≤◌, ◌<◌}
 use mathlib.Core.Path.{◌≡◌, refl, sym, ap, ap₂, ◌∙◌, subst}
-use mathlib.Core.Bool.{Bool, true, false, not, cond, ◌&&◌}
+use mathlib.Core.Bool.{Bool, true, false, cond, ◌&&◌, ◌||◌}
 use mathlib.Core.List.{List}
 use native.Mathlib.Numerals.{add-one}
 use native.Mathlib.Omega.{arith}
+use Rattle.std.specs.Prelude.{Option, is_some, unwrap_or}
+use Rattle.builtins.specs.Names.{if_any}
 use lib.Dec.{eqb, ltb}
 use lib.ListN.{length, get_or, set, length-set}
 use lib.Seq.{get_or-set_other}
-use borrow.Author.Tests.{ne_eqb, lt-ltb}
+use borrow.Author.Tests.{lt-ltb}
 use Rattle.grammar.specs.Limits.{row_words}
 use Rattle.rules.specs.Kinds.{struct_kind, member_kind, union_kind, branch_kind, alternative_kind, command_kind}
 use Rattle.rules.specs.Rows.{kind, owns}
@@ -88,16 +90,25 @@ pub length-rows : (S T : List ℕ) (r : ℕ) → length (put_rows S T r) ≡ len
 length-rows S T r = kept-rows S T (λ U. length U ≡ length T) (λ U j i v a b p. length-set U (row_words * j + i) v ∙ p) refl r
 
 -- word k
-module _ {S U heads links : List ℕ} {w v : ℕ} (s : Bool) (k : ℕ) (p : w ≡ get_or U k 0) (f : Refers S U heads links s w v) where
-  pub put-nothing : w ≡ 0 → Puts S U heads links (λ T. put_at S T s k) (λ T. found_at S T s k) (set U k v) true
-  put-nothing e = record { same_length = length-set U k v; told = λ T j h. (rw (← p, f.told T j h), rw (← p, e)) }
+number_in : (n : ℕ) → unwrap_or (if_any n) 0 ≡ n
+number_in zero = refl
+number_in (suc n) = refl
 
-  pub put_something : (w ≡ 0 → ⊥) → Puts S U heads links (λ T. put_at S T s k) (λ T. found_at S T s k) (set U k v) (not (eqb v 0))
-  put_something n = record { same_length = length-set U k v; told = λ T j h. (rw (← p, f.told T j h), rw (← p, ← f.told T j h, ne_eqb w 0 n) (go v)) }
-    where
-      go : (v : ℕ) → not (eqb v 0) ≡ ltb 0 v
-      go zero = refl
-      go (suc v) = rw (ne_eqb (suc v) 0 (λ e. omega arith), lt-ltb 0 (suc v) (omega arith))
+any_in : (n : ℕ) → is_some (if_any n) ≡ ltb 0 n
+any_in zero = refl
+any_in (suc n) = sym (lt-ltb 0 (suc n) (omega arith))
+
+pub word_put : {S U heads links : List ℕ} {w n : ℕ} {v : Option ℕ} {t : Bool} (s : Bool) (k : ℕ) → w ≡ get_or U k 0 → Refers S U heads links s w v → n ≡ unwrap_or v 0 → t ≡ is_some v
+    → Puts S U heads links (λ T. put_at S T s k) (λ T. found_at S T s k) (set U k n) (eqb w 0 || t)
+word_put {S} {U} {w = w} {n} {v} s k p f z e = record {
+  same_length = length-set U k n;
+  told = λ T j h.
+      let q : v ≡ if_any (word_refers S T s w) = f.told T j h in (
+        ap (set U k) z ∙ ap (λ (o : Option ℕ). set U k (unwrap_or o 0)) q ∙ ap (set U k) (number_in (word_refers S T s w) ∙ ap (word_refers S T s) p),
+        ap (λ (t : Bool). eqb w 0 || t) e ∙ ap (λ (o : Option ℕ). eqb w 0 || is_some o) q ∙ ap (λ (t : Bool). eqb w 0 || t) (any_in (word_refers S T s w))
+            ∙ ap (λ (i : ℕ). eqb i 0 || ltb 0 (word_refers S T s i)) p,
+      );
+}
 
 -- the base of a union or the data of a command
 module _ {S U heads links : List ℕ} (r : ℕ) {b : Bool} (p : b ≡ owns U r) where

@@ -1,10 +1,11 @@
 -- Serves contracts: what a word that names refers to, by the definitions of the table T.
-use Rattle.std.specs.Prelude.{ℕ, ◌*◌, ◌+◌, ◌/◌, ◌%◌, ◌≤◌, ◌<◌, ◌^◌, ◌≡◌, Bool, true, false, cond, ◌||◌, List, eqb, ltb, get_or, take, drop}
+use Rattle.std.specs.Prelude.{ℕ, zero, suc, ◌*◌, ◌+◌, ◌/◌, ◌%◌, ◌<◌, ◌^◌, ◌≡◌, Bool, true, false, cond, ◌||◌, List, Option, Some, None, eqb, ltb, get_or, take, drop}
 use Rattle.grammar.specs.Limits.{schema_bytes, row_words}
 use Rattle.rules.specs.Kinds.{enum_kind, struct_kind, union_kind, alternate_kind}
 use Rattle.rules.specs.Types.{built_ins}
 use Rattle.rules.specs.SchemaTable.{place_in, reference}
 use Rattle.rules.specs.Serving.Cells.{first_link, is_named}
+use Rattle.builtins.specs.Names.{if_any}
 use Rattle.table.specs.Definitions.{definition_rows, DefinitionIndex}
 
 -- the bytes of the name that a word names (rules RawTable `packed`)
@@ -37,10 +38,15 @@ found w v = eqb w 0 || ltb 0 v
 pub record Heads (T U : List ℕ) : Type 0 where
   pub same_head : (r i : ℕ) → i < 3 → get_or U (row_words * r + i) 0 ≡ get_or T (row_words * r + i) 0
 
--- Answers over rows U that have the heads of T, whose definitions the index has: a link, a reference.
-pub record Finds (S U heads links : List ℕ) (structs : Bool) (x : List ℕ) (r : ℕ) : Type 0 where
-  pub small : r ≤ 2 ^ 29
-  pub told : (T : List ℕ) → DefinitionIndex S T heads links → Heads T U → r ≡ find_row S T structs x
+-- the row of a link, if it is one
+abbrev pub row_of : ℕ → Option ℕ
+row_of zero = None
+row_of (suc r) = Some r
 
-pub record Refers (S U heads links : List ℕ) (structs : Bool) (w r : ℕ) : Type 0 where
-  pub told : (T : List ℕ) → DefinitionIndex S T heads links → Heads T U → r ≡ word_refers S T structs w
+-- Answers over rows U that have the heads of T, whose definitions the index has: a definition's row, a link or a reference.
+pub record Finds (S U heads links : List ℕ) (structs : Bool) (x : List ℕ) (r : Option ℕ) : Type 0 where
+  pub small : (i : ℕ) → r ≡ Some i → i < 2 ^ 29
+  pub told : (T : List ℕ) → DefinitionIndex S T heads links → Heads T U → r ≡ row_of (find_row S T structs x)
+
+pub record Refers (S U heads links : List ℕ) (structs : Bool) (w : ℕ) (r : Option ℕ) : Type 0 where
+  pub told : (T : List ℕ) → DefinitionIndex S T heads links → Heads T U → r ≡ if_any (word_refers S T structs w)

@@ -8,9 +8,17 @@ use builtins::FIRST_REFERENCE;
 use builtins::names::built_in;
 use rows::hashes::hash_of;
 use rows::names::{name_of, same_bytes};
-use rows::rows::{wide, word};
+use rows::rows::word;
 use rules::{SCHEMA_BYTES, kind, row};
 use strings::bytes::part_of;
+
+// A schema's bytes, and the index of its definitions by their names.
+#[derive(Clone, Copy)]
+pub struct DefinitionNames<'a> {
+    pub schema: &'a [u8],
+    pub heads: &'a [u32; BUCKETS],
+    pub links: &'a [u32],
+}
 
 // Whether a row of that kind may be meant: a struct alone, or any type.
 fn fits(kind: u32, structs: bool) -> bool
@@ -29,38 +37,29 @@ fn fits(kind: u32, structs: bool) -> bool
 fn is_named(s: &[u8], rows: &[u32], r: usize, name: &[u8], structs: bool) -> bool
     ensures { result ≡ is_named s.now rows.now (fitting structs) name.now r }
 {
-    if !fits(word(rows, r, row::KIND), structs) {
-        return false;
-    }
-    same_bytes(name, name_of(s, rows, r))
+    fits(word(rows, r, row::KIND), structs) && same_bytes(name, name_of(s, rows, r))
 }
 
-// The link of the first definition in the index that may be meant and has the name; 0 if there is none.
-fn find(
-    s: &[u8],
-    rows: &[u32],
-    heads: &[u32; BUCKETS],
-    links: &[u32],
-    name: &[u8],
-    structs: bool,
-) -> u32
+// The first definition in the index that may be meant and has the name.
+fn find(names: &DefinitionNames, rows: &[u32], name: &[u8], structs: bool) -> Option<usize>
     requires { length rows.now < 2 ^ 32 }
-    ensures { Finds s.now rows.now heads.now links.now structs name.now result }
+    ensures { Finds names.now.schema.now rows.now names.now.heads.now names.now.links.now structs name.now result }
 {
-    let mut link = first(heads, hash_of(name));
-    let mut left = links.len();
+    let mut link = first(names.heads, hash_of(name));
+    // The count that falls is the measure of a walk along links; a `for` would count beside the walk, and is no plainer.
+    let mut left = names.links.len();
     while 0 < left {
         if link == 0 {
-            return 0;
+            return None;
         }
         let r = link - 1;
-        if is_named(s, rows, r, name, structs) {
-            return link as u32;
+        if is_named(names.schema, rows, r, name, structs) {
+            return Some(r);
         }
-        link = next(links, r);
+        link = next(names.links, r);
         left -= 1;
     }
-    0
+    None
 }
 
 // A word names a name by its start, this many times, and its size.
@@ -70,35 +69,25 @@ const STARTS: u32 = SCHEMA_BYTES as u32;
 pub fn named_by(s: &[u8], w: u32) -> &[u8]
     ensures { result.now ≡ name_in s.now w }
 {
-    part_of(s, wide(w / STARTS), wide(w % STARTS))
+    part_of(s, (w / STARTS) as usize, (w % STARTS) as usize)
 }
 
-// What a word names: a struct's link, or a type reference; 0 for 0 and where there is none.
-pub fn referred(
-    s: &[u8],
-    rows: &[u32],
-    heads: &[u32; BUCKETS],
-    links: &[u32],
-    structs: bool,
-    w: u32,
-) -> u32
+// What a word names: a struct's link, or a type reference; nothing for 0.
+pub fn referred(names: &DefinitionNames, rows: &[u32], structs: bool, w: u32) -> Option<u32>
     requires { length rows.now < 2 ^ 32 }
-    ensures { Refers s.now rows.now heads.now links.now structs w result }
+    ensures { Refers names.now.schema.now rows.now names.now.heads.now names.now.links.now structs w result }
 {
     if w == 0 {
-        return 0;
+        return None;
     }
-    let name = named_by(s, w);
+    let name = named_by(names.schema, w);
     if structs {
-        return find(s, rows, heads, links, name, true);
+        let r = find(names, rows, name, true)?;
+        return Some(r as u32 + 1);
     }
-    let b = built_in(name);
-    if b != 0 {
-        return b;
+    if let Some(b) = built_in(name) {
+        return Some(b);
     }
-    let link = find(s, rows, heads, links, name, false);
-    if link == 0 {
-        return 0;
-    }
-    link - 1 + FIRST_REFERENCE
+    let r = find(names, rows, name, false)?;
+    Some(r as u32 + FIRST_REFERENCE)
 }

@@ -10,6 +10,7 @@ ghost use Rattle.table.specs.Definitions.{DefinitionIndex};
 ghost use Rattle.references.specs.Resolves.{Resolves};
 
 use crate::discriminators::put_discriminators;
+use crate::find::DefinitionNames;
 use crate::slots::resolve_rows;
 use buckets::BUCKETS;
 
@@ -18,7 +19,12 @@ pub fn resolve(s: &[u8], rows: &mut [u32], heads: &[u32; BUCKETS], links: &[u32]
     requires { (length rows.old < 2 ^ 32) × DefinitionIndex s.now rows.old heads.now links.now }
     ensures { Resolves s.now rows.old rows.new result }
 {
-    let all = resolve_rows(s, rows, heads, links);
+    let names = DefinitionNames {
+        schema: s,
+        heads,
+        links,
+    };
+    let all = resolve_rows(&names, rows);
     put_discriminators(s, rows);
     all
 }

@@ -29,8 +29,7 @@ use Rattle.rules.specs.Serving.Answers.{rank, objects_in, fault_in, place_or0, s
 use Rattle.rules.proofs.Lists.{none-not-some}
 use Rattle.rules.proofs.First.{decided}
 use Rattle.rules.proofs.NameSpans.{names_within_lem}
-use Rattle.definitions.specs.declared.writing.Put.{Put}
-use Rattle.definitions.specs.declared.writing.Put.TheVariants.{Rows, Refused as NoRows}
+use Rattle.definitions.specs.declared.writing.NotDefinitions.{NotDefinitions as Broken}
 use Rattle.definitions.specs.Puts.{RowsPut, PutTold, PutsDefinitions}
 use Rattle.table.specs.Definitions.{DefinitionIndex, DefinitionLinks}
 use Rattle.table.proofs.DistinctLaws.{index_links}
@@ -38,11 +37,10 @@ use Rattle.references.specs.Resolves.{Resolves}
 use Rattle.references.proofs.RawWords.{all-behind}
 use Rattle.references.proofs.SameDefinitions.{table_links}
 use Rattle.text.specs.Keys.{place_of, FirstRepeat}
-use Rattle.text.specs.declared.keys.Repeated.{Repeated}
-use Rattle.text.specs.declared.keys.Repeated.TheVariants.{Never, At}
+use Rattle.std.specs.Prelude.{Option, Some, None, Result, Ok, Err}
 use Rattle.text.specs.Texts.{SchemaTold, ReadsSchema}
-use Rattle.text.specs.declared.texts.Text.{Text}
-use Rattle.text.specs.declared.texts.Text.TheVariants as Texts
+use Rattle.text.specs.declared.reader.TextError.{TextError}
+use Rattle.text.specs.declared.reader.TextError.TheVariants as Texts
 use Rattle.schema.specs.Stages.{most_nodes, most_rows, objects, written, result_by, Answered, Zero, IsTable, Refers, TextRead, RawRows, Compiles}
 use Rattle.schema.proofs.StageLaws.{test, stop, on}
 
@@ -62,20 +60,20 @@ module _ {S : List ℕ} where
   text-written t = rw (schema-complete t) refl
 
   -- the first key that is repeated, if one is
-  module _ {w : List ℕ} {count : ℕ} (t : TextRead S w count) {x : Repeated} (k : FirstRepeat schema S w count x) where
-    pub once : x ≡ Never → keys_once_i t.js ≡ true
+  module _ {w : List ℕ} {count : ℕ} (t : TextRead S w count) {x : Option ℕ} (k : FirstRepeat schema S w count x) where
+    pub once : x ≡ None → keys_once_i t.js ≡ true
     once e = (first-once-items t.js).0 (sym (k.told t.js _ t.holds) ∙ ap place_of e)
 
-    found : {p : ℕ} → x ≡ At p → first_repeat_i t.js ≡ some p
+    found : {p : ℕ} → x ≡ Some p → first_repeat_i t.js ≡ some p
     found e = sym (k.told t.js _ t.holds) ∙ ap place_of e
 
-    none-test : (room : ℕ) → x ≡ Never → test S room RepeatedKey ≡ false
+    none-test : (room : ℕ) → x ≡ None → test S room RepeatedKey ≡ false
     none-test room e = rw (text-objects t.text) (ap not (once e))
 
-    some-test : (room : ℕ) {p : ℕ} → x ≡ At p → test S room RepeatedKey ≡ true
+    some-test : (room : ℕ) {p : ℕ} → x ≡ Some p → test S room RepeatedKey ≡ true
     some-test room e = rw (text-objects t.text) (ap not (decided (keys_once_i t.js) (λ o. none-not-some (sym ((first-once-items t.js).1 o) ∙ found e))))
 
-    found_at : {p : ℕ} → x ≡ At p → schema_place (read_schema S) RepeatedKey ≡ p
+    found_at : {p : ℕ} → x ≡ Some p → schema_place (read_schema S) RepeatedKey ≡ p
     found_at e = rw (schema-complete t.text) (ap place_or0 (found e))
 
   -- the lent words are cleared first
@@ -97,14 +95,14 @@ module _ {S : List ℕ} where
     unfolding objects
     no_objects o p q f z = stop NotText (ap fault_in p ∙ f) (rw (ap objects_in p ∙ q)) z
 
-    pub faulty : {v w : List ℕ} {x : Text} {e : ℕ} → Zero old → ReadsSchema S v w x → x ≡ Texts.Fault e → Answered S NotText old old (Refused NotText e)
-    faulty {w = w} {e = e} z h p = no_objects (fault e) (schema_broken (subst (λ (y : Text). SchemaTold S w y) p h.told)) refl refl z
+    pub faulty : {v w : List ℕ} {x : Result ℕ TextError} {e : ℕ} → Zero old → ReadsSchema S v w x → x ≡ Err (Texts.Fault e) → Answered S NotText old old (Refused NotText e)
+    faulty {w = w} {e = e} z h p = no_objects (fault e) (schema_broken (subst (λ (y : Result ℕ TextError). SchemaTold S w y) p h.told)) refl refl z
 
-    pub deeper : {v w : List ℕ} {x : Text} {e : ℕ} → Zero old → ReadsSchema S v w x → x ≡ Texts.Deep e → Answered S NotText old old (Refused NotText e)
-    deeper {w = w} {e = e} z h p = no_objects (deep e) (schema-too_deep (subst (λ (y : Text). SchemaTold S w y) p h.told)) refl refl z
+    pub deeper : {v w : List ℕ} {x : Result ℕ TextError} {e : ℕ} → Zero old → ReadsSchema S v w x → x ≡ Err (Texts.Deep e) → Answered S NotText old old (Refused NotText e)
+    deeper {w = w} {e = e} z h p = no_objects (deep e) (schema-too_deep (subst (λ (y : Result ℕ TextError). SchemaTold S w y) p h.told)) refl refl z
 
-    pub never : {v w : List ℕ} {x : Text} {r : SchemaAnswer} → length S ≤ schema_bytes → ReadsSchema S v w x → x ≡ Texts.TooLong → Answered S NotText old old r
-    never {w = w} h t p = let z : text_bound ≤ length S = subst (λ (y : Text). SchemaTold S w y) p t.told in absurd (omega arith)
+    pub never : {v w : List ℕ} {x : Result ℕ TextError} {r : SchemaAnswer} → length S ≤ schema_bytes → ReadsSchema S v w x → x ≡ Err Texts.TooLong → Answered S NotText old old r
+    never {w = w} h t p = let z : text_bound ≤ length S = subst (λ (y : Result ℕ TextError). SchemaTold S w y) p t.told in absurd (omega arith)
 
     module _ {w : List ℕ} {count : ℕ} (t : TextRead S w count) where
       pub text-on : {new : List ℕ} {r : SchemaAnswer} → Answered S RepeatedKey old new r → Answered S NotText old new r
@@ -112,10 +110,10 @@ module _ {S : List ℕ} where
       text-on a = on NotText refl (rw (text-objects t.text)) a
 
       -- its keys
-      pub repeated : {x : Repeated} {p : ℕ} → Zero old → FirstRepeat schema S w count x → x ≡ At p → Answered S RepeatedKey old old (Refused RepeatedKey p)
+      pub repeated : {x : Option ℕ} {p : ℕ} → Zero old → FirstRepeat schema S w count x → x ≡ Some p → Answered S RepeatedKey old old (Refused RepeatedKey p)
       repeated z k e = stop RepeatedKey (found_at t k e) (some-test t k (length old) e) z
 
-      pub keys_on : {x : Repeated} {new : List ℕ} {r : SchemaAnswer} → FirstRepeat schema S w count x → x ≡ Never → Answered S NotDefinitions old new r → Answered S RepeatedKey old new r
+      pub keys_on : {x : Option ℕ} {new : List ℕ} {r : SchemaAnswer} → FirstRepeat schema S w count x → x ≡ None → Answered S NotDefinitions old new r → Answered S RepeatedKey old new r
       unfolding rank
       keys_on k e a = on RepeatedKey refl (none-test t k (length old) e) a
 
@@ -146,30 +144,30 @@ module _ {S raw new : List ℕ} {found : Bool} (w : RawRows S raw) (r : Resolves
       record { told = λ ds e. let z : some w.ds ≡ some ds = sym (text-written w.text ∙ w.are) ∙ e in let y : w.ds ≡ ds = cc in resolved.1 ∙ ap (all_refer S) y }
 
 -- text read into nodes that fit
-pub text-read : {S v w : List ℕ} {x : Text} {n : ℕ} → ReadsSchema S v w x → x ≡ Texts.Whole n → length S ≤ schema_bytes → length w ≡ node_words * most_nodes → TextRead S w n
+pub text-read : {S v w : List ℕ} {x : Result ℕ TextError} {n : ℕ} → ReadsSchema S v w x → x ≡ Ok n → length S ≤ schema_bytes → length w ≡ node_words * most_nodes → TextRead S w n
 text-read {S} {w = w} {n = n} r e h k =
-    let t : SchemaTold S w (Texts.Whole n) = subst (λ (y : Text). SchemaTold S w y) e r.told in
+    let t : SchemaTold S w (Ok n) = subst (λ (y : Result ℕ TextError). SchemaTold S w y) e r.told in
     record { js = t.items; text = t.text; holds = t.holds (omega (arith, t.few)); few = t.few; short = h }
 
 -- raw rows put at the front of words that hold them
-module _ {S w old new : List ℕ} {count : ℕ} {x : Put} {y : Repeated} (t : TextRead S w count) (k : FirstRepeat schema S w count y) (o : y ≡ Never)
+module _ {S w old new : List ℕ} {count : ℕ} {x : Result ℕ Broken} {y : Option ℕ} (t : TextRead S w count) (k : FirstRepeat schema S w count y) (o : y ≡ None)
     (p : PutsDefinitions S w old new count x) where
   put : PutTold old new t.js count x
   put = p.told t.js _ (record { small = t.short; once = once t k o }) t.holds
 
-  pub put_refused : x ≡ NoRows → definitions t.js ≡ none
-  put_refused e = subst (λ (y : Put). PutTold old new t.js count y) e put
+  pub put_refused : {bad : Broken} → x ≡ Err bad → definitions t.js ≡ none
+  put_refused e = subst (λ (y : Result ℕ Broken). PutTold old new t.js count y) e put
 
-  pub put_rows_lem : {n : ℕ} → x ≡ Rows n → RowsPut old new t.js count n
-  put_rows_lem e = subst (λ (y : Put). PutTold old new t.js count y) e put
+  pub put_rows_lem : {n : ℕ} → x ≡ Ok n → RowsPut old new t.js count n
+  put_rows_lem e = subst (λ (y : Result ℕ Broken). PutTold old new t.js count y) e put
 
-  pub put-few : {n : ℕ} → x ≡ Rows n → row_words * n ≤ row_words * most_rows
+  pub put-few : {n : ℕ} → x ≡ Ok n → row_words * n ≤ row_words * most_rows
   put-few e = omega (arith, (put_rows_lem e).few, t.few, t.short)
 
-  pub raw-length : {n : ℕ} → x ≡ Rows n → length new ≡ row_words * most_rows → row_words * n ≡ length (take (row_words * n) new)
+  pub raw-length : {n : ℕ} → x ≡ Ok n → length new ≡ row_words * most_rows → row_words * n ≡ length (take (row_words * n) new)
   raw-length {n} e k = sym (length-take-le (row_words * n) new (omega (arith, put-few e)))
 
-  pub raw-rows : {n : ℕ} → x ≡ Rows n → length new ≡ row_words * most_rows → RawRows S (take (row_words * n) new)
+  pub raw-rows : {n : ℕ} → x ≡ Ok n → length new ≡ row_words * most_rows → RawRows S (take (row_words * n) new)
   raw-rows {n} e k =
       let r = put_rows_lem e in
       let f : row_words * n ≤ length old = omega (arith, put-few e, p.same_length) in

@@ -7,14 +7,14 @@ ghost use Rattle.schema.specs.Stages.{Answered, Zero, TextRead, RawRows, Compile
 use crate::stages::judge_names;
 use buckets::BUCKETS;
 use definitions::definitions::put_definitions;
-use definitions::writing::Put;
 use references::resolve;
 use rules::{NOWHERE, ROW_WORDS, SCHEMA_BYTES, SchemaAnswer, SchemaRefusal};
 use strings::dialects::Dialect;
 use table::names::index_definitions;
-use text::keys::{Repeated, first_repeat};
-use text::nodes::NODE_WORDS;
-use text::texts::{Text, read_schema};
+use text::keys::first_repeat;
+use text::nodes::{NODE_WORDS, Tree};
+use text::reader::TextError;
+use text::texts::read_schema;
 use words::clear;
 
 // There is at most one node for every two bytes, and at most one row for each node.
@@ -45,14 +45,18 @@ fn judge_objects(schema: &[u8], nodes: &[u32], count: usize, rows: &mut [u32]) -
     requires { TextRead schema.now nodes.now count × Zero rows.old }
     ensures { Answered schema.now RepeatedKey rows.old rows.new result }
 {
-    let repeated = first_repeat(schema, Dialect::Schema, nodes, count);
-    if let Repeated::At(place) = repeated {
+    let tree = Tree {
+        bytes: schema,
+        dialect: Dialect::Schema,
+        nodes,
+    };
+    if let Some(place) = first_repeat(tree, count) {
         return SchemaAnswer::Refused(SchemaRefusal::RepeatedKey, place);
     }
     let mut table = [0u32; ROW_ROOM];
     match put_definitions(schema, nodes, count, &mut table) {
-        Put::Refused => SchemaAnswer::Refused(SchemaRefusal::NotDefinitions, NOWHERE),
-        Put::Rows(n) => {
+        Err(_) => SchemaAnswer::Refused(SchemaRefusal::NotDefinitions, NOWHERE),
+        Ok(n) => {
             let end = ROW_WORDS * n;
             judge_table(schema, &mut table[..end], rows)
         }
@@ -66,10 +70,10 @@ fn judge_text(schema: &[u8], rows: &mut [u32]) -> SchemaAnswer
 {
     let mut nodes = [0u32; NODE_ROOM];
     match read_schema(schema, &mut nodes) {
-        Text::Whole(count) => judge_objects(schema, &nodes, count, rows),
-        Text::Fault(place) => SchemaAnswer::Refused(SchemaRefusal::NotText, place),
-        Text::Deep(place) => SchemaAnswer::Refused(SchemaRefusal::NotText, place),
-        Text::TooLong => SchemaAnswer::Refused(SchemaRefusal::NotText, NOWHERE),
+        Ok(count) => judge_objects(schema, &nodes, count, rows),
+        Err(TextError::Fault(place)) => SchemaAnswer::Refused(SchemaRefusal::NotText, place),
+        Err(TextError::Deep(place)) => SchemaAnswer::Refused(SchemaRefusal::NotText, place),
+        Err(TextError::TooLong) => SchemaAnswer::Refused(SchemaRefusal::NotText, NOWHERE),
     }
 }
 

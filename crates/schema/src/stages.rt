@@ -1,4 +1,5 @@
 // The stages of the compile call, from the table on: each rule is judged over the whole schema before the next.
+// A broken rule gives the answer itself: a Result of the refusal would be turned into `SchemaAnswer` again in each stage, and is no plainer.
 ghost use Rattle.std.specs.Prelude.{◌<◌, ◌^◌, length};
 ghost use Rattle.table.specs.Definitions.{DefinitionLinks};
 ghost use Rattle.rows.specs.Hashes.{Hashes};

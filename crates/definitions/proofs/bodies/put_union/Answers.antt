@@ -2,11 +2,11 @@
 use mathlib.Core.Path.{refl}
 use native.Mathlib.Omega.{arith}
 use Rattle.rules.specs.Kinds.{union_kind}
-use Rattle.lookups.specs.Lookups.FindsEach.{nothing, ◌and◌}
 use Rattle.definitions.specs.Parts.{keys_of_kind}
-use Rattle.definitions.proofs.BodyLaws.{other_key, no_other-key}
-use Rattle.definitions.proofs.UnionLaws.{union_no_base, union_no_discriminator, union-bad-discriminator, union_handed}
+use Rattle.lookups.specs.Lookups.FindsEach.{nothing, ◌and◌}
 use Rattle.definitions.proofs.Stores.{handed, refused}
+use Rattle.definitions.proofs.BodyLaws.{other_key, no_other-key}
+use Rattle.definitions.proofs.UnionLaws.{union_handed}
 use Rattle.definitions.proofs.bodies.put_union.Goals as goal
 
 pub returns-then-not-no_others : goal.returns-then-not-no_others
@@ -16,34 +16,10 @@ returns-then-not-no_others c =
     let branches = c.value_at-d.ensures in
     refused refl (other_key (keys_of_kind union_kind) refl (base and discriminator and branches and nothing) c.no_others.ensures (c.if-not-no_others.true))
 
-pub returns-then-b-eq0 : goal.returns-then-b-eq0
-returns-then-b-eq0 c =
-    let base = c.value_at-b.ensures in
-    let discriminator = c.value_at-t.ensures in
-    let branches = c.value_at-d.ensures in
-    let left = no_other-key (keys_of_kind union_kind) refl (base and discriminator and branches and nothing) c.no_others.ensures (c.if-not-no_others.false) in
-    refused refl (λ o h. union_no_base base c.if-b-eq0.true o (left o h))
-
-pub returns-then-t-eq0 : goal.returns-then-t-eq0
-returns-then-t-eq0 c =
-    let base = c.value_at-b.ensures in
-    let discriminator = c.value_at-t.ensures in
-    let branches = c.value_at-d.ensures in
-    let left = no_other-key (keys_of_kind union_kind) refl (base and discriminator and branches and nothing) c.no_others.ensures (c.if-not-no_others.false) in
-    refused refl (λ o h. union_no_discriminator base discriminator c.if-t-eq0.true o (left o h))
-
-pub returns-then-not-is_string : goal.returns-then-not-is_string
-returns-then-not-is_string c =
-    let base = c.value_at-b.ensures in
-    let discriminator = c.value_at-t.ensures in
-    let branches = c.value_at-d.ensures in
-    let left = no_other-key (keys_of_kind union_kind) refl (base and discriminator and branches and nothing) c.no_others.ensures (c.if-not-no_others.false) in
-    refused refl (λ o h. union-bad-discriminator base discriminator c.if-t-eq0.false c.is_string.ensures (c.if-not-is_string.true) o (left o h))
-
 pub returns : goal.returns
 returns c =
     let base = c.value_at-b.ensures in
     let discriminator = c.value_at-t.ensures in
     let branches = c.value_at-d.ensures in
     let left = no_other-key (keys_of_kind union_kind) refl (base and discriminator and branches and nothing) c.no_others.ensures (c.if-not-no_others.false) in
-    handed (omega arith) (λ o h. union_handed base discriminator c.if-t-eq0.false c.is_string.ensures (c.if-not-is_string.false) c.if-b-eq0.false branches o (left o h)) c.put_union_rows.ensures
+    handed (omega arith) (λ o h. union_handed base discriminator c.in-Some-t.is c.is_string.ensures (c.if-not-is_string.false) c.in-Some.is branches o (left o h)) c.put_union_rows.ensures

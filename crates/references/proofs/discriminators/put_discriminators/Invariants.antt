@@ -1,12 +1,8 @@
 -- `references::discriminators::put_discriminators` goes through the rows in order.
 -- The loop keeps that the discriminators below its row are put.
-use Prim.Native.Nat.{◌-◌, ◌≤◌}
 use mathlib.Core.Path.{◌≡◌}
 use Rattle.references.specs.Discriminators.{put_discriminators}
 use Rattle.references.proofs.discriminators.put_discriminators.Given as goal
 
 abbrev pub invariant-loop-r : goal.invariant-loop-r
-invariant-loop-r l = (l.r ≤ l.n) × (l.rows ≡ put_discriminators l.s l.r l.initial.rows)
-
-abbrev pub decreases-loop-r : goal.decreases-loop-r
-decreases-loop-r l = l.n - l.r
+invariant-loop-r l = l.rows ≡ put_discriminators l.s l.r l.initial.rows
