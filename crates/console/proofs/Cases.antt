@@ -3,7 +3,7 @@
 use Prim.Native.Nat.{ℕ}
 use mathlib.Core.Path.{◌≡◌, refl}
 use mathlib.Core.List.{List, [], ◌∷◌, ◌++◌, map}
-use mathlib.Core.Option.{some}
+use Rattle.std.specs.Prelude.{Some}
 use lib.ListN.{take}
 use Rattle.grammar.specs.Notation.{text}
 use Rattle.rules.specs.Serving.Answers.{schema_result, message_result}
@@ -14,7 +14,7 @@ use Rattle.console.specs.Program.{schema_line, result_line, answer_text, answers
 
 -- what is printed where the schema stands in the file and the message is a line of the input
 abbrev printed : Case → Call → List ℕ
-printed c m = program_text Numbers (some (text c.schema)) (text m.message ++ (10 ∷ []))
+printed c m = program_text Numbers (Some (text c.schema)) (text m.message ++ (10 ∷ []))
 
 pub p1 : map (λ (c : Case). map (printed c) (take 1 c.calls)) (take 1 cases) ≡ ((text "0 3 0" ++ (10 ∷ (text "0 0 2 0 34 47 17 0 41 46 1 0" ++ (10 ∷ [])))) ∷ []) ∷ []
 unfolding program_text schema_result message_result schema_line result_line answer_text answers_to line_text numbers_text spaced_text decimal_text

@@ -3,7 +3,7 @@
 use Prim.Native.Nat.{ℕ}
 use mathlib.Core.Path.{◌≡◌, ap}
 use mathlib.Core.List.{List, [], ◌∷◌}
-use mathlib.Core.Option.{some}
+use Rattle.std.specs.Prelude.{Some}
 use Rattle.rules.specs.declared.SchemaRefusal.{SchemaRefusal}
 use Rattle.rules.specs.declared.SchemaAnswer.TheVariants as SA
 use Rattle.rules.specs.declared.MessageRefusal.{MessageRefusal}
@@ -19,7 +19,7 @@ use Rattle.console.specs.declared.answers.Style.TheVariants.{Numbers}
 use Rattle.console.specs.Program.{table_room, schema_line, result_line, answer_text, first_line}
 
 pub schema-printed : (S : List ℕ) (x : SchemaRefusal) (p : ℕ) → (schema_result S table_room).answer ≡ SA.Refused x p
-    → (first_line Numbers (some S) ≡ line_text (Schemas.refusal_number x) (0 ∷ p ∷ [])) × Schemas.SchemaPlace x S p
+    → (first_line Numbers (Some S) ≡ line_text (Schemas.refusal_number x) (0 ∷ p ∷ [])) × Schemas.SchemaPlace x S p
 unfolding schema_line
 schema-printed S x p e = (ap schema_line e, schema-refused_at S table_room e)
 

@@ -1,42 +1,56 @@
 -- One ask of the reader: none is left, the line waits, or what is put is written.
-use Prim.Native.Nat.{ℕ, suc, ◌+◌, ◌-◌, ◌/◌, ◌≤◌, ◌<◌}
+use Prim.Native.Nat.{ℕ, ◌+◌, ◌-◌, ◌/◌, ◌≤◌, ◌<◌}
 use native.Mathlib.Omega.{arith}
-use mathlib.Core.Path.{◌≡◌, refl, sym, ap, ◌∙◌, subst}
-use mathlib.Core.Bool.{Bool, true, false, cond}
-use mathlib.Core.Logic.{inl, inr}
-use mathlib.Core.List.{List}
+use mathlib.Core.Path.{◌≡◌, refl, sym, ap, ◌∙◌}
+use mathlib.Core.Logic.{◌⊎◌, inl, inr}
+use mathlib.Core.Bool.{Bool, true, false}
+use mathlib.Core.List.{List, [], ◌++◌, append-nil}
 use lib.ListN.{length}
+use Rattle.std.specs.Prelude.{Option, Some, None}
 use Rattle.grammar.specs.Limits.{record_words}
 use Rattle.grammar.proofs.Booleans.{clash}
-use Rattle.lines.proofs.TextLaws.{put-length}
-use Rattle.walker.specs.Seeing.{place_after}
-use Rattle.walker.proofs.SeeingLaws.{after-whole, moved-below, stayed-end}
-use Rattle.trees.specs.Backwards.{before}
-use Rattle.trees.specs.TreeText.{line_at}
+use Rattle.walker.specs.declared.records.Record.{Record}
+use Rattle.walker.specs.declared.reader.Reader.{Reader}
+use Rattle.walker.specs.Seeing.{seen_at, place_from, place_after, moved}
+use Rattle.walker.proofs.SeeingLaws.{seen_below, stayed-end, after-whole}
+use Rattle.trees.specs.TreeText.{line_at, open_then}
 use Rattle.trees.specs.Serving.Rooms.{line_room}
-use Rattle.trees.specs.Serving.Asks.{One}
-use Rattle.console.specs.declared.showing.Listing.{Listing}
+use Rattle.trees.proofs.TreeLaws.{line_none, open_none}
 use Rattle.console.specs.Serving.Shows.{Shows}
 
-module _ (S T m ws : List ℕ) (from : Listing) (ends : List ℕ) {old ends' new : List ℕ} {next around at : ℕ}
-    (o : One S T m ws (length ends) from.next (before ends from.around) from.at old new next (before ends' around) at) where
-  pub shows-none : next ≡ from.next → (good : Bool) → Shows S T m ws from ends old ends' new (record { next = next; around = around; at = 0; on = false; good = good })
-  shows-none n good = record { at = at; one = o; kept = inr refl; goes = λ e. clash e refl; stops = λ e f. stayed-end ws from.next (sym o.moves ∙ n) }
+module _ (S T m ws : List ℕ) (room page : ℕ) (reader reader' : Reader) (es old : List ℕ) {seen : Option Record} (q : (seen ≡ seen_at ws reader.place) × (reader' ≡ moved ws reader)) where
+  abbrev n : ℕ
+  n = reader.place
 
-  module _ (n : next ≡ from.next → ⊥) where
-    pub shows-waits : line_room ≤ length new - at → Shows S T m ws from ends old ends' new (record { next = next; around = around; at = at; on = true; good = true })
-    shows-waits h = record { at = at; one = o; kept = inl refl; goes = λ e. (moved-below ws from.next (λ f. n (o.moves ∙ f)), omega (arith, h, o.puts.within)); stops = λ e f. clash refl e }
+  goes_to : reader'.place ≡ place_after ws n
+  goes_to = ap (λ (r : Reader). r.place) q.1
 
-    pub shows-written : (good : Bool) → from.at + line_room ≤ length old → Shows S T m ws from ends old ends' new (record { next = next; around = around; at = 0; on = good; good = good })
-    shows-written good h = record { at = at; one = o; kept = inr refl; goes = λ e. (moved-below ws from.next (λ f. n (o.moves ∙ f)), omega (arith, h, ap length o.puts.words, put-length from.at (line_at S T m ws (length ends) from.next (before ends from.around)) old)); stops = λ e f. clash f e }
+  pub shows_none : seen ≡ None → Shows S T m ws room page n es old reader'.place es old false
+  unfolding place_after
+  shows_none e =
+      let f : None ≡ seen_at ws n = sym e ∙ q.0 in
+      record {
+        lines = old;
+        one = record {
+          puts = sym (append-nil old) ∙ ap (λ (l : List ℕ). old ++ l) (sym (line_none S T m ws room n es f));
+          moves = goes_to;
+          opens = sym (open_none S T m ws room n es f);
+        };
+        kept = inl refl;
+        goes = λ x. clash x refl;
+        stops = λ x. stayed-end ws n (sym (ap (λ (s : Option Record). place_from s n) f));
+      }
 
--- how many asks are left: the records, and that there is none; the variant
-abbrev pub asks_left : List ℕ → Listing → ℕ
-asks_left ws b = cond b.on (suc (length ws / record_words - b.next)) 0
+  pub shows_line : {es' lines new : List ℕ} {r : Record} → seen ≡ Some r → lines ≡ old ++ line_at S T m ws room n es → es' ≡ open_then S T m ws room n es → (new ≡ lines) ⊎ (new ≡ []) → length new + line_room ≤ page
+      → Shows S T m ws room page n es old reader'.place es' new true
+  shows_line {lines = lines} e p o k h = record {
+    lines = lines;
+    one = record { puts = p; moves = goes_to; opens = o };
+    kept = k;
+    goes = λ x. (seen_below ws n (sym q.0 ∙ e), h);
+    stops = λ x. clash refl x;
+  }
 
-pub asks_fall : (ws : List ℕ) (b r : Listing) → b.on ≡ true → r.next ≡ place_after ws b.next → (r.on ≡ true → b.next < length ws / record_words) → asks_left ws r < asks_left ws b
-asks_fall ws b r e p h = subst (λ (o : Bool). asks_left ws r < cond o (suc (length ws / record_words - b.next)) 0) (sym e) (go r.on refl)
-  where
-    go : (o : Bool) → r.on ≡ o → cond o (suc (length ws / record_words - r.next)) 0 < suc (length ws / record_words - b.next)
-    go true f = omega (arith, h f, after-whole ws b.next (h f), p)
-    go false f = omega arith
+-- the asks left are fewer
+pub fewer : {S T m ws es old es' new : List ℕ} {room page n next : ℕ} {on : Bool} → Shows S T m ws room page n es old next es' new on → on ≡ true → length ws / record_words - next < length ws / record_words - n
+fewer {ws = ws} {n = n} s e = let h = (s.goes e).0 in omega (arith, h, after-whole ws n h, s.one.moves)

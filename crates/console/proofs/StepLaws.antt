@@ -6,8 +6,8 @@ use mathlib.Core.Path.{◌≡◌, refl, sym, ap, subst, ◌∙◌}
 use mathlib.Core.Bool.{Bool, true, false, cond}
 use mathlib.Core.List.{List, [], ◌∷◌, ◌++◌, append_assoc, append-nil}
 use lib.Dec.{eqb, leb}
-use lib.ListN.{length, take, drop, replicate, length-take, length-drop}
-use lib.Seq.{take_all, drop-drop, drop-length}
+use lib.ListN.{length, take, drop, replicate, length-take, length-drop, length-append}
+use lib.Seq.{take_all, take-length}
 use borrow.Author.Tests.{leb-true, leb-false, lt-ltb}
 use Rattle.grammar.specs.Limits.{message_bytes}
 use Rattle.rules.specs.declared.MessageRefusal.TheVariants as M
@@ -15,28 +15,13 @@ use Rattle.rules.specs.declared.MessageAnswer.TheVariants as MA
 use Rattle.rules.specs.Sound.{sound}
 use Rattle.rules.specs.Serving.Answers.{MessageResult, refused_by, sound_result, message_result}
 use Rattle.lines.specs.Lines.{before_lf, or_next}
-use Rattle.lines.proofs.TextLaws.{puts_none}
 use Rattle.trees.specs.TreeText.{lines_from, lines_of}
 use Rattle.console.specs.declared.answers.Style.{Style}
 use Rattle.console.specs.declared.answers.Style.TheVariants.{Numbers, Tree}
-use Rattle.console.specs.declared.joins.Joined.{Joined}
-use Rattle.console.specs.declared.joins.Joined.TheVariants.{Line, More}
-use Rattle.console.specs.declared.steps.Place.{Place}
-use Rattle.console.specs.declared.turns.Turn.{Turn}
-use Rattle.console.specs.declared.turns.Turn.TheVariants.{Kept}
-use Rattle.console.specs.declared.turns.Wrote.{Wrote}
-use Rattle.console.specs.declared.turns.Wrote.TheVariants.{At}
-use Rattle.console.specs.Serving.Joining.{line_so_far, Joins}
+use Rattle.console.specs.Serving.Joining.{line_so_far}
 use Rattle.console.specs.Program.{tree_lines, result_text, answer_text, last_line, answers_to}
-use Rattle.console.specs.Serving.Steps.{longest_line, Says, Takes, RoomIn, KeptIn}
+use Rattle.console.specs.Serving.Steps.{Says, Takes, Keeps}
 use Rattle.console.proofs.JoinLaws.{cut_again}
-use Rattle.console.proofs.AnswerLaws.{no_lines}
-
-pub kept_in : (room : ℕ) {n : ℕ} {t : Turn} → t ≡ Kept n → KeptIn room t → n ≤ room
-kept_in room e h = subst (KeptIn room) e h
-
-pub room_in : (room : ℕ) {n : ℕ} {t : Wrote} → t ≡ At n → RoomIn room t → n + longest_line ≤ room
-room_in room e h = subst (RoomIn room) e h
 
 module _ (s : Style) (S T : List ℕ) (room : ℕ) where
   abbrev answered : List ℕ → List ℕ
@@ -121,62 +106,34 @@ module _ (s : Style) (S T : List ℕ) (room : ℕ) where
     goes_on [] m h = ap (λ (t : List ℕ). answers t rest) (sym (append-nil m))
     goes_on (b ∷ l) m h = byte-on m b l (eqb b 10) h (λ k. goes_on l (m ++ (b ∷ [])) k)
 
-    ends-here : (c m : List ℕ) (i next : ℕ) → next ≡ i + before_lf (drop i c) + 1 → next ≤ length c
-        → answers m (drop i c ++ rest) ≡ answered (m ++ take (before_lf (drop i c)) (drop i c)) ++ answers [] (drop next c ++ rest)
-    ends-here c m i next p h =
-        let n : i + suc (before_lf (drop i c)) ≡ next = omega arith in
-        let j : before_lf (drop i c) < length (drop i c) = simp length-drop (omega arith) in
-        parts (drop i c) m j
-        ∙ ap (λ (t : List ℕ). answered (m ++ take (before_lf (drop i c)) (drop i c)) ++ answers [] (t ++ rest)) (drop-drop (suc (before_lf (drop i c))) i c ∙ ap (λ (x : ℕ). drop x c) n)
+  pub says_as : {lent k : ℕ} {m m' old new words : List ℕ} → lent ≡ room → m ≡ m' → Says s S T lent m old new words k → Says s S T room m' old new words k
+  says_as {k = k} {m} {m'} {old} {new} {words} e f y = subst (λ (x : List ℕ). Says s S T room x old new words k) f (subst (λ (i : ℕ). Says s S T i m old new words k) e y)
 
-  abbrev left_of : List ℕ → Place → List ℕ
-  left_of chunk p = drop p.next chunk
-
-  -- ---- a step: the line ends in the chunk, or the chunk is used up
-  module _ (chunk : List ℕ) (p : Place) (carry carry' : List ℕ) (g : message_bytes < length carry) {j : Joined} (x : Joins carry p.kept chunk p.next carry' j) where
-    pub takes_line : {size next n r : ℕ} {old new words : List ℕ} → j ≡ Line size next → Says s S T room (take (size - 0) carry') p.at old new words n r
-        → Takes s S T room chunk p carry old carry' words new (record { next = next; kept = 0; at = r; size = size; words = n })
+  -- ---- a step: a line ends in the chunk, or the chunk is used up
+  module _ (chunk line line' : List ℕ) (n : ℕ) (g : message_bytes < n) (j : line' ≡ line_so_far n line chunk) where
+    pub takes_line : {rest old new words : List ℕ} {k : ℕ} → before_lf chunk < length chunk → rest ≡ drop (before_lf chunk + 1) chunk → length words ≤ room → Says s S T room line' old new words k → Takes s S T room chunk line old line' words new rest k
     unfolding line_so_far
-    takes_line {size} {next} {n} {r} {old} {new} {words} q y' =
-        let z = subst (Joins carry p.kept chunk p.next carry') q x in
-        let u : size - 0 ≡ size = omega arith in
-        let y : Says s S T room (take size carry') p.at old new words n r = subst (λ (i : ℕ). Says s S T room (take i carry') p.at old new words n r) u y' in
-        let m : List ℕ = take p.kept carry ++ take (before_lf (left_of chunk p)) (left_of chunk p) in
+    takes_line {rest} {old} {new} {words} {k} h r l y =
+        let f : before_lf chunk + 1 ≡ suc (before_lf chunk) = omega arith in
+        let whole : List ℕ = line ++ take (before_lf chunk) chunk in
         record {
           text = y.text;
           puts = y.puts;
-          splits = λ rest.
-              ends-here rest chunk (take p.kept carry) p.next next z.1 z.2
-              ∙ ap (λ (t : List ℕ). t ++ answers [] (drop next chunk ++ rest)) (sym (line_cut (length carry) g m) ∙ ap answered (sym z.0.bytes) ∙ y.rest)
-              ∙ append_assoc y.text (tree_lines S T room (take size carry') (take n words)) (answers [] (drop next chunk ++ rest));
-          moves = λ h. omega (arith, z.1);
-          within = z.2;
-          keeps = omega arith;
-          ended = λ h. refl;
-          sized = z.0.within;
-          few = y.few;
+          splits = λ more.
+              parts more chunk line h
+              ∙ ap (λ (t : List ℕ). answered whole ++ answers [] (t ++ more)) (sym (r ∙ ap (λ (i : ℕ). drop i chunk) f))
+              ∙ ap (λ (t : List ℕ). t ++ answers [] (rest ++ more)) (sym (line_cut n g whole) ∙ ap answered (sym j) ∙ y.rest)
+              ∙ append_assoc y.text (tree_lines S T room line' (take k words)) (answers [] (rest ++ more));
+          shorter = omega (arith, ap length r, length-drop (before_lf chunk + 1) chunk);
+          few = omega (arith, y.few, l);
         }
 
-    pub takes-more : {size : ℕ} {out words : List ℕ} → j ≡ More size → p.next ≤ length chunk → p.at ≤ length out
-        → Takes s S T room chunk p carry out carry' words out (record { next = length chunk; kept = size; at = p.at; size = 0; words = 0 })
+    pub keeps_line : before_lf chunk ≡ length chunk → Keeps s S T room chunk line line'
     unfolding line_so_far
-    takes-more {size} {out} {words} q h k =
-        let z = subst (Joins carry p.kept chunk p.next carry') q x in
-        let l : length (left_of chunk p) ≤ before_lf (left_of chunk p) = simp length-drop (omega (arith, z.1)) in
+    keeps_line h =
+        let w : line' ≡ take n (line ++ chunk) = j ∙ ap (λ (l : List ℕ). take n (line ++ l)) (ap (λ (i : ℕ). take i chunk) h ∙ take-length chunk) in
         record {
-          text = [];
-          puts = puts_none k;
-          splits = λ rest.
-              goes_on rest (left_of chunk p) (take p.kept carry) l
-              ∙ sym (answers_cut (length carry) g rest (take p.kept carry ++ (left_of chunk p)))
-              ∙ ap (λ (t : List ℕ). answers (take (length carry) (take p.kept carry ++ t)) rest) (sym (take_all (before_lf (left_of chunk p)) (left_of chunk p) l))
-              ∙ ap (λ (t : List ℕ). answers t rest) (sym z.0.bytes)
-              ∙ ap (λ (t : List ℕ). answers (take size carry') (t ++ rest)) (sym (drop-length chunk))
-              ∙ ap (λ (t : List ℕ). t ++ answers (take size carry') (drop (length chunk) chunk ++ rest)) (sym (no_lines S T room (take 0 carry') words));
-          moves = λ i. i;
-          within = omega arith;
-          keeps = z.0.within;
-          ended = λ i. absurd (omega (arith, i, z.1));
-          sized = omega arith;
-          few = omega arith;
+          none_ends = h;
+          splits = λ more. goes_on more chunk line (omega (arith, h)) ∙ sym (answers_cut n g more (line ++ chunk)) ∙ ap (λ (t : List ℕ). answers t more) (sym w);
+          few = omega (arith, ap length w, length-take n (line ++ chunk), length-append line chunk);
         }

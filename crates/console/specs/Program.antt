@@ -1,7 +1,6 @@
 -- Reference, Program: what a program writes, given its schema file and its input, in each style.
-use Rattle.std.specs.Prelude.{ℕ, ◌*◌, ◌/◌, true, false, List, [], ◌∷◌, ◌++◌, eqb, take}
+use Rattle.std.specs.Prelude.{ℕ, ◌*◌, ◌/◌, true, false, List, [], ◌∷◌, ◌++◌, eqb, take, Option, Some, None}
 use Prim.Native.Char.{code}
-use Rattle.std.proofs.Math.Option.{Option, none, some}
 use Rattle.grammar.specs.Notation.{text}
 use Rattle.grammar.specs.Limits.{table_rows, row_words, record_words}
 use Rattle.rules.specs.declared.SchemaAnswer.{SchemaAnswer}
@@ -73,8 +72,8 @@ no_schema = text "no schema" ++ (code "\n" ∷ [])
 module _ (s : Style) where
   -- what stands first: the schema's line, where there is a file
   abbrev pub first_line : Option (List ℕ) → List ℕ
-  first_line none = no_schema
-  first_line (some S) = schema_text s S (schema_result S table_room).answer
+  first_line None = no_schema
+  first_line (Some S) = schema_text s S (schema_result S table_room).answer
 
   -- a program stops after a refused schema, and answers messages by the rows counted of an accepted one
   abbrev pub message_lines : List ℕ → List ℕ → SchemaAnswer → List ℕ → List ℕ
@@ -82,8 +81,8 @@ module _ (s : Style) where
   message_lines S words (Refused x p) input = []
 
   abbrev pub later_lines : Option (List ℕ) → List ℕ → List ℕ
-  later_lines none input = []
-  later_lines (some S) input = let o = schema_result S table_room in message_lines S o.words o.answer input
+  later_lines None input = []
+  later_lines (Some S) input = let o = schema_result S table_room in message_lines S o.words o.answer input
 
   -- all that a program writes, given the bytes of its schema file, if there is one, and of its input
   unfoldable pub program_text : Option (List ℕ) → List ℕ → List ℕ

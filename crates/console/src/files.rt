@@ -1,43 +1,27 @@
 // A file, read to its end or as far as the room goes.
-ghost use Rattle.std.specs.Prelude.{length};
-ghost use Rattle.console.specs.Serving.Beginning.{Within};
+ghost use Rattle.std.specs.Prelude.{◌≤◌, length, IfOk};
 
 use std::rt::Files;
 use std::{fs, io};
 
-#[derive(Clone, Copy)]
-pub enum Read {
-    Bytes(usize),
-    Failed,
-}
-
-// What a reader gives until it ends or the room is full.
-fn read_from<F: io::Read>(file: &mut F, room: &mut [u8]) -> Read
-    ensures { Within (length room.new) result }
+// How many bytes a reader gives until it ends or the room is full.
+fn read_from<F: io::Read>(file: &mut F, room: &mut [u8]) -> io::Result<usize>
+    ensures { IfOk result (λ n. n ≤ length room.new) }
 {
     let mut done = 0;
     while done < room.len() {
-        let part = &mut room[done..];
-        match file.read(part) {
-            Err(_) => {
-                return Read::Failed;
-            }
-            Ok(n) => {
-                if n == 0 {
-                    return Read::Bytes(done);
-                }
-                done += n;
-            }
+        let n = file.read(&mut room[done..])?;
+        if n == 0 {
+            break;
         }
+        done += n;
     }
-    Read::Bytes(done)
+    Ok(done)
 }
 
-pub fn read_all<R: Files>(rt: &R, path: &str, room: &mut [u8]) -> Read
-    ensures { Within (length room.new) result }
+pub fn read_all<R: Files>(rt: &R, path: &str, room: &mut [u8]) -> io::Result<usize>
+    ensures { IfOk result (λ n. n ≤ length room.new) }
 {
-    match fs::open(rt, path) {
-        Err(_) => Read::Failed,
-        Ok(mut file) => read_from(&mut file, room),
-    }
+    let mut file = fs::open(rt, path)?;
+    read_from(&mut file, room)
 }

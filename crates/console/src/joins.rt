@@ -1,25 +1,24 @@
 // Lines put together over reads: bytes that are carried, then those of the next chunk.
-ghost use Rattle.std.specs.Prelude.{◌≤◌, length};
-ghost use Rattle.console.specs.Serving.Joining.{Joins};
+ghost use Rattle.std.specs.Prelude.{◌≡◌, ◌+◌, ◌<◌, length, drop, MatchOption};
+ghost use Rattle.lines.specs.Lines.{before_lf};
+ghost use Rattle.console.specs.Serving.Joining.{line_so_far};
 
-use lines::ends::{keep, line_end};
+use lines::ends::line_end;
+use lines::page::Page;
 
-// A whole line in the first so many bytes of the carry, and the place in the chunk after its LF; or the chunk is used up, and so many bytes are kept.
-#[derive(Clone, Copy)]
-pub enum Joined {
-    Line(usize, usize),
-    More(usize),
-}
-
-// The line that goes on after the first `kept` bytes of the carry, at a place in the chunk.
-pub fn join_line(carry: &mut [u8], kept: usize, chunk: &[u8], from: usize) -> Joined
-    requires { (kept ≤ length carry.old) × (from ≤ length chunk.now) }
-    ensures { Joins carry.old kept chunk.now from carry.new result }
+// The line goes on in a chunk. What is left of the chunk after its LF; or the chunk is used up, and the line goes on.
+pub fn join_line<'a, const N: usize>(line: &mut Page<N>, chunk: &'a [u8]) -> Option<&'a [u8]>
+    ensures joined { line.new ≡ line_so_far N line.old chunk.now }
+    ensures left { MatchOption result (before_lf chunk.now ≡ length chunk.now) (λ rest. (before_lf chunk.now < length chunk.now) × (rest.now ≡ drop (before_lf chunk.now + 1) chunk.now)) }
 {
-    let e = line_end(chunk, from);
-    let size = keep(carry, kept, &chunk[from..e]);
-    if e == chunk.len() {
-        return Joined::More(size);
+    match line_end(chunk) {
+        Some(n) => {
+            line.keep(&chunk[..n]);
+            Some(&chunk[n + 1..])
+        }
+        None => {
+            line.keep(chunk);
+            None
+        }
     }
-    Joined::Line(size, e + 1)
 }

@@ -1,8 +1,9 @@
 // What a program lends, and the words that a count of rows or records stands for.
-ghost use Rattle.std.specs.Prelude.{◌+◌, ◌*◌, ◌≤◌, ◌<◌, min, ◌≡◌, length};
-ghost use Rattle.grammar.specs.Limits.{schema_bytes, message_bytes};
-ghost use Rattle.console.specs.Program.{table_room, record_count, record_room};
+ghost use Rattle.std.specs.Prelude.{◌+◌, ◌*◌, ◌≤◌, min, ◌≡◌, [], length};
+ghost use Rattle.grammar.specs.Limits.{schema_bytes};
 
+use lines::decimals::{NUMBER_ROOM, WORD_ROOM};
+use lines::page::Page;
 use rules::{MESSAGE_BYTES, RECORD_WORDS, ROW_WORDS, SCHEMA_BYTES, TABLE_ROWS};
 
 // A byte more than each limit, so that what is longer is seen to be longer.
@@ -11,49 +12,47 @@ const SCHEMA_ROOM: usize = SCHEMA_BYTES + 1;
 const LINE_ROOM: usize = MESSAGE_BYTES + 1;
 
 // Words for all rows of a table, and for 4,096 records.
-const TABLE_ROOM: usize = TABLE_ROWS * ROW_WORDS;
+pub const TABLE_ROOM: usize = TABLE_ROWS * ROW_WORDS;
 
-const RECORD_COUNT: usize = 4096;
+pub const RECORD_COUNT: usize = 4096;
 
-pub const RECORD_ROOM: usize = RECORD_COUNT * RECORD_WORDS;
+const RECORD_ROOM: usize = RECORD_COUNT * RECORD_WORDS;
 
+// The longest answer line: four numbers, then words. Answers have room for two.
+pub const LONGEST_LINE: usize = 4 * NUMBER_ROOM + WORD_ROOM * RECORD_ROOM;
+
+pub const OUT_ROOM: usize = 2 * LONGEST_LINE;
+
+// Room for the schema.
 pub fn schema_room() -> [u8; SCHEMA_ROOM]
-    ensures { schema_bytes + 1 ≡ length result }
+    ensures { length result ≡ schema_bytes + 1 }
 {
     [0; SCHEMA_ROOM]
 }
 
-pub fn table_room() -> [u32; TABLE_ROOM]
-    ensures { table_room ≡ length result }
-{
-    [0; TABLE_ROOM]
+// What is read of a line, cut beyond the longest message; the records of the last answer; and what is answered and not yet written.
+#[derive(Drop)]
+pub struct Rooms {
+    pub line: Page<LINE_ROOM>,
+    pub records: [u32; RECORD_ROOM],
+    pub out: Page<OUT_ROOM>,
 }
 
-pub fn line_room() -> [u8; LINE_ROOM]
-    ensures { message_bytes + 1 ≡ length result }
-{
-    [0; LINE_ROOM]
-}
-
-pub fn record_room() -> [u32; RECORD_ROOM]
-    ensures { record_room ≡ length result }
-{
-    [0; RECORD_ROOM]
-}
-
-pub fn end_room() -> [u32; RECORD_COUNT]
-    ensures { record_count ≡ length result }
-{
-    [0; RECORD_COUNT]
+impl Rooms {
+    pub fn new() -> Self
+        ensures { (result.line ≡ []) × (result.out ≡ []) }
+    {
+        Rooms {
+            line: Page::new(),
+            records: [0; RECORD_ROOM],
+            out: Page::new(),
+        }
+    }
 }
 
 // How many words so many rows or records have, of those lent.
 pub fn words_of(count: usize, width: usize, lent: usize) -> usize
-    requires { 0 < width }
     ensures { (result ≡ min (width * count) lent) × (result ≤ lent) }
 {
-    if count <= lent / width {
-        return width * count;
-    }
-    lent
+    width.saturating_mul(count).min(lent)
 }

@@ -1,32 +1,37 @@
 // A program: schema.json, then standard input.
-use crate::answers::Style;
+use crate::answers::{Session, Style};
 use crate::files::read_all;
-use crate::opening::{Next, open_run};
-use crate::rooms::{schema_room, table_room};
+use crate::opening::open_run;
+use crate::rooms::{TABLE_ROOM, schema_room};
 use crate::turns::take_input;
+use lines::page::Page;
+use std::io;
 use std::io::{Print, Read};
 use std::rt::Files;
+use trees::types::Types;
 use wordings::heads::SCHEMA_HEAD_ROOM;
 
+fn answer_all<R: Files + Print, I: Read>(rt: &R, input: &mut I, style: Style) -> io::Result<()> {
+    let mut room = schema_room();
+    let mut rows = [0u32; TABLE_ROOM];
+    let mut first = Page::<SCHEMA_HEAD_ROOM>::new();
+    let file = match read_all(rt, "schema.json", &mut room) {
+        Ok(size) => Some(&room[..size]),
+        Err(_) => None,
+    };
+    let words = open_run(style, file, &mut rows, &mut first);
+    rt.write_all(first.bytes())?;
+    if let (Some(schema), Some(words)) = (file, words) {
+        let types = Types {
+            schema,
+            table: &rows[..words],
+        };
+        take_input(rt, input, &Session { style, types })?;
+    }
+    Ok(())
+}
+
+// A write that fails ends the program, and there is no one to tell.
 pub fn run<R: Files + Print, I: Read>(rt: &R, input: &mut I, style: Style) {
-    let mut schema = schema_room();
-    let mut rows = table_room();
-    let mut line = [0u8; SCHEMA_HEAD_ROOM];
-    let read = read_all(rt, "schema.json", &mut schema);
-    let opening = open_run(style, read, &schema, &mut rows, &mut line);
-    let at = opening.at;
-    let next = opening.next;
-    if rt.write_all(&line[0..at]).is_err() {
-        return;
-    }
-    match next {
-        Next::Stop => {}
-        Next::Messages(size, words) => take_input(
-            rt,
-            input,
-            style,
-            &rows[0..words],
-            &schema[0..size],
-        ),
-    }
+    let _ = answer_all(rt, input, style);
 }

@@ -1,64 +1,34 @@
 // One line of the input answered, wherever reads cut it.
 ghost use Rattle.std.specs.Prelude.{◌+◌, ◌≤◌, length};
-ghost use Rattle.console.specs.Serving.Steps.{longest_line, Room, Takes};
+ghost use Rattle.console.specs.Program.{record_room};
+ghost use Rattle.console.specs.Serving.Steps.{longest_line, out_room, Steps};
 
-use crate::answers::{Style, put_answer};
-use crate::joins::{Joined, join_line};
+use crate::answers::{Session, put_answer};
+use crate::joins::join_line;
+use crate::rooms::Rooms;
 
-// A place in a chunk, how many bytes are kept of the line that goes on there, and the place after the answers put so far.
+// What is left of a chunk after a line, and how many record words of its answer are to be shown.
 #[derive(Clone, Copy)]
-pub struct Place {
-    pub next: usize,
-    pub kept: usize,
-    pub at: usize,
-}
-
-// The place after a line; and how long the message is and how many of its record words are to be shown, where any are.
-#[derive(Clone, Copy)]
-pub struct Taken {
-    pub next: usize,
-    pub kept: usize,
-    pub at: usize,
-    pub size: usize,
+pub struct Taken<'a> {
+    pub rest: &'a [u8],
     pub words: usize,
 }
 
-// The line at a place, put together in the carry and answered; or what the chunk has of it is kept.
-pub fn take_line(
-    style: Style,
-    table: &[u32],
-    schema: &[u8],
-    chunk: &[u8],
-    carry: &mut [u8],
-    records: &mut [u32],
-    out: &mut [u8],
-    from: Place,
-) -> Taken
-    requires { (from.next ≤ length chunk.now) × (from.kept ≤ length carry.old) × (from.at + longest_line ≤ length out.old) × Room records.old out.old carry.old }
-    ensures { Takes style schema.now table.now (length records.old) chunk.now from carry.old out.old carry.new records.new out.new result }
+// The line that goes on in the chunk, put together and answered; or the chunk is used up, and what it has of the line is kept.
+pub fn take_line<'a>(session: &Session, chunk: &'a [u8], rooms: &mut Rooms) -> Option<Taken<'a>>
+    requires { length rooms.old.out + longest_line ≤ out_room }
+    ensures { Steps session.now.style session.now.types.schema.now session.now.types.table.now record_room chunk.now rooms.old rooms.new result }
 {
-    let next = from.next;
-    let kept = from.kept;
-    let at = from.at;
-    match join_line(carry, kept, chunk, next) {
-        Joined::More(n) => Taken {
-            next: chunk.len(),
-            kept: n,
-            at,
-            size: 0,
-            words: 0,
-        },
-        Joined::Line(size, after) => {
-            let said = put_answer(style, table, schema, &carry[0..size], records, out, at);
-            let end = said.at;
-            let words = said.words;
-            Taken {
-                next: after,
-                kept: 0,
-                at: end,
-                size,
-                words,
-            }
+    match join_line(&mut rooms.line, chunk) {
+        None => None,
+        Some(rest) => {
+            let words = put_answer(
+                session,
+                rooms.line.bytes(),
+                &mut rooms.records,
+                &mut rooms.out,
+            );
+            Some(Taken { rest, words })
         }
     }
 }

@@ -1,136 +1,84 @@
 // Standard input, chunk by chunk. What is answered is written before the next read.
-ghost use Rattle.std.specs.Prelude.{◌≤◌, true, ◌≡◌, length};
-ghost use Rattle.trees.specs.Serving.Rooms.{line_room};
-ghost use Rattle.console.specs.Serving.Steps.{longest_line, out_room, Room, RoomIn, KeptIn};
+ghost use Rattle.std.specs.Prelude.{◌+◌, ◌<◌, ◌≤◌, ◌≡◌, [], length, IfOk, MatchOption};
+ghost use Rattle.console.specs.Serving.Steps.{longest_line, out_room};
 ghost use Rattle.console.specs.Serving.Beginning.{TableOf};
 
-use crate::answers::{LINE, Style};
-use crate::rooms::{end_room, line_room, record_room};
+use crate::answers::Session;
+use crate::rooms::{LONGEST_LINE, OUT_ROOM, Rooms};
 use crate::showing::show_records;
-use crate::steps::{Place, take_line};
+use crate::steps::take_line;
+use lines::page::Page;
+use std::io;
 use std::io::{Print, Read};
-
-// Room for answers: twice the longest line.
-const OUT: usize = 2 * LINE;
+use trees::tree::Tree;
 
 // Room for what is read at once.
 const CHUNK: usize = 65536;
 
-// How many bytes are kept of a line that goes on; or standard output can't be written.
-#[derive(Clone, Copy)]
-enum Turn {
-    Kept(usize),
-    Stop,
-}
-
-// The place after what is put and not yet written; or standard output can't be written.
-#[derive(Clone, Copy)]
-enum Wrote {
-    At(usize),
-    Stop,
-}
-
-// The records of a message as lines.
-fn show_tree<R: Print>(
-    rt: &R,
-    table: &[u32],
-    schema: &[u8],
-    message: &[u8],
-    records: &[u32],
-    out: &mut [u8],
-) -> bool
-    requires { line_room ≤ length out.old }
-{
-    let mut ends = end_room();
-    show_records(rt, schema, table, message, records, &mut ends, out)
-}
-
-// Nothing is to be shown, and there is room for another line.
-fn may_wait(words: usize, room: usize) -> bool
-    ensures { (result ≡ true) → (words ≡ 0) × (longest_line ≤ room) }
-{
-    if words != 0 {
-        return false;
-    }
-    LINE <= room
-}
-
 // What is put is written where records are to be shown after it, which follow, or where there is no room for another line.
-fn write_on<R: Print>(
-    rt: &R,
-    table: &[u32],
-    schema: &[u8],
-    message: &[u8],
-    records: &[u32],
-    out: &mut [u8],
-    at: usize,
-) -> Wrote
-    requires { (at ≤ length out.old) × (longest_line ≤ length out.old) }
-    ensures { RoomIn (length out.new) result }
+fn write_on<R: Print>(rt: &R, tree: &Tree, out: &mut Page<OUT_ROOM>) -> io::Result<()>
+    ensures { IfOk result (λ _. length out.new + longest_line ≤ out_room) }
 {
-    if may_wait(records.len(), out.len() - at) {
-        return Wrote::At(at);
+    if tree.records.is_empty() && LONGEST_LINE <= out.left() {
+        return Ok(());
     }
-    if rt.write_all(&out[0..at]).is_err() {
-        return Wrote::Stop;
-    }
-    if !show_tree(rt, table, schema, message, records, out) {
-        return Wrote::Stop;
-    }
-    Wrote::At(0)
+    rt.write_all(out.bytes())?;
+    out.clear();
+    show_records(rt, tree, out)
 }
 
-// A chunk, after a line of which `kept` bytes are kept.
-fn take_chunk<R: Print>(
+// Answers the line that ends in the chunk, of which nothing is kept; or there is none.
+fn answer_line<'a, R: Print>(
     rt: &R,
-    style: Style,
-    table: &[u32],
-    schema: &[u8],
-    chunk: &[u8],
-    carry: &mut [u8],
-    kept: usize,
-    records: &mut [u32],
-    out: &mut [u8],
-) -> Turn
-    requires { (kept ≤ length carry.old) × Room records.old out.old carry.old }
-    ensures { KeptIn (length carry.new) result }
+    session: &Session,
+    chunk: &'a [u8],
+    rooms: &mut Rooms,
+) -> io::Result<Option<&'a [u8]>>
+    requires { length rooms.old.out + longest_line ≤ out_room }
+    ensures { IfOk result (λ left. (length rooms.new.out + longest_line ≤ out_room) × MatchOption left (rooms.new.out ≡ rooms.old.out) (λ rest. (length rest.now < length chunk.now) × (rooms.new.line ≡ []))) }
 {
-    let mut i = 0;
-    let mut k = kept;
-    let mut at = 0;
-    while i < chunk.len() {
-        let from = Place {
-            next: i,
-            kept: k,
-            at,
-        };
-        let t = take_line(style, table, schema, chunk, carry, records, out, from);
-        i = t.next;
-        k = t.kept;
-        let end = t.at;
-        let size = t.size;
-        let words = t.words;
-        match write_on(
-            rt,
-            table,
-            schema,
-            &carry[0..size],
-            &records[0..words],
-            out,
-            end,
-        ) {
-            Wrote::Stop => {
-                return Turn::Stop;
-            }
-            Wrote::At(p) => {
-                at = p;
-            }
+    match take_line(session, chunk, rooms) {
+        None => Ok(None),
+        Some(taken) => {
+            let tree = Tree {
+                types: session.types,
+                message: rooms.line.bytes(),
+                records: &rooms.records[..taken.words],
+            };
+            write_on(rt, &tree, &mut rooms.out)?;
+            rooms.line.clear();
+            Ok(Some(taken.rest))
         }
     }
-    if rt.write_all(&out[0..at]).is_err() {
-        return Turn::Stop;
+}
+
+// Answers every line that ends in a chunk, and keeps what follows the last.
+fn take_chunk<R: Print>(
+    rt: &R,
+    session: &Session,
+    chunk: &[u8],
+    rooms: &mut Rooms,
+) -> io::Result<()>
+    requires { rooms.old.out ≡ [] }
+    ensures { IfOk result (λ _. rooms.new.out ≡ []) }
+{
+    let mut left = chunk;
+    while let Some(rest) = answer_line(rt, session, left, rooms)? {
+        left = rest;
     }
-    Turn::Kept(k)
+    rt.write_all(rooms.out.bytes())?;
+    rooms.out.clear();
+    Ok(())
+}
+
+// At the end of the input a last line without LF is answered as one with it.
+fn take_last<R: Print>(rt: &R, session: &Session, rooms: &mut Rooms) -> io::Result<()>
+    requires { rooms.old.out ≡ [] }
+{
+    if rooms.line.len() == 0 {
+        return Ok(());
+    }
+    take_chunk(rt, session, b"\n", rooms)
 }
 
 // How many bytes of the next chunk of the input there are; none at its end, and where it can't be read.
@@ -143,108 +91,19 @@ fn read_some<I: Read>(input: &mut I, chunk: &mut [u8]) -> usize
     }
 }
 
-// The next chunk of standard input. At its end a last line without LF is answered as one with it.
-fn take_some<R: Print, I: Read>(
-    rt: &R,
-    input: &mut I,
-    style: Style,
-    table: &[u32],
-    schema: &[u8],
-    chunk: &mut [u8],
-    carry: &mut [u8],
-    kept: usize,
-    records: &mut [u32],
-    out: &mut [u8],
-) -> Turn
-    requires { (kept ≤ length carry.old) × Room records.old out.old carry.old }
-    ensures { KeptIn (length carry.new) result }
-{
-    let n = read_some(input, chunk);
-    if n == 0 {
-        if 0 < kept {
-            take_chunk(rt, style, table, schema, b"\n", carry, kept, records, out);
-        }
-        return Turn::Stop;
-    }
-    take_chunk(
-        rt,
-        style,
-        table,
-        schema,
-        &chunk[0..n],
-        carry,
-        kept,
-        records,
-        out,
-    )
-}
-
-// A proved loop has to end, and nothing says that input does: the loop counts from a number that no run uses up.
-fn take_all<R: Print, I: Read>(
-    rt: &R,
-    input: &mut I,
-    style: Style,
-    table: &[u32],
-    schema: &[u8],
-    chunk: &mut [u8],
-    carry: &mut [u8],
-    records: &mut [u32],
-    out: &mut [u8],
-)
-    requires { Room records.old out.old carry.old }
-{
-    let mut kept = 0;
-    let mut turns = u64::MAX;
-    while 0 < turns {
-        match take_some(
-            rt, input, style, table, schema, chunk, carry, kept, records, out,
-        ) {
-            Turn::Stop => {
-                return;
-            }
-            Turn::Kept(n) => {
-                kept = n;
-            }
-        }
-        turns -= 1;
-    }
-}
-
-// The room for a chunk.
-fn chunk_room() -> [u8; CHUNK] {
-    [0; CHUNK]
-}
-
-// The room for answers.
-fn out_room() -> [u8; OUT]
-    ensures { out_room ≡ length result }
-{
-    [0; OUT]
-}
-
 // Answers every line of standard input, by the table of an accepted schema.
-pub fn take_input<R: Print, I: Read>(
-    rt: &R,
-    input: &mut I,
-    style: Style,
-    table: &[u32],
-    schema: &[u8],
-)
-    requires { TableOf schema.now table.now }
+// A proved loop has to end, and nothing says that input does: the loop counts to a number that no run reaches.
+pub fn take_input<R: Print, I: Read>(rt: &R, input: &mut I, session: &Session) -> io::Result<()>
+    requires { TableOf session.now.types.schema.now session.now.types.table.now }
 {
-    let mut chunk = chunk_room();
-    let mut carry = line_room();
-    let mut records = record_room();
-    let mut out = out_room();
-    take_all(
-        rt,
-        input,
-        style,
-        table,
-        schema,
-        &mut chunk,
-        &mut carry,
-        &mut records,
-        &mut out,
-    );
+    let mut chunk = [0u8; CHUNK];
+    let mut rooms = Rooms::new();
+    for _turn in 0..u64::MAX {
+        let n = read_some(input, &mut chunk);
+        if n == 0 {
+            return take_last(rt, session, &mut rooms);
+        }
+        take_chunk(rt, session, &chunk[..n], &mut rooms)?;
+    }
+    Ok(())
 }

@@ -1,3 +1,2 @@
--- Laws of text put into lent bytes, and of line ends.
-pub mod TextLaws
 pub mod LineLaws
+pub mod TextLaws

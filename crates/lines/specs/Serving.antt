@@ -1,3 +1,2 @@
--- Serves contracts: text put into a room, and where a line ends. Nobody has to believe these.
-pub mod Puts
-pub mod Lines
+-- Serves contracts: the room that a number takes. Nobody has to believe it.
+pub mod Rooms

@@ -1,94 +1,99 @@
-// Numbers as decimal text, put into lent bytes from a place on.
-ghost use Rattle.std.specs.Prelude.{◌+◌, ◌*◌, ◌≤◌, ◌<◌, [], ◌∷◌, length};
+// Numbers as decimal text, put on a page.
+ghost use Rattle.std.specs.Prelude.{◌≡◌, ◌+◌, ◌*◌, ◌≤◌, ◌<◌, [], ◌∷◌, ◌++◌, length};
 ghost use Rattle.lines.specs.Text.{decimal_text, spaced_text, numbers_text, line_text};
-ghost use Rattle.lines.specs.Serving.Puts.{Puts, number_room, word_room};
+ghost use Rattle.lines.specs.Serving.Rooms.{number_digits, number_room, word_room};
 
-// Room for a machine number of at most 20 digits, and for a word of at most 10, with a byte before or after each.
-pub const NUMBER_ROOM: usize = 20 + 1;
+use crate::page::Page;
+
+// A machine number has at most 20 digits and a word at most 10; each has room with a byte before or after it.
+const NUMBER_DIGITS: usize = 20;
+
+pub const NUMBER_ROOM: usize = NUMBER_DIGITS + 1;
 
 pub const WORD_ROOM: usize = 10 + 1;
 
-// Puts the digits of a number; answers the place after them.
-pub fn put_number(out: &mut [u8], at: usize, n: usize) -> usize
-    requires { at + length (decimal_text n) ≤ length out.old }
-    ensures { Puts (decimal_text n) at out.old out.new result }
+// The digits of a number, on a page that is no parameter: a function with a const parameter can't be proved to call itself.
+#[tactic(auto, using(std::proofs::lemmas::Grind::common_steps, crate::proofs::TextLaws::decimal_one, crate::proofs::TextLaws::decimal_more))]
+fn put_digits(out: &mut Page<NUMBER_DIGITS>, n: usize)
+    requires { length out.old + length (decimal_text n) ≤ number_digits }
+    ensures { out.new ≡ out.old ++ decimal_text n }
 {
     if n < 10 {
-        out[at] = b'0' + n as u8;
-        return at + 1;
+        out.push(b'0' + n as u8);
+        return;
     }
-    let p = put_number(out, at, n / 10);
-    out[p] = b'0' + (n % 10) as u8;
-    p + 1
+    put_digits(out, n / 10);
+    out.push(b'0' + (n % 10) as u8);
+}
+
+#[tactic(auto, using(std::proofs::lemmas::Grind::common_steps, crate::proofs::TextLaws::number_length))]
+pub fn put_number<const N: usize>(out: &mut Page<N>, n: usize)
+    requires { length out.old + length (decimal_text n) ≤ N }
+    ensures { out.new ≡ out.old ++ decimal_text n }
+{
+    let mut digits = Page::<NUMBER_DIGITS>::new();
+    put_digits(&mut digits, n);
+    out.put(digits.bytes());
 }
 
 // A space, then the number.
-fn put_spaced(out: &mut [u8], at: usize, n: usize) -> usize
-    requires { at + 1 + length (decimal_text n) ≤ length out.old }
-    ensures { Puts (spaced_text (n ∷ [])) at out.old out.new result }
+#[tactic(auto, using(std::proofs::lemmas::Grind::common_steps, crate::proofs::TextLaws::spaced_one))]
+fn put_spaced<const N: usize>(out: &mut Page<N>, n: usize)
+    requires { length out.old + 1 + length (decimal_text n) ≤ N }
+    ensures { out.new ≡ out.old ++ spaced_text (n ∷ []) }
 {
-    out[at] = b' ';
-    put_number(out, at + 1, n)
+    out.push(b' ');
+    put_number(out, n);
 }
 
 // Each word after a space.
-fn put_words(out: &mut [u8], at: usize, words: &[u32]) -> usize
-    requires { at + word_room * length words.now ≤ length out.old }
-    ensures puts { Puts (spaced_text words.now) at out.old out.new result }
-    ensures upper_bound { result ≤ at + word_room * length words.now }
+#[tactic(auto, using(std::proofs::lemmas::Grind::common_steps, crate::proofs::TextLaws::word_length, crate::proofs::TextLaws::spaced_one, crate::proofs::TextLaws::spaced_next, crate::proofs::TextLaws::spaced_none))]
+fn put_words<const N: usize>(out: &mut Page<N>, words: &[u32])
+    requires { length out.old + word_room * length words.now ≤ N }
+    ensures puts { out.new ≡ out.old ++ spaced_text words.now }
+    ensures upper_bound { length out.new ≤ length out.old + word_room * length words.now }
 {
-    let mut p = at;
-    let mut i = 0;
-    while i < words.len() {
-        p = put_spaced(out, p, words[i] as usize);
-        i += 1;
+    for word in words {
+        put_spaced(out, *word as usize);
     }
-    p
-}
-
-fn end_line(out: &mut [u8], at: usize) -> usize
-    requires { at + 1 ≤ length out.old }
-    ensures { Puts (10 ∷ []) at out.old out.new result }
-{
-    out[at] = b'\n';
-    at + 1
 }
 
 // Three numbers, with room left for a byte after them.
-fn put_three(out: &mut [u8], at: usize, a: usize, b: usize, c: usize) -> usize
-    requires { at + 3 * number_room ≤ length out.old }
-    ensures puts { Puts (numbers_text a (b ∷ c ∷ [])) at out.old out.new result }
-    ensures upper_bound { result < at + 3 * number_room }
+#[tactic(auto, using(std::proofs::lemmas::Grind::common_steps, crate::proofs::TextLaws::three_are, crate::proofs::TextLaws::spaced_one, crate::proofs::TextLaws::number_length))]
+fn put_three<const N: usize>(out: &mut Page<N>, a: usize, b: usize, c: usize)
+    requires { length out.old + 3 * number_room ≤ N }
+    ensures { out.new ≡ out.old ++ numbers_text a (b ∷ c ∷ []) }
 {
-    let p = put_number(out, at, a);
-    let q = put_spaced(out, p, b);
-    put_spaced(out, q, c)
+    put_number(out, a);
+    put_spaced(out, b);
+    put_spaced(out, c);
 }
 
 // A line of three numbers.
-pub fn put_triple(out: &mut [u8], at: usize, a: usize, b: usize, c: usize) -> usize
-    requires { at + 3 * number_room ≤ length out.old }
-    ensures { Puts (line_text a (b ∷ c ∷ [])) at out.old out.new result }
+#[tactic(auto, using(std::proofs::lemmas::Grind::common_steps, crate::proofs::TextLaws::line_is, crate::proofs::TextLaws::three_are, crate::proofs::TextLaws::number_length))]
+pub fn put_triple<const N: usize>(out: &mut Page<N>, a: usize, b: usize, c: usize)
+    requires { length out.old + 3 * number_room ≤ N }
+    ensures { out.new ≡ out.old ++ line_text a (b ∷ c ∷ []) }
 {
-    let p = put_three(out, at, a, b, c);
-    end_line(out, p)
+    put_three(out, a, b, c);
+    out.push(b'\n');
 }
 
 // A line of four numbers and words.
-pub fn put_line(
-    out: &mut [u8],
-    at: usize,
+#[tactic(auto, using(std::proofs::lemmas::Grind::common_steps, crate::proofs::TextLaws::four_are, crate::proofs::TextLaws::spaced_one, crate::proofs::TextLaws::number_length, crate::proofs::TextLaws::three_are, crate::proofs::TextLaws::line_is))]
+pub fn put_line<const N: usize>(
+    out: &mut Page<N>,
     a: usize,
     b: usize,
     c: usize,
     d: usize,
     words: &[u32],
-) -> usize
-    requires { at + 4 * number_room + word_room * length words.now ≤ length out.old }
-    ensures { Puts (line_text a (b ∷ c ∷ d ∷ words.now)) at out.old out.new result }
+)
+    requires { length out.old + 4 * number_room + word_room * length words.now ≤ N }
+    ensures { out.new ≡ out.old ++ line_text a (b ∷ c ∷ d ∷ words.now) }
 {
-    let p = put_three(out, at, a, b, c);
-    let q = put_spaced(out, p, d);
-    let e = put_words(out, q, words);
-    end_line(out, e)
+    put_three(out, a, b, c);
+    put_spaced(out, d);
+    put_words(out, words);
+    out.push(b'\n');
 }

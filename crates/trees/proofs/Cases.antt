@@ -2,7 +2,7 @@
 use Prim.Native.Nat.{ℕ}
 use mathlib.Core.Path.{◌≡◌, refl}
 use mathlib.Core.List.{List, [], ◌∷◌, ◌++◌}
-use mathlib.Core.Option.{none, some}
+use Rattle.std.specs.Prelude.{Some, None}
 use Rattle.grammar.specs.Notation.{text}
 use Rattle.grammar.specs.Lexis.{blank}
 use Rattle.rules.specs.Rows.{name_of}
@@ -38,8 +38,8 @@ unfolding shown shown_bytes shown_byte
 cut = refl
 
 -- keys: with blanks, with an escaped quote, with a backslash last; an element, and no key before a colon
-keys : (key_before (before (text "{ \"a\" : 1") 8) ≡ some (text "a")) × (key_before (before (text "{\"a\\\"b\":1") 8) ≡ some (text "a\\\"b")) × (key_before (before (text "{\"a\\\\\":1") 7) ≡ some (text "a\\\\"))
-    × (key_before (before (text "[1,2]") 3) ≡ none) × (key_before (before (text "a\":") 90) ≡ some (text "a")) × (key_before (before (text ":") 1) ≡ none)
+keys : (key_before (before (text "{ \"a\" : 1") 8) ≡ Some (text "a")) × (key_before (before (text "{\"a\\\"b\":1") 8) ≡ Some (text "a\\\"b")) × (key_before (before (text "{\"a\\\\\":1") 7) ≡ Some (text "a\\\\"))
+    × (key_before (before (text "[1,2]") 3) ≡ None) × (key_before (before (text "a\":") 90) ≡ Some (text "a")) × (key_before (before (text ":") 1) ≡ None)
 unfolding blank back skip_blanks even_slashes quote_first key_back key_before
 keys = (refl, refl, refl, refl, refl, refl)
 

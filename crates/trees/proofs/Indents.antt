@@ -22,7 +22,8 @@ use Rattle.rules.proofs.Acceptance.{accepted-gives}
 use Rattle.rules.specs.Serving.Order.{Before, Nested, spanning}
 use Rattle.rules.proofs.Room.{records-length}
 use Rattle.rules.proofs.ReadingOrder.{reading-nested, reading-shallow}
-use Rattle.walker.specs.declared.records.Seen.{Seen}
+use Rattle.std.specs.Prelude.{Option}
+use Rattle.walker.specs.declared.records.Record.{Record}
 use Rattle.walker.specs.Seeing.{first_seen, seen_at, place_from, place_after}
 use Rattle.walker.specs.Walk.{seen_of}
 use Rattle.walker.proofs.Walk.{counted}
@@ -186,13 +187,13 @@ module _ (S T m ws : List ℕ) (room : ℕ) where
 
     next : place_after ws n ≡ suc n
     unfolding place_after
-    next = ap (λ (s : Seen). place_from s n) seen
+    next = ap (λ (s : Option Record). place_from s n) seen
 
     kept : open_then S T m ws room n es ≡ end_of v.value ∷ still_open start es
     unfolding open_then opened
     kept =
         let f : length (still_open start es) < room = omega (arith, still-few start es, h.few, h.holds) in
-        ap (λ (s : Seen). open_after room s es) seen ∙ ap (λ (t : Bool). cond t (end_of v.value ∷ still_open start es) (still_open start es)) (lt-ltb (length (still_open start es)) room f)
+        ap (λ (s : Option Record). open_after room s es) seen ∙ ap (λ (t : Bool). cond t (end_of v.value ∷ still_open start es) (still_open start es)) (lt-ltb (length (still_open start es)) room f)
 
     pub on : Here start (suc n) (v ∷ us) vs (end_of v.value ∷ still_open start es)
     on = record {

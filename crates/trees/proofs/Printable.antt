@@ -6,7 +6,6 @@ use native.Mathlib.Omega.{arith}
 use mathlib.Core.Path.{◌≡◌, refl, subst}
 use mathlib.Core.Bool.{Bool, true, false, cond, ◌&&◌, ◌||◌}
 use mathlib.Core.List.{List, [], ◌∷◌, ◌++◌}
-use mathlib.Core.Option.{Option, none, some}
 use lib.Dec.{eqb, ltb}
 use lib.ListN.{length, take, get_or, replicate}
 use borrow.Author.Tests.{ltb-true, ltb-false}
@@ -16,8 +15,8 @@ use Rattle.grammar.proofs.Booleans.{both}
 use Rattle.rules.specs.Types.{first_row}
 use Rattle.rules.proofs.Lists.{and_of, or_left}
 use Rattle.rules.specs.Rows.{is_struct, name_of}
-use Rattle.walker.specs.declared.records.Seen.{Seen}
-use Rattle.walker.specs.declared.records.Seen.TheVariants.{Record, Nothing}
+use Rattle.std.specs.Prelude.{Option, Some, None}
+use Rattle.walker.specs.declared.records.Record.{Record}
 use Rattle.walker.specs.Seeing.{seen_at, place_after, part_of}
 use Rattle.trees.specs.Escapes.{printable, shown_digit, hex_byte, shown_byte, shown_bytes, shown}
 use Rattle.trees.specs.Backwards.{before}
@@ -80,8 +79,8 @@ shown-clean l = joined (shown_bytes (take name_bytes l)) (cond (ltb name_bytes (
 
 -- labels, types and texts
 key-clean : (k : Option (List ℕ)) → all clean (key_text k) ≡ true
-key-clean none = refl
-key-clean (some k) = shown-clean k
+key-clean None = refl
+key-clean (Some k) = shown-clean k
 
 by_alternate : (t : Bool) (k : Option (List ℕ)) → all clean (elim t [ true ↦ text "as" | false ↦ key_text k ]) ≡ true
 by_alternate true k = refl
@@ -137,9 +136,9 @@ module _ (S T m ws : List ℕ) (room : ℕ) where
       let y : List ℕ = text " = " ++ z in
       joined (text ": ") (type_text S T t f ++ y) refl (joined (type_text S T t f) y (type-clean S T t f) (joined (text " = ") z refl (joined (value_text m a e) (10 ∷ []) (value-clean (part_of m a e)) refl)))
 
-  line_clean : (n : ℕ) (es : List ℕ) (s : Seen) → all clean (record_line S T m ws room n es s) ≡ true
-  line_clean n es Nothing = refl
-  line_clean n es (Record a e t f) = joined (left_text T m ws n a (length (still_open a es))) (right_text S T m a e t f) (left-clean n a (length (still_open a es))) (right_clean a e t f)
+  line_clean : (n : ℕ) (es : List ℕ) (s : Option Record) → all clean (record_line S T m ws room n es s) ≡ true
+  line_clean n es None = refl
+  line_clean n es (Some r) = joined (left_text T m ws n r.start (length (still_open r.start es))) (right_text S T m r.start r.end r.reference r.array) (left-clean n r.start (length (still_open r.start es))) (right_clean r.start r.end r.reference r.array)
 
   lines-clean : (k n : ℕ) (es : List ℕ) → all clean (lines_of S T m ws room k n es) ≡ true
   unfolding lines_of line_at

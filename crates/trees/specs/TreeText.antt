@@ -1,12 +1,11 @@
 -- Reference, Viewer: the records of a message as a tree: a line each, indented by the records that are open around it.
-use Rattle.std.specs.Prelude.{ℕ, zero, suc, ◌+◌, ◌-◌, ◌*◌, ◌/◌, min, cond, List, [], ◌∷◌, ◌++◌, ltb, length, replicate}
+use Rattle.std.specs.Prelude.{ℕ, zero, suc, ◌+◌, ◌-◌, ◌*◌, ◌/◌, min, cond, List, [], ◌∷◌, ◌++◌, ltb, length, replicate, Option, Some, None}
 use Prim.Native.Char.{code}
 use Rattle.grammar.specs.Limits.{record_words}
 use Rattle.grammar.specs.Notation.{text}
 use Rattle.grammar.specs.Tree.{start_of, end_of}
 use Rattle.rules.specs.Readings.{Typed}
-use Rattle.walker.specs.declared.records.Seen.{Seen}
-use Rattle.walker.specs.declared.records.Seen.TheVariants.{Record, Nothing}
+use Rattle.walker.specs.declared.records.Record.{Record}
 use Rattle.walker.specs.Seeing.{seen_at, place_after, part_of}
 use Rattle.trees.specs.Escapes.{shown}
 use Rattle.trees.specs.Nesting.{still_open, open_after}
@@ -41,9 +40,9 @@ right_text S T m a e t f = text ": " ++ (type_text S T t f ++ (text " = " ++ (va
 
 -- over a schema, its table, a message, its record words and the room for ends; at a place within open records
 module _ (S T m ws : List ℕ) (room : ℕ) where
-  abbrev pub record_line : ℕ → List ℕ → Seen → List ℕ
-  record_line n es Nothing = []
-  record_line n es (Record a e t f) = left_text T m ws n a (length (still_open a es)) ++ right_text S T m a e t f
+  abbrev pub record_line : ℕ → List ℕ → Option Record → List ℕ
+  record_line n es None = []
+  record_line n es (Some r) = left_text T m ws n r.start (length (still_open r.start es)) ++ right_text S T m r.start r.end r.reference r.array
 
   unfoldable pub line_at : ℕ → List ℕ → List ℕ
   line_at n es = record_line n es (seen_at ws n)

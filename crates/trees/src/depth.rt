@@ -1,34 +1,65 @@
-// The records open around a record: their ends, in lent words, the innermost last.
-ghost use Rattle.std.specs.Prelude.{◌≤◌, ◌≡◌, length};
-ghost use Rattle.trees.specs.Backwards.{back, before};
+// The records open around a record, by their ends.
+ghost use Rattle.std.specs.Prelude.{◌≡◌, ◌≤◌, ℕ, List, [], length};
+ghost use Rattle.trees.specs.Backwards.{back};
 ghost use Rattle.trees.specs.Nesting.{still_open, opened};
 
-use rows::rows::wide;
-use walker::records::least;
+use std::marker::Model;
 
-// How many of the records around go on after a start.
-pub fn still_open(ends: &[u32], around: usize, start: usize) -> usize
-    ensures result_value { back ends.now result ≡ still_open start (before ends.now around) }
-    ensures upper_bound { result ≤ length ends.now }
-{
-    let mut k = least(around, ends.len());
-    while 0 < k {
-        if start < wide(ends[k - 1]) {
-            return k;
-        }
-        k -= 1;
-    }
-    k
+#[derive(Drop)]
+pub struct Around<const M: usize> {
+    ends: [u32; M],
+    count: usize,
 }
 
-// Opens a record within those around it, where there is room for its end.
-pub fn open_record(ends: &mut [u32], around: usize, end: u32) -> usize
-    requires { around ≤ length ends.old }
-    ensures { before ends.new result ≡ opened (length ends.old) end (back ends.old around) }
-{
-    if around == ends.len() {
-        return around;
+// Clauses see the ends, the innermost first.
+impl<const M: usize> Model for Around<M> {
+    ghost Value = { List ℕ };
+
+    ghost view = { λ a. back a.ends a.count };
+
+    ghost invariant = { λ a. a.count ≤ M };
+}
+
+impl<const M: usize> Around<M> {
+    #[tactic(auto, using(std::proofs::lemmas::Grind::common_steps, crate::proofs::BackLaws::back_none))]
+    pub fn new() -> Self
+        ensures { result ≡ [] }
+    {
+        Around {
+            ends: [0; M],
+            count: 0,
+        }
     }
-    ends[around] = end;
-    around + 1
+
+    #[tactic(auto, using(std::proofs::lemmas::Grind::common_steps, crate::proofs::BackLaws::back_length))]
+    pub fn len(&self) -> usize
+        ensures { result ≡ length self.now }
+    {
+        self.count
+    }
+
+    // Leaves those that go on after a start.
+    #[tactic(auto, using(std::proofs::lemmas::Grind::common_steps, crate::proofs::BackLaws::back_next, crate::proofs::BackLaws::back_start, crate::proofs::NestLaws::still_on, crate::proofs::NestLaws::still_stop, crate::proofs::NestLaws::still_none))]
+    pub fn shut(&mut self, start: usize)
+        ensures { self.new ≡ still_open start self.old }
+    {
+        for i in (0..self.count).rev() {
+            if start < self.ends[i] as usize {
+                self.count = i + 1;
+                return;
+            }
+        }
+        self.count = 0;
+    }
+
+    // Opens a record within them, where there is room for its end.
+    #[tactic(auto, using(std::proofs::lemmas::Grind::common_steps, crate::proofs::BackLaws::back_next, crate::proofs::BackLaws::back_set, crate::proofs::BackLaws::back_length, crate::proofs::NestLaws::opened_one, crate::proofs::NestLaws::opened_full))]
+    pub fn open(&mut self, end: u32)
+        ensures { self.new ≡ opened M end self.old }
+    {
+        if self.count < M {
+            self.ends[self.count] = end;
+            self.count += 1;
+        }
+    }
 }

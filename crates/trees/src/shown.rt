@@ -1,82 +1,53 @@
-// Bytes put into lent bytes as a terminal may have them.
-ghost use Rattle.std.specs.Prelude.{◌≡◌, ◌+◌, ◌*◌, ◌≤◌, ◌<◌, length};
-ghost use Rattle.lines.specs.Serving.Puts.{Puts};
-ghost use Rattle.trees.specs.Escapes.{shown_digit, hex_byte, shown_byte, shown_bytes, shown};
+// Bytes put on a page as a terminal may have them.
+ghost use Rattle.std.specs.Prelude.{◌≡◌, ◌+◌, ◌*◌, ◌≤◌, ◌<◌, ◌++◌, length};
+ghost use Rattle.trees.specs.Escapes.{shown_digit, shown_byte, shown_bytes, shown};
 ghost use Rattle.trees.specs.Serving.Rooms.{escape_bytes, shown_room};
 
-use lines::ends::keep;
+use lines::page::Page;
 use rules::NAME_BYTES;
-use walker::records::least;
 
 // Room for what is shown of bytes: the longest name, each byte escaped, and three dots.
 pub const SHOWN_ROOM: usize = 4 * NAME_BYTES + 3;
 
-// Bytes as they are.
-pub fn put_bytes(out: &mut [u8], at: usize, bytes: &[u8]) -> usize
-    requires { at + length bytes.now ≤ length out.old }
-    ensures { Puts bytes.now at out.old out.new result }
-{
-    keep(out, at, bytes)
-}
-
+#[tactic(auto, using(std::proofs::lemmas::Grind::common_steps, crate::proofs::ShownLaws::low_digit, crate::proofs::ShownLaws::high_digit))]
 fn hex_digit(d: u8) -> u8
     requires { d < 16 }
     ensures { result ≡ shown_digit d }
 {
-    if d < 10 {
-        return b'0' + d;
-    }
-    b'a' + (d - 10)
+    if d < 10 { b'0' + d } else { b'a' + (d - 10) }
 }
 
-fn put_hex(out: &mut [u8], at: usize, b: u8) -> usize
-    requires { at + escape_bytes ≤ length out.old }
-    ensures { Puts (hex_byte b) at out.old out.new result }
+#[tactic(auto, using(std::proofs::lemmas::Grind::common_steps, crate::proofs::ShownLaws::low_byte, crate::proofs::ShownLaws::high_byte, crate::proofs::ShownLaws::plain_byte))]
+fn put_byte<const N: usize>(out: &mut Page<N>, b: u8)
+    requires { length out.old + escape_bytes ≤ N }
+    ensures { out.new ≡ out.old ++ shown_byte b }
 {
-    let h = [b'\\', b'x', hex_digit(b / 16), hex_digit(b % 16)];
-    put_bytes(out, at, &h)
-}
-
-fn put_byte(out: &mut [u8], at: usize, b: u8) -> usize
-    requires { at + escape_bytes ≤ length out.old }
-    ensures puts { Puts (shown_byte b) at out.old out.new result }
-    ensures upper_bound { result ≤ at + escape_bytes }
-{
-    if b < 0x20 {
-        return put_hex(out, at, b);
+    if b < 0x20 || 0x7E < b {
+        out.put(&[b'\\', b'x', hex_digit(b / 16), hex_digit(b % 16)]);
+    } else {
+        out.push(b);
     }
-    if 0x7E < b {
-        return put_hex(out, at, b);
-    }
-    out[at] = b;
-    at + 1
 }
 
 // Each byte as a terminal may have it.
-pub fn put_each(out: &mut [u8], at: usize, bytes: &[u8]) -> usize
-    requires { at + escape_bytes * length bytes.now ≤ length out.old }
-    ensures puts { Puts (shown_bytes bytes.now) at out.old out.new result }
-    ensures upper_bound { result ≤ at + escape_bytes * length bytes.now }
+#[tactic(auto, using(std::proofs::lemmas::Grind::common_steps, crate::proofs::ShownLaws::byte_length, crate::proofs::ShownLaws::shown_next, crate::proofs::ShownLaws::shown_none))]
+pub fn put_each<const N: usize>(out: &mut Page<N>, bytes: &[u8])
+    requires { length out.old + escape_bytes * length bytes.now ≤ N }
+    ensures { out.new ≡ out.old ++ shown_bytes bytes.now }
 {
-    let mut p = at;
-    let mut i = 0;
-    while i < bytes.len() {
-        p = put_byte(out, p, bytes[i]);
-        i += 1;
+    for b in bytes {
+        put_byte(out, *b);
     }
-    p
 }
 
 // Bytes cut to the longest name, with dots where there is more.
-pub fn put_shown(out: &mut [u8], at: usize, bytes: &[u8]) -> usize
-    requires { at + shown_room ≤ length out.old }
-    ensures puts { Puts (shown bytes.now) at out.old out.new result }
-    ensures upper_bound { result ≤ at + shown_room }
+#[tactic(auto, using(std::proofs::lemmas::Grind::common_steps, crate::proofs::ShownLaws::each_length, crate::proofs::ShownLaws::shown_long, crate::proofs::ShownLaws::shown_short))]
+pub fn put_shown<const N: usize>(out: &mut Page<N>, bytes: &[u8])
+    requires { length out.old + shown_room ≤ N }
+    ensures { out.new ≡ out.old ++ shown bytes.now }
 {
-    let n = least(NAME_BYTES, bytes.len());
-    let p = put_each(out, at, &bytes[0..n]);
+    put_each(out, &bytes[..NAME_BYTES.min(bytes.len())]);
     if NAME_BYTES < bytes.len() {
-        return put_bytes(out, p, b"...");
+        out.put(b"...");
     }
-    p
 }

@@ -1,18 +1,15 @@
-// The records of a message as lines of a tree, put into lent bytes.
-ghost use Rattle.std.specs.Prelude.{◌+◌, ◌≤◌, ◌≡◌, length, replicate};
+// The records of a message as lines of a tree, put on a page.
+ghost use Rattle.std.specs.Prelude.{◌≡◌, ◌+◌, ◌≤◌, ◌++◌, length};
 ghost use Rattle.walker.specs.Seeing.{seen_at};
-ghost use Rattle.lines.specs.Serving.Puts.{Puts};
-ghost use Rattle.trees.specs.Backwards.{before};
 ghost use Rattle.trees.specs.Serving.Rooms.{shown_room, indent_room, left_room, right_room, line_room};
-ghost use Rattle.trees.specs.TreeText.{indent_text, value_text, left_text, right_text};
-ghost use Rattle.trees.specs.Serving.Asks.{One};
+ghost use Rattle.trees.specs.TreeText.{indent_text, value_text, left_text, right_text, line_at, open_then};
 
-use crate::depth::{open_record, still_open};
+use crate::depth::Around;
 use crate::labels::put_label;
-use crate::shown::{SHOWN_ROOM, put_bytes, put_shown};
-use crate::types::{TYPE_ROOM, put_type};
-use rows::rows::wide;
-use walker::records::{Seen, least, part_of};
+use crate::shown::{SHOWN_ROOM, put_shown};
+use crate::types::{TYPE_ROOM, Types};
+use lines::page::Page;
+use walker::records::{Record, part_of};
 
 // The most levels that a line is indented by; the records of an accepted message have fewer.
 const DEEPEST: usize = 80;
@@ -24,132 +21,74 @@ const RIGHT_ROOM: usize = TYPE_ROOM + SHOWN_ROOM + 6;
 
 pub const LINE_ROOM: usize = LEFT_ROOM + RIGHT_ROOM;
 
-// The number of the record that is shown next, how many are open around it, and the place after the lines put.
+// What a tree is made of: the records of a message, and the types that they are of.
 #[derive(Clone, Copy)]
-pub struct Progress {
-    pub next: usize,
-    pub around: usize,
-    pub at: usize,
+pub struct Tree<'a> {
+    pub types: Types<'a>,
+    pub message: &'a [u8],
+    pub records: &'a [u32],
 }
 
-// What a record says of a value: where it stands in the message, and its type.
-#[derive(Clone, Copy)]
-struct Typed {
-    start: usize,
-    end: usize,
-    reference: u32,
-    array: u32,
-}
-
-// So many spaces.
-pub fn put_spaces(out: &mut [u8], at: usize, count: usize) -> usize
-    requires { at + count ≤ length out.old }
-    ensures { Puts (replicate count 32) at out.old out.new result }
+#[tactic(auto, using(std::proofs::lemmas::Grind::common_steps, crate::proofs::TreeLaws::indent_is))]
+fn put_indent<const N: usize>(depth: usize, out: &mut Page<N>)
+    requires { length out.old + indent_room ≤ N }
+    ensures { out.new ≡ out.old ++ indent_text depth }
 {
-    let mut i = 0;
-    while i < count {
-        out[at + i] = b' ';
-        i += 1;
-    }
-    at + i
+    out.put_spaces(2 * (1 + depth.min(DEEPEST)));
 }
 
-fn put_indent(out: &mut [u8], at: usize, around: usize) -> usize
-    requires { at + indent_room ≤ length out.old }
-    ensures puts { Puts (indent_text around) at out.old out.new result }
-    ensures upper_bound { result ≤ at + indent_room }
-{
-    put_spaces(out, at, 2 * (1 + least(around, DEEPEST)))
-}
-
-fn put_value(message: &[u8], start: usize, end: usize, out: &mut [u8], at: usize) -> usize
-    requires { at + shown_room ≤ length out.old }
-    ensures puts { Puts (value_text message.now start end) at out.old out.new result }
-    ensures upper_bound { result ≤ at + shown_room }
+#[tactic(auto, using(std::proofs::lemmas::Grind::common_steps, crate::proofs::TreeLaws::value_absent, crate::proofs::TreeLaws::value_there))]
+fn put_value<const N: usize>(message: &[u8], start: usize, end: usize, out: &mut Page<N>)
+    requires { length out.old + shown_room ≤ N }
+    ensures { out.new ≡ out.old ++ value_text message.now start end }
 {
     let value = part_of(message, start, end);
     if value.len() == 0 {
-        return put_bytes(out, at, b"(absent)");
+        out.put(b"(absent)");
+    } else {
+        put_shown(out, value);
     }
-    put_shown(out, at, value)
 }
 
 // The indent and the label of the record with a number.
-fn put_left(
-    table: &[u32],
-    message: &[u8],
-    records: &[u32],
-    n: usize,
-    start: usize,
-    around: usize,
-    out: &mut [u8],
-    at: usize,
-) -> usize
-    requires { at + left_room ≤ length out.old }
-    ensures puts { Puts (left_text table.now message.now records.now n start around) at out.old out.new result }
-    ensures upper_bound { result ≤ at + left_room }
+#[tactic(auto, using(std::proofs::lemmas::Grind::common_steps, crate::proofs::TreeLaws::left_is, crate::proofs::TreeLaws::indent_length))]
+fn put_left<const N: usize>(tree: &Tree, n: usize, start: usize, depth: usize, out: &mut Page<N>)
+    requires { length out.old + left_room ≤ N }
+    ensures { out.new ≡ out.old ++ left_text tree.now.types.table.now tree.now.message.now tree.now.records.now n start depth }
 {
-    let p = put_indent(out, at, around);
-    put_label(table, message, records, n, start, out, p)
+    put_indent(depth, out);
+    put_label(tree, n, start, out);
 }
 
 // The type and the text of a record, to the end of its line.
-fn put_right(
-    schema: &[u8],
-    table: &[u32],
-    message: &[u8],
-    value: Typed,
-    out: &mut [u8],
-    at: usize,
-) -> usize
-    requires { at + right_room ≤ length out.old }
-    ensures { Puts (right_text schema.now table.now message.now value.start value.end value.reference value.array) at out.old out.new result }
+#[tactic(auto, using(std::proofs::lemmas::Grind::common_steps, crate::proofs::TreeLaws::right_is, crate::proofs::TypeLaws::type_length, crate::proofs::TreeLaws::value_length))]
+fn put_right<const N: usize>(tree: &Tree, seen: Record, out: &mut Page<N>)
+    requires { length out.old + right_room ≤ N }
+    ensures { out.new ≡ out.old ++ right_text tree.now.types.schema.now tree.now.types.table.now tree.now.message.now seen.start seen.end seen.reference seen.array }
 {
-    let a = put_bytes(out, at, b": ");
-    let b = put_type(schema, table, value.reference, value.array, out, a);
-    let c = put_bytes(out, b, b" = ");
-    let d = put_value(message, value.start, value.end, out, c);
-    put_bytes(out, d, b"\n")
+    out.put(b": ");
+    tree.types.put_type(seen.reference, seen.array, out);
+    out.put(b" = ");
+    put_value(tree.message, seen.start as usize, seen.end as usize, out);
+    out.push(b'\n');
 }
 
-// Puts the line of the record seen at a place, within those around it, and opens that record; or there is none, and nothing is put.
-pub fn put_record(
-    schema: &[u8],
-    table: &[u32],
-    message: &[u8],
-    records: &[u32],
-    seen: Seen,
-    from: Progress,
-    ends: &mut [u32],
-    out: &mut [u8],
-) -> Progress
-    requires { (seen ≡ seen_at records.now from.next) × (from.at + line_room ≤ length out.old) }
-    ensures { One schema.now table.now message.now records.now (length ends.old) from.next (before ends.old from.around) from.at out.old out.new result.next (before ends.new result.around) result.at }
+// Puts the line of the record with a number, within those around it, and opens that record.
+#[tactic(auto, using(std::proofs::lemmas::Grind::common_steps, crate::proofs::TreeLaws::line_is, crate::proofs::TreeLaws::open_is, crate::proofs::TreeLaws::left_is, crate::proofs::TreeLaws::indent_length, crate::proofs::LabelLaws::label_length))]
+pub fn put_record<const M: usize, const N: usize>(
+    tree: &Tree,
+    n: usize,
+    seen: Record,
+    around: &mut Around<M>,
+    out: &mut Page<N>,
+)
+    requires { (Some seen ≡ seen_at tree.now.records.now n) × (length out.old + line_room ≤ N) }
+    ensures puts { out.new ≡ out.old ++ line_at tree.now.types.schema.now tree.now.types.table.now tree.now.message.now tree.now.records.now M n around.old }
+    ensures opens { around.new ≡ open_then tree.now.types.schema.now tree.now.types.table.now tree.now.message.now tree.now.records.now M n around.old }
 {
-    let n = from.next;
-    match seen {
-        Seen::Nothing => Progress {
-            next: n,
-            around: from.around,
-            at: from.at,
-        },
-        Seen::Record(start, end, reference, array) => {
-            let a = wide(start);
-            let k = still_open(ends, from.around, a);
-            let p = put_left(table, message, records, n, a, k, out, from.at);
-            let value = Typed {
-                start: a,
-                end: wide(end),
-                reference,
-                array,
-            };
-            let e = put_right(schema, table, message, value, out, p);
-            let inside = open_record(ends, k, end);
-            Progress {
-                next: n + 1,
-                around: inside,
-                at: e,
-            }
-        }
-    }
+    let start = seen.start as usize;
+    around.shut(start);
+    put_left(tree, n, start, around.len(), out);
+    put_right(tree, seen, out);
+    around.open(seen.end);
 }

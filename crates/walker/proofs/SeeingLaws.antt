@@ -1,4 +1,4 @@
--- What is seen at a place, from the words there; and the part of a message between two places.
+-- What is seen at a place, from the words there.
 use Prim.Native.Nat.{ℕ, suc, ◌+◌, ◌-◌, ◌*◌, ◌/◌, ◌≤◌, ◌<◌, min}
 use native.Mathlib.Nat.{min-eq_left, min-eq_right, le_of_lt}
 use native.Mathlib.Numerals.{add-one}
@@ -11,44 +11,43 @@ use borrow.Author.Tests.{leb-true, leb-false}
 use lib.ListN.{length, take, drop, get_or, length-drop}
 use lib.Seq.{drop-cons, take_all}
 use Rattle.grammar.specs.Limits.{record_words}
-use Rattle.grammar.proofs.Booleans.{min_right}
-use Rattle.walker.specs.declared.records.Seen.{Seen}
-use Rattle.walker.specs.declared.records.Seen.TheVariants.{Record, Nothing}
-use Rattle.walker.specs.Seeing.{first_seen, seen_at, place_from, place_after, part_of}
+use Rattle.std.specs.Prelude.{Option, Some, None}
+use Rattle.walker.specs.declared.records.Record.{Record}
+use Rattle.walker.specs.Seeing.{whole, first_seen, seen_at, place_from, place_after, part_of}
 
 -- four words are a record, fewer are none
 four : (ws : List ℕ) (at : ℕ) → at + 3 < length ws → drop at ws ≡ get_or ws at 0 ∷ get_or ws (suc at) 0 ∷ get_or ws (suc (suc at)) 0 ∷ get_or ws (suc (suc (suc at))) 0 ∷ drop (suc (suc (suc (suc at)))) ws
 four ws at h = rw (drop-cons ws at 0 (omega arith), drop-cons ws (suc at) 0 (omega arith), drop-cons ws (suc (suc at)) 0 (omega arith), drop-cons ws (suc (suc (suc at))) 0 (omega arith)) refl
 
-few : (ws : List ℕ) → length ws < record_words → Nothing ≡ first_seen ws
+few : (ws : List ℕ) → length ws < record_words → None ≡ first_seen ws
 few [] h = refl
 few (a ∷ []) h = refl
 few (a ∷ b ∷ []) h = refl
 few (a ∷ b ∷ c ∷ []) h = refl
 few (a ∷ b ∷ c ∷ d ∷ ws) h = absurd (omega arith)
 
-pub seen_whole : (ws : List ℕ) (n at : ℕ) → at ≡ record_words * n → n < length ws / record_words → Record (get_or ws at 0) (get_or ws (at + 1) 0) (get_or ws (at + 2) 0) (get_or ws (at + 3) 0) ≡ seen_at ws n
+pub seen_whole : (ws : List ℕ) (n at : ℕ) → at ≡ record_words * n → n < length ws / record_words → whole (get_or ws at 0) (get_or ws (at + 1) 0) (get_or ws (at + 2) 0) (get_or ws (at + 3) 0) ≡ seen_at ws n
 unfolding seen_at
 seen_whole ws n at e h =
     let p : at + 1 ≡ suc at = omega arith in
     let q : at + 2 ≡ suc (suc at) = omega arith in
     let r : at + 3 ≡ suc (suc (suc at)) = omega arith in
     let f = four ws at (omega arith) in
-    let g : Record (get_or ws at 0) (get_or ws (at + 1) 0) (get_or ws (at + 2) 0) (get_or ws (at + 3) 0) ≡ Record (get_or ws at 0) (get_or ws (suc at) 0) (get_or ws (suc (suc at)) 0) (get_or ws (suc (suc (suc at))) 0) = cc in
+    let g : whole (get_or ws at 0) (get_or ws (at + 1) 0) (get_or ws (at + 2) 0) (get_or ws (at + 3) 0) ≡ whole (get_or ws at 0) (get_or ws (suc at) 0) (get_or ws (suc (suc at)) 0) (get_or ws (suc (suc (suc at))) 0) = cc in
     g ∙ ap first_seen (sym f) ∙ ap (λ (k : ℕ). first_seen (drop k ws)) e
 
-pub seen_none : (ws : List ℕ) (n : ℕ) → length ws / record_words ≤ n → Nothing ≡ seen_at ws n
+pub seen_none : (ws : List ℕ) (n : ℕ) → length ws / record_words ≤ n → None ≡ seen_at ws n
 unfolding seen_at
 seen_none ws n h = few (drop (record_words * n) ws) (simp length-drop (omega arith))
 
 -- the place after a whole record, and at the end
 pub after-whole : (ws : List ℕ) (n : ℕ) → n < length ws / record_words → n + 1 ≡ place_after ws n
 unfolding place_after
-after-whole ws n h = add-one n ∙ ap (λ (s : Seen). place_from s n) (seen_whole ws n (record_words * n) refl h)
+after-whole ws n h = add-one n ∙ ap (λ (s : Option Record). place_from s n) (seen_whole ws n (record_words * n) refl h)
 
 pub after-end : (ws : List ℕ) (n : ℕ) → length ws / record_words ≤ n → n ≡ place_after ws n
 unfolding place_after
-after-end ws n h = ap (λ (s : Seen). place_from s n) (seen_none ws n h)
+after-end ws n h = ap (λ (s : Option Record). place_from s n) (seen_none ws n h)
 
 -- where the place moves, and where a record is seen, there is one; where it stays there is none
 pub moved-below : (ws : List ℕ) (n : ℕ) → (place_after ws n ≡ n → ⊥) → n < length ws / record_words
@@ -65,33 +64,6 @@ stayed-end ws n e = go (leb (length ws / record_words) n) refl
     go true k = leb-true (length ws / record_words) n k
     go false k = let z : n + 1 ≡ n = after-whole ws n (leb-false (length ws / record_words) n k) ∙ e in absurd (omega arith)
 
-pub seen_below : (ws : List ℕ) (n : ℕ) {a b c d : ℕ} → seen_at ws n ≡ Record a b c d → n < length ws / record_words
+pub seen_below : (ws : List ℕ) (n : ℕ) {r : Record} → seen_at ws n ≡ Some r → n < length ws / record_words
 unfolding place_after
-seen_below ws n e = moved-below ws n (λ f. let z : suc n ≡ n = sym (ap (λ (s : Seen). place_from s n) e) ∙ f in omega arith)
-
--- an end past the message is as good as its end
-end_cut : (m : List ℕ) (start end to : ℕ) (t : Bool) → leb end (length m) ≡ t → to ≡ min end (length m) → take (to - start) (drop start m) ≡ take (end - start) (drop start m)
-end_cut m start end to true h e = ap (λ (k : ℕ). take (k - start) (drop start m)) (e ∙ min-eq_left (leb-true end (length m) h))
-end_cut m start end to false h e =
-    let k : length m < end = leb-false end (length m) h in
-    let l : to ≡ length m = e ∙ min-eq_right (le_of_lt k) in
-    let p : length (drop start m) ≤ to - start = simp length-drop (omega arith) in
-    let q : length (drop start m) ≤ end - start = simp length-drop (omega arith) in
-    take_all (to - start) (drop start m) p ∙ sym (take_all (end - start) (drop start m) q)
-
--- and a start past the end leaves nothing
-start_cut : (m : List ℕ) (start to from : ℕ) (t : Bool) → leb start to ≡ t → to ≤ length m → from ≡ min start to → take (to - from) (drop from m) ≡ take (to - start) (drop start m)
-start_cut m start to from true h l e = ap (λ (k : ℕ). take (to - k) (drop k m)) (e ∙ min-eq_left (leb-true start to h))
-start_cut m start to from false h l e =
-    let k : to < start = leb-false start to h in
-    let f : from ≡ to = e ∙ min-eq_right (le_of_lt k) in
-    let p : to - from ≡ 0 = omega arith in
-    let q : to - start ≡ 0 = omega arith in
-    ap (λ (n : ℕ). take n (drop from m)) p ∙ ap (λ (n : ℕ). take n (drop start m)) (sym q)
-
--- the part with both places cut to the message
-pub part-within : (m : List ℕ) (start end : ℕ) {to from : ℕ} → to ≡ min end (length m) → from ≡ min start to → take (to - from) (drop from m) ≡ part_of m start end
-unfolding part_of
-part-within m start end {to} {from} e f =
-    let l : to ≤ length m = omega (arith, e, min_right end (length m)) in
-    start_cut m start to from (leb start to) refl l f ∙ end_cut m start end to (leb end (length m)) refl e
+seen_below ws n e = moved-below ws n (λ f. let z : suc n ≡ n = sym (ap (λ (s : Option Record). place_from s n) e) ∙ f in omega arith)

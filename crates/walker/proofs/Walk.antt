@@ -14,36 +14,36 @@ use Rattle.rules.specs.MessageAnswers.{Readable}
 use Rattle.rules.specs.Serving.Answers.{message_result}
 use Rattle.rules.specs.Demands.{Gives}
 use Rattle.rules.proofs.Acceptance.{accepted-gives}
-use Rattle.walker.specs.declared.records.Seen.{Seen}
-use Rattle.walker.specs.declared.records.Seen.TheVariants.{Record, Nothing}
-use Rattle.walker.specs.Seeing.{first_seen, seen_at, place_from, place_after}
+use Rattle.std.specs.Prelude.{Option, Some, None}
+use Rattle.walker.specs.declared.records.Record.{Record}
+use Rattle.walker.specs.Seeing.{whole, first_seen, seen_at, place_from, place_after}
 use Rattle.walker.specs.Walk.{asked, place_then, seen_of}
 use Rattle.walker.proofs.SeeingLaws.{seen_none}
 
 -- ---- any words
-pub zeros-are-a_record : (ws : List ℕ) → seen_at (0 ∷ 0 ∷ 0 ∷ 0 ∷ ws) 0 ≡ Record 0 0 0 0
+pub zeros-are-a_record : (ws : List ℕ) → seen_at (0 ∷ 0 ∷ 0 ∷ 0 ∷ ws) 0 ≡ whole 0 0 0 0
 unfolding seen_at
 zeros-are-a_record ws = refl
 
-pub left-over-is-nothing : (ws : List ℕ) (n : ℕ) → length ws < record_words * (n + 1) → seen_at ws n ≡ Nothing
+pub left-over-is-nothing : (ws : List ℕ) (n : ℕ) → length ws < record_words * (n + 1) → seen_at ws n ≡ None
 left-over-is-nothing ws n h = sym (seen_none ws n (omega arith))
 
 -- where nothing is seen, nothing is seen for ever, and the place stays
-pub stays : (ws : List ℕ) (n : ℕ) → seen_at ws n ≡ Nothing → (k : ℕ) → (asked ws k n ≡ replicate k Nothing) × (place_then ws k n ≡ n)
+pub stays : (ws : List ℕ) (n : ℕ) → seen_at ws n ≡ None → (k : ℕ) → (asked ws k n ≡ replicate k None) × (place_then ws k n ≡ n)
 unfolding asked place_then place_after
 stays ws n e zero = (refl, refl)
 stays ws n e (suc k) =
-    let p : place_after ws n ≡ n = ap (λ (s : Seen). place_from s n) e in
+    let p : place_after ws n ≡ n = ap (λ (s : Option Record). place_from s n) e in
     let q = stays ws n e k in
-    (ap (λ (s : Seen). s ∷ asked ws k (place_after ws n)) e ∙ ap (λ (i : ℕ). Nothing ∷ asked ws k i) p ∙ ap (λ (l : List Seen). Nothing ∷ l) q.0, ap (λ (i : ℕ). place_then ws k i) p ∙ q.1)
+    (ap (λ (s : Option Record). s ∷ asked ws k (place_after ws n)) e ∙ ap (λ (i : ℕ). None ∷ asked ws k i) p ∙ ap (λ (l : List (Option Record)). None ∷ l) q.0, ap (λ (i : ℕ). place_then ws k i) p ∙ q.1)
 
 -- ---- behind a first record
 four-more : (n : ℕ) → record_words * suc n ≡ suc (suc (suc (suc (record_words * n))))
 four-more n = omega arith
 
-one_on : (s : Seen) (n : ℕ) → place_from s (suc n) ≡ suc (place_from s n)
-one_on (Record a b c d) n = refl
-one_on Nothing n = refl
+one_on : (s : Option Record) (n : ℕ) → place_from s (suc n) ≡ suc (place_from s n)
+one_on (Some r) n = refl
+one_on None n = refl
 
 module _ (t : Typed) (ws : List ℕ) where
   behind : (n : ℕ) → seen_at (record_of t ++ ws) (suc n) ≡ seen_at ws n
@@ -52,14 +52,14 @@ module _ (t : Typed) (ws : List ℕ) where
 
   behind-place : (n : ℕ) → place_after (record_of t ++ ws) (suc n) ≡ suc (place_after ws n)
   unfolding place_after
-  behind-place n = ap (λ (s : Seen). place_from s (suc n)) (behind n) ∙ one_on (seen_at ws n) n
+  behind-place n = ap (λ (s : Option Record). place_from s (suc n)) (behind n) ∙ one_on (seen_at ws n) n
 
   behind-asked : (k n : ℕ) → asked (record_of t ++ ws) k (suc n) ≡ asked ws k n
   unfolding asked
   behind-asked zero n = refl
   behind-asked (suc k) n =
-      ap (λ (s : Seen). s ∷ asked (record_of t ++ ws) k (place_after (record_of t ++ ws) (suc n))) (behind n)
-      ∙ ap (λ (i : ℕ). seen_at ws n ∷ asked (record_of t ++ ws) k i) (behind-place n) ∙ ap (λ (l : List Seen). seen_at ws n ∷ l) (behind-asked k (place_after ws n))
+      ap (λ (s : Option Record). s ∷ asked (record_of t ++ ws) k (place_after (record_of t ++ ws) (suc n))) (behind n)
+      ∙ ap (λ (i : ℕ). seen_at ws n ∷ asked (record_of t ++ ws) k i) (behind-place n) ∙ ap (λ (l : List (Option Record)). seen_at ws n ∷ l) (behind-asked k (place_after ws n))
 
   behind-then : (k n : ℕ) → place_then (record_of t ++ ws) k (suc n) ≡ suc (place_then ws k n)
   unfolding place_then
@@ -73,12 +73,12 @@ zero_more k = omega arith
 suc-more : (n k : ℕ) → suc n + k ≡ suc (n + k)
 suc-more n k = omega arith
 
-gives-records : (ts : List Typed) (k : ℕ) → asked (records_of ts) (length ts + k) 0 ≡ map seen_of ts ++ replicate k Nothing
+gives-records : (ts : List Typed) (k : ℕ) → asked (records_of ts) (length ts + k) 0 ≡ map seen_of ts ++ replicate k None
 unfolding asked place_after seen_at
 gives-records [] k = ap (λ (i : ℕ). asked [] i 0) (zero_more k) ∙ (stays [] 0 refl k).0
 gives-records (t ∷ ts) k =
     ap (λ (i : ℕ). asked (records_of (t ∷ ts)) i 0) (suc-more (length ts) k)
-    ∙ ap (λ (l : List Seen). seen_of t ∷ l) (behind-asked t (records_of ts) (length ts + k) 0 ∙ gives-records ts k)
+    ∙ ap (λ (l : List (Option Record)). seen_of t ∷ l) (behind-asked t (records_of ts) (length ts + k) 0 ∙ gives-records ts k)
 
 ends-after : (ts : List Typed) (k : ℕ) → place_then (records_of ts) (length ts + k) 0 ≡ length ts
 unfolding place_then place_after seen_at
@@ -96,7 +96,7 @@ pub record Walked (S T m : List ℕ) (c n : ℕ) (words : List ℕ) : Type 0 whe
   pub row : c ≡ wanted.second
   pub readable : Readable S T m wanted reading
   pub count : n ≡ length reading
-  pub gives : (k : ℕ) → asked (take (record_words * n) words) (n + k) 0 ≡ map seen_of reading ++ replicate k Nothing
+  pub gives : (k : ℕ) → asked (take (record_words * n) words) (n + k) 0 ≡ map seen_of reading ++ replicate k None
   pub stays_there : (k : ℕ) → place_then (take (record_words * n) words) (n + k) 0 ≡ n
 
 pub gives-walked : {S T m words : List ℕ} {room c n : ℕ} → Gives S T m room c n words → Walked S T m c n words

@@ -1,25 +1,28 @@
 -- Reference, Viewer: what a walk sees of records: the next whole one, or nothing; where it asks next; and the text that a record is about. Any words, any place.
-use Rattle.std.specs.Prelude.{ℕ, suc, ◌-◌, ◌*◌, List, [], ◌∷◌, take, drop}
+use Rattle.std.specs.Prelude.{ℕ, suc, ◌-◌, ◌*◌, List, [], ◌∷◌, take, drop, Option, Some, None}
 use Rattle.grammar.specs.Limits.{record_words}
-use Rattle.walker.specs.declared.records.Seen.{Seen}
-use Rattle.walker.specs.declared.records.Seen.TheVariants.{Record, Nothing}
+use Rattle.walker.specs.declared.records.Record.{Record}
 use Rattle.walker.specs.declared.reader.Reader.{Reader}
 
--- the first whole record of words: start, end, type reference, 1 if array
-abbrev pub first_seen : List ℕ → Seen
-first_seen [] = Nothing
-first_seen (a ∷ []) = Nothing
-first_seen (a ∷ b ∷ []) = Nothing
-first_seen (a ∷ b ∷ c ∷ []) = Nothing
-first_seen (a ∷ b ∷ c ∷ d ∷ ws) = Record a b c d
+-- four words as a record: start, end, type reference, 1 if array
+abbrev pub whole : ℕ → ℕ → ℕ → ℕ → Option Record
+whole a b c d = Some (record { start = a; end = b; reference = c; array = d })
+
+-- the first whole record of words
+abbrev pub first_seen : List ℕ → Option Record
+first_seen [] = None
+first_seen (a ∷ []) = None
+first_seen (a ∷ b ∷ []) = None
+first_seen (a ∷ b ∷ c ∷ []) = None
+first_seen (a ∷ b ∷ c ∷ d ∷ ws) = whole a b c d
 
 -- the whole record number n, counted from 0
-unfoldable pub seen_at : List ℕ → ℕ → Seen
+unfoldable pub seen_at : List ℕ → ℕ → Option Record
 seen_at ws n = first_seen (drop (record_words * n) ws)
 
-abbrev pub place_from : Seen → ℕ → ℕ
-place_from (Record a b c d) n = suc n
-place_from Nothing n = n
+abbrev pub place_from : Option Record → ℕ → ℕ
+place_from (Some r) n = suc n
+place_from None n = n
 
 -- one on after a record; where there is none the place stays
 unfoldable pub place_after : List ℕ → ℕ → ℕ

@@ -2,7 +2,7 @@
 use Prim.Native.Nat.{ℕ}
 use mathlib.Core.Path.{◌≡◌, refl}
 use mathlib.Core.List.{List, [], ◌∷◌, ◌++◌, map}
-use mathlib.Core.Option.{some}
+use Rattle.std.specs.Prelude.{Some}
 use lib.ListN.{take}
 use Rattle.grammar.specs.Notation.{text}
 use Rattle.grammar.specs.Lexis.{blank}
@@ -25,7 +25,7 @@ use Rattle.console.specs.Program.{tree_lines, answer_text, answers_to, program_t
 
 -- what is written where the schema stands in the file and the message is a line of the input
 abbrev written : Case → Call → List ℕ
-written c m = program_text Tree (some (text c.schema)) (text m.message ++ (10 ∷ []))
+written c m = program_text Tree (Some (text c.schema)) (text m.message ++ (10 ∷ []))
 
 abbrev joined : List (List ℕ) → List ℕ
 joined [] = []
@@ -40,7 +40,7 @@ unfolding program_text answers_to answer_text tree_lines schema_result message_r
 p1_and_p2 = refl
 
 -- a schema that is refused is shown by its line and column, and nothing follows
-refused-schema : program_text Tree (some (text "{'struct':'a'," ++ (10 ∷ text " 'data':{'b':'int', 'b':'str'}}"))) (text "{}")
+refused-schema : program_text Tree (Some (text "{'struct':'a'," ++ (10 ∷ text " 'data':{'b':'int', 'b':'str'}}"))) (text "{}")
     ≡ joined (text "3 an object has a key twice" ∷ text "  line 2, column 21" ∷ text "   'data':{'b':'int', 'b':'str'}}" ∷ text "                      ^" ∷ [])
 unfolding program_text schema_result shown_bytes shown_byte back before_lf cut_from cut_to dots line_ends lead_text rest_text caret_text excerpt position_text position_line refused_line decimal_text
 refused-schema = refl

@@ -15,22 +15,22 @@ use Rattle.rules.specs.declared.MessageRefusal.TheVariants as M
 use Rattle.rules.specs.SchemaAnswers as Schemas
 use Rattle.rules.specs.MessageAnswers as Messages
 use Rattle.lines.specs.Text.{decimal_text}
-use Rattle.lines.proofs.TextLaws.{number-length}
+use Rattle.lines.proofs.TextLaws.{number_length}
 use Rattle.trees.specs.Backwards.{back}
 use Rattle.trees.specs.Escapes.{shown_byte, shown_bytes}
-use Rattle.trees.proofs.ShownLaws.{shown-append, shown-one, shown-none}
+use Rattle.trees.proofs.ShownLaws.{shown-append, shown_one, shown_none}
 use Rattle.wordings.specs.Excerpts.{most_columns, side_columns, columns_of, shuts, cut_from, cut_to, goes_on, dots, line_of, column_of, lead_text, rest_text, caret_text, position_text}
 use Rattle.wordings.specs.Wordings.{refused_line}
-use Rattle.wordings.proofs.ExcerptLaws.{not_shut, ends-few, column-few}
+use Rattle.wordings.proofs.ExcerptLaws.{not_shut, ends_few, column_few}
 
 abbrev width : List ℕ → ℕ
 width l = length (shown_bytes l)
 
 width-on : (l : List ℕ) (b : ℕ) → width (l ++ (b ∷ [])) ≡ width l + columns_of b
-width-on l b = ap length (shown-append l (b ∷ [])) ∙ length-append (shown_bytes l) (shown_bytes (b ∷ [])) ∙ ap (λ (x : List ℕ). width l + length x) (sym (shown-one b))
+width-on l b = ap length (shown-append l (b ∷ [])) ∙ length-append (shown_bytes l) (shown_bytes (b ∷ [])) ∙ ap (λ (x : List ℕ). width l + length x) (shown_one b)
 
 none-wide : (columns : ℕ) (l : List ℕ) (n : ℕ) → n ≡ 0 → width (take n l) ≤ columns
-none-wide columns l n e = let z : width (take n l) ≡ 0 = ap (λ (k : ℕ). width (take k l)) e ∙ ap length shown-none in omega arith
+none-wide columns l n e = let z : width (take n l) ≡ 0 = ap (λ (k : ℕ). width (take k l)) e ∙ ap length shown_none in omega arith
 
 -- ---- before the place
 from_low : (columns : ℕ) (s : List ℕ) (p : ℕ) → cut_from columns s p ≤ p
@@ -141,8 +141,8 @@ module _ (s : List ℕ) (p : ℕ) (h : p ≤ length s) where
         length-append (text "  line ") (decimal_text line ++ tail),
         length-append (decimal_text line) tail,
         length-append (text ", column ") (decimal_text column),
-        number-length line (omega (arith, ends-few s p)),
-        number-length column (omega (arith, column-few s p)),
+        number_length line (omega (arith, ends_few s p)),
+        number_length column (omega (arith, column_few s p)),
       )
 
 -- a refusal in words, with its LF

@@ -1,13 +1,11 @@
 // The line of a text around a place, cut to fit a terminal, and a caret under the byte there.
-ghost use Rattle.std.specs.Prelude.{◌≡◌, [], ◌∷◌, ◌++◌, ◌+◌, ◌-◌, ◌≤◌, length, drop, replicate};
-ghost use Rattle.grammar.specs.Notation.{text};
-ghost use Rattle.lines.specs.Serving.Puts.{Puts};
+ghost use Rattle.std.specs.Prelude.{◌≡◌, ◌++◌, ◌+◌, ◌-◌, ◌≤◌, length, drop};
 ghost use Rattle.trees.specs.Backwards.{back};
 ghost use Rattle.wordings.specs.Excerpts.{side_columns, columns_of, shuts, cut_from, cut_to, goes_on, dots, lead_text, rest_text, excerpt};
 ghost use Rattle.wordings.specs.Serving.Rooms.{lead_room, rest_room, excerpt_room};
 
-use trees::shown::{put_bytes, put_each};
-use trees::tree::put_spaces;
+use lines::page::Page;
+use trees::shown::put_each;
 
 // Columns for the bytes of the line before the place, and for those from it on.
 const SIDE_COLUMNS: usize = 36;
@@ -25,131 +23,112 @@ const REST_ROOM: usize = SIDE_ROOM + 3;
 
 pub const EXCERPT_ROOM: usize = 2 * LEAD_ROOM + REST_ROOM + 3;
 
+#[tactic(auto, using(std::proofs::lemmas::Grind::common_steps, crate::proofs::ExcerptLaws::low_columns, crate::proofs::ExcerptLaws::high_columns, crate::proofs::ExcerptLaws::one_column))]
 fn columns_of(b: u8) -> usize
     ensures { result ≡ columns_of b }
 {
-    if b < 0x20 {
-        return ESCAPE_COLUMNS;
+    if b < 0x20 || 0x7E < b {
+        ESCAPE_COLUMNS
+    } else {
+        1
     }
-    if 0x7E < b {
-        return ESCAPE_COLUMNS;
-    }
-    1
 }
 
 // Whether a byte ends the line, or takes more columns than are left.
+#[tactic(auto, using(std::proofs::lemmas::Grind::common_steps, crate::proofs::ExcerptLaws::shuts_end, crate::proofs::ExcerptLaws::shuts_by))]
 fn shuts_line(columns: usize, b: u8) -> bool
     ensures { result ≡ shuts columns b }
 {
-    if b == b'\n' {
-        return true;
-    }
-    columns < columns_of(b)
+    b == b'\n' || columns < columns_of(b)
 }
 
+#[tactic(auto, using(std::proofs::lemmas::Grind::common_steps, crate::proofs::ExcerptLaws::from_stop, crate::proofs::ExcerptLaws::from_on, crate::proofs::ExcerptLaws::from_start, crate::proofs::ExcerptLaws::not_shut))]
 fn cut_from(s: &[u8], place: usize) -> usize
     requires { place ≤ length s.now }
-    ensures value { result ≡ cut_from side_columns s.now place }
-    ensures upper_bound { (result ≤ place) × (place ≤ result + side_columns) }
+    ensures { result ≡ cut_from side_columns s.now place }
 {
     let mut columns = SIDE_COLUMNS;
-    let mut i = place;
-    while 0 < i {
-        let b = s[i - 1];
-        if shuts_line(columns, b) {
-            return i;
+    for i in (0..place).rev() {
+        if shuts_line(columns, s[i]) {
+            return i + 1;
         }
-        columns -= columns_of(b);
-        i -= 1;
+        columns -= columns_of(s[i]);
     }
-    i
+    0
 }
 
+#[tactic(auto, using(std::proofs::lemmas::Grind::common_steps, crate::proofs::ExcerptLaws::to_stop, crate::proofs::ExcerptLaws::to_on, crate::proofs::ExcerptLaws::to_end, crate::proofs::ExcerptLaws::not_shut))]
 fn cut_to(s: &[u8], place: usize) -> usize
     requires { place ≤ length s.now }
-    ensures value { result ≡ cut_to side_columns place (drop place s.now) }
-    ensures lower_bound { (place ≤ result) × (result ≤ place + side_columns) × (result ≤ length s.now) }
+    ensures { result ≡ cut_to side_columns place (drop place s.now) }
 {
     let mut columns = SIDE_COLUMNS;
-    let mut i = place;
-    while i < s.len() {
-        let b = s[i];
-        if shuts_line(columns, b) {
+    for i in place..s.len() {
+        if shuts_line(columns, s[i]) {
             return i;
         }
-        columns -= columns_of(b);
-        i += 1;
+        columns -= columns_of(s[i]);
     }
-    i
+    s.len()
 }
 
+#[tactic(auto, using(std::proofs::lemmas::Grind::common_steps, crate::proofs::ExcerptLaws::goes_start, crate::proofs::ExcerptLaws::goes_before))]
 fn goes_on_before(s: &[u8], i: usize) -> bool
     requires { i ≤ length s.now }
     ensures { result ≡ goes_on (back s.now i) }
 {
-    if i == 0 {
-        return false;
-    }
-    s[i - 1] != b'\n'
+    0 < i && s[i - 1] != b'\n'
 }
 
+#[tactic(auto, using(std::proofs::lemmas::Grind::common_steps, crate::proofs::ExcerptLaws::goes_end, crate::proofs::ExcerptLaws::goes_from))]
 fn goes_on_from(s: &[u8], i: usize) -> bool
     ensures { result ≡ goes_on (drop i s.now) }
 {
-    if s.len() <= i {
-        return false;
-    }
-    s[i] != b'\n'
+    i < s.len() && s[i] != b'\n'
 }
 
-fn put_dots(out: &mut [u8], at: usize, more: bool) -> usize
-    requires { at + 3 ≤ length out.old }
-    ensures puts { Puts (dots more) at out.old out.new result }
-    ensures upper_bound { result ≤ at + 3 }
+#[tactic(auto, using(std::proofs::lemmas::Grind::common_steps, crate::proofs::ExcerptLaws::dots_some, crate::proofs::ExcerptLaws::dots_none))]
+fn put_dots<const N: usize>(out: &mut Page<N>, more: bool)
+    requires { length out.old + 3 ≤ N }
+    ensures { out.new ≡ out.old ++ dots more }
 {
     if more {
-        return put_bytes(out, at, b"...");
+        out.put(b"...");
     }
-    at
 }
 
-fn put_lead(s: &[u8], place: usize, out: &mut [u8], at: usize) -> usize
-    requires { (place ≤ length s.now) × (at + lead_room ≤ length out.old) }
-    ensures puts { Puts (lead_text s.now place) at out.old out.new result }
-    ensures upper_bound { result ≤ at + lead_room }
+#[tactic(auto, using(std::proofs::lemmas::Grind::common_steps, crate::proofs::ExcerptLaws::lead_is, crate::proofs::ExcerptLaws::dots_length, crate::proofs::ExcerptLaws::from_near))]
+fn put_lead<const N: usize>(s: &[u8], place: usize, out: &mut Page<N>)
+    requires { (place ≤ length s.now) × (length out.old + lead_room ≤ N) }
+    ensures { out.new ≡ out.old ++ lead_text s.now place }
 {
     let from = cut_from(s, place);
-    let p = put_bytes(out, at, b"  ");
-    let q = put_dots(out, p, goes_on_before(s, from));
-    put_each(out, q, &s[from..place])
+    out.put(b"  ");
+    put_dots(out, goes_on_before(s, from));
+    put_each(out, &s[from..place]);
 }
 
-fn put_rest(s: &[u8], place: usize, out: &mut [u8], at: usize) -> usize
-    requires { (place ≤ length s.now) × (at + rest_room ≤ length out.old) }
-    ensures puts { Puts (rest_text s.now place) at out.old out.new result }
-    ensures upper_bound { result ≤ at + rest_room }
+#[tactic(auto, using(std::proofs::lemmas::Grind::common_steps, crate::proofs::ExcerptLaws::rest_is, crate::proofs::ExcerptLaws::dots_length, crate::proofs::ExcerptLaws::to_near, trees::proofs::ShownLaws::each_length))]
+fn put_rest<const N: usize>(s: &[u8], place: usize, out: &mut Page<N>)
+    requires { (place ≤ length s.now) × (length out.old + rest_room ≤ N) }
+    ensures { out.new ≡ out.old ++ rest_text s.now place }
 {
     let to = cut_to(s, place);
-    let p = put_each(out, at, &s[place..to]);
-    put_dots(out, p, goes_on_from(s, to))
-}
-
-// A line with a caret after so many columns.
-fn put_caret(out: &mut [u8], at: usize, columns: usize) -> usize
-    requires { at + columns + 2 ≤ length out.old }
-    ensures { Puts (replicate columns 32 ++ (text "^" ++ (10 ∷ []))) at out.old out.new result }
-{
-    let p = put_spaces(out, at, columns);
-    put_bytes(out, p, b"^\n")
+    put_each(out, &s[place..to]);
+    put_dots(out, goes_on_from(s, to));
 }
 
 // The line around the place and the caret under it.
-pub fn put_excerpt(s: &[u8], place: usize, out: &mut [u8], at: usize) -> usize
-    requires { (place ≤ length s.now) × (at + excerpt_room ≤ length out.old) }
-    ensures { Puts (excerpt s.now place) at out.old out.new result }
+#[tactic(auto, using(std::proofs::lemmas::Grind::common_steps, crate::proofs::ExcerptLaws::excerpt_is, crate::proofs::ExcerptLaws::lead_length, crate::proofs::ExcerptLaws::rest_length))]
+pub fn put_excerpt<const N: usize>(s: &[u8], place: usize, out: &mut Page<N>)
+    requires { (place ≤ length s.now) × (length out.old + excerpt_room ≤ N) }
+    ensures { out.new ≡ out.old ++ excerpt s.now place }
 {
-    let p = put_lead(s, place, out, at);
-    let q = put_rest(s, place, out, p);
-    let r = put_bytes(out, q, b"\n");
-    put_caret(out, r, p - at)
+    let begin = out.len();
+    put_lead(s, place, out);
+    let caret = out.len() - begin;
+    put_rest(s, place, out);
+    out.push(b'\n');
+    out.put_spaces(caret);
+    out.put(b"^\n");
 }

@@ -1,53 +1,42 @@
 // The line and column of a place, as editors count them.
-ghost use Rattle.std.specs.Prelude.{◌≡◌, ◌+◌, ◌≤◌, ◌<◌, ◌^◌, length};
+ghost use Rattle.std.specs.Prelude.{◌≡◌, ◌+◌, ◌≤◌, ◌<◌, ◌^◌, ◌++◌, length};
 ghost use Rattle.lines.specs.Lines.{before_lf};
-ghost use Rattle.lines.specs.Serving.Puts.{Puts};
 ghost use Rattle.trees.specs.Backwards.{back};
-ghost use Rattle.wordings.specs.Excerpts.{ends_line, line_of, column_of, position_line};
+ghost use Rattle.wordings.specs.Excerpts.{line_of, column_of, position_line};
 ghost use Rattle.wordings.specs.Serving.Rooms.{position_room};
 
 use lines::decimals::{NUMBER_ROOM, put_number};
-use trees::shown::put_bytes;
+use lines::page::Page;
 
 // Room for two numbers and what stands around them.
 pub const POSITION_ROOM: usize = 2 * NUMBER_ROOM + 16;
 
-// How many lines a byte ends.
-fn line_ends(b: u8) -> usize
-    ensures { result ≡ ends_line b }
-{
-    if b == b'\n' {
-        return 1;
-    }
-    0
-}
-
+#[tactic(auto, using(std::proofs::lemmas::Grind::common_steps, crate::proofs::ExcerptLaws::ends_start, crate::proofs::ExcerptLaws::ends_lf, crate::proofs::ExcerptLaws::ends_other, crate::proofs::ExcerptLaws::ends_few))]
 fn line_of(s: &[u8], place: usize) -> usize
     requires { (place ≤ length s.now) × (length s.now < 2 ^ 32) }
     ensures { result ≡ line_of s.now place }
 {
     let mut line = 1;
-    let mut i = place;
-    while 0 < i {
-        line += line_ends(s[i - 1]);
-        i -= 1;
+    for i in (0..place).rev() {
+        if s[i] == b'\n' {
+            line += 1;
+        }
     }
     line
 }
 
 // Where the line of a place begins.
+#[tactic(auto, using(std::proofs::lemmas::Grind::common_steps, crate::proofs::ExcerptLaws::lf_start, crate::proofs::ExcerptLaws::lf_here, crate::proofs::ExcerptLaws::lf_on))]
 fn line_start(s: &[u8], place: usize) -> usize
     requires { place ≤ length s.now }
     ensures { place ≡ result + before_lf (back s.now place) }
 {
-    let mut i = place;
-    while 0 < i {
-        if s[i - 1] == b'\n' {
-            return i;
+    for i in (0..place).rev() {
+        if s[i] == b'\n' {
+            return i + 1;
         }
-        i -= 1;
     }
-    i
+    0
 }
 
 fn column_of(s: &[u8], place: usize) -> usize
@@ -57,14 +46,14 @@ fn column_of(s: &[u8], place: usize) -> usize
     place - line_start(s, place) + 1
 }
 
-pub fn put_position(s: &[u8], place: usize, out: &mut [u8], at: usize) -> usize
-    requires { (place ≤ length s.now) × (length s.now < 2 ^ 32) × (at + position_room ≤ length out.old) }
-    ensures puts { Puts (position_line s.now place) at out.old out.new result }
-    ensures upper_bound { result ≤ at + position_room }
+#[tactic(auto, using(std::proofs::lemmas::Grind::common_steps, crate::proofs::ExcerptLaws::position_is, lines::proofs::TextLaws::number_length))]
+pub fn put_position<const N: usize>(s: &[u8], place: usize, out: &mut Page<N>)
+    requires { (place ≤ length s.now) × (length s.now < 2 ^ 32) × (length out.old + position_room ≤ N) }
+    ensures { out.new ≡ out.old ++ position_line s.now place }
 {
-    let p = put_bytes(out, at, b"  line ");
-    let q = put_number(out, p, line_of(s, place));
-    let t = put_bytes(out, q, b", column ");
-    let u = put_number(out, t, column_of(s, place));
-    put_bytes(out, u, b"\n")
+    out.put(b"  line ");
+    put_number(out, line_of(s, place));
+    out.put(b", column ");
+    put_number(out, column_of(s, place));
+    out.push(b'\n');
 }

@@ -1,6 +1,6 @@
 -- Serves contracts: the room that what is shown of an answer takes.
 use Rattle.std.specs.Prelude.{ℕ, ◌+◌, ◌*◌}
-use Rattle.lines.specs.Serving.Puts.{number_room}
+use Rattle.lines.specs.Serving.Rooms.{number_room}
 use Rattle.trees.specs.Serving.Rooms.{escape_bytes, shown_room}
 use Rattle.wordings.specs.Excerpts.{side_columns}
 

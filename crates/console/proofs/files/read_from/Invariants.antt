@@ -1,9 +1,9 @@
--- The bytes read are within the room. The measure is the room left.
-use Rattle.std.proofs.Common.{◌≡◌, ◌-◌, ◌≤◌, length}
+-- what is read is within the room; the measure is the room left
+use Rattle.std.proofs.Common.{◌-◌, ◌≤◌, length}
 use Rattle.console.proofs.files.read_from.Given as goal
 
 abbrev pub invariant-loop-done : goal.invariant-loop-done
-invariant-loop-done g l = (l.done ≤ length l.room) × (length l.room ≡ length l.initial.room)
+invariant-loop-done g l = l.done ≤ length l.room
 
 abbrev pub decreases-loop-done : goal.decreases-loop-done
 decreases-loop-done g l = length l.initial.room - l.done

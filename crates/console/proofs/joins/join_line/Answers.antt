@@ -1,18 +1,22 @@
--- `join_line` meets its contract: the bytes up to the line's end are kept after those before.
-use native.Mathlib.Omega.{arith}
-use mathlib.Core.Path.{sym, ◌∙◌}
-use Rattle.console.proofs.JoinLaws.{holds}
-use borrow.Author.Rules.{rules}
+-- LF is found, or the chunk is used up
+use Rattle.std.proofs.Common.{arith, ◌∙◌}
+use Rattle.std.proofs.lemmas.Grind.{common_steps}
+use Rattle.console.proofs.JoinLaws.{lf_found, lf_missing, joined_found, joined_whole}
 use Rattle.console.proofs.joins.join_line.Goals as goal
 
-pub slice_bounds-keep-end : goal.slice_bounds-keep-end
-slice_bounds-keep-end c = c.line_end-e.ensures.within c.requires.1
+pub returns-in-Some-clause-joined : goal.returns-in-Some-clause-joined
+returns-in-Some-clause-joined g c =
+    let f = lf_found c.args.chunk.now c.line_end.ensures c.in-Some.is in
+    let j = joined_found g.row.N c.args.line.now c.args.chunk.now f.0 in
+    grind (arith, common_steps, j)
 
-pub returns-then-e-chunk : goal.returns-then-e-chunk
-returns-then-e-chunk c = (holds c.args.carry.now c.args.kept c.args.chunk.now c.args.from c.requires.0 c.line_end-e.ensures c.keep-size.ensures.room_after c.keep-size.ensures.value, sym c.line_end-e.ensures.is ∙ c.if-e-chunk.true)
+pub returns-in-Some-clause-left : goal.returns-in-Some-clause-left
+returns-in-Some-clause-left g c =
+    let f = lf_found c.args.chunk.now c.line_end.ensures c.in-Some.is in
+    (omega (arith, f.0, f.1), grind (arith, common_steps, f.0, f.1))
 
-pub overflow_add-result : goal.overflow_add-result
-overflow_add-result c = let h = c.line_end-e.ensures.within c.requires.1 in search rules
+pub returns-in-None-clause-joined : goal.returns-in-None-clause-joined
+returns-in-None-clause-joined g c = c.keep-in-None.ensures ∙ joined_whole g.row.N c.args.line.now c.args.chunk.now (lf_missing c.args.chunk.now c.line_end.ensures c.in-None.is)
 
-pub returns : goal.returns
-returns c = (holds c.args.carry.now c.args.kept c.args.chunk.now c.args.from c.requires.0 c.line_end-e.ensures c.keep-size.ensures.room_after c.keep-size.ensures.value, omega (arith, c.line_end-e.ensures.is), omega (arith, c.line_end-e.ensures.within c.requires.1, c.if-e-chunk.false))
+pub returns-in-None-clause-left : goal.returns-in-None-clause-left
+returns-in-None-clause-left g c = lf_missing c.args.chunk.now c.line_end.ensures c.in-None.is

@@ -1,5 +1,4 @@
--- `even_slashes` meets its contract. The invariant: the answer is that of what is left, turned for each backslash passed. The measure is the bytes left.
-use Prim.Native.Nat.{◌≤◌}
+-- the answer is that of what is left, turned for each backslash passed
 use mathlib.Core.Path.{◌≡◌}
 use Rattle.trees.specs.Backwards.{back}
 use Rattle.trees.specs.Labelling.{even_slashes}
@@ -7,7 +6,4 @@ use Rattle.trees.proofs.LabelLaws.{turned}
 use Rattle.trees.proofs.labels.even_slashes.Given as goal
 
 abbrev pub invariant-loop-i : goal.invariant-loop-i
-invariant-loop-i l = (l.i ≤ l.end) × (turned l.even (even_slashes (back l.message l.i)) ≡ even_slashes (back l.message l.end))
-
-abbrev pub decreases-loop-i : goal.decreases-loop-i
-decreases-loop-i l = l.i
+invariant-loop-i l = turned l.even (even_slashes (back l.message l.i)) ≡ even_slashes (back l.message l.end)

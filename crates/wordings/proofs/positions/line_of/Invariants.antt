@@ -1,12 +1,9 @@
--- `line_of` meets its contract. The invariant: the lines counted and those that end before are all. The measure is the bytes left.
-use Prim.Native.Nat.{◌+◌, ◌≤◌}
+-- the lines counted and those that end before are all
+use Prim.Native.Nat.{◌+◌}
 use mathlib.Core.Path.{◌≡◌}
 use Rattle.trees.specs.Backwards.{back}
 use Rattle.wordings.specs.Excerpts.{line_ends, line_of}
 use Rattle.wordings.proofs.positions.line_of.Given as goal
 
 abbrev pub invariant-loop-i : goal.invariant-loop-i
-invariant-loop-i l = (l.i ≤ l.place) × (l.line + line_ends (back l.s l.i) ≡ line_of l.s l.place)
-
-abbrev pub decreases-loop-i : goal.decreases-loop-i
-decreases-loop-i l = l.i
+invariant-loop-i l = l.line + line_ends (back l.s l.i) ≡ line_of l.s l.place

@@ -1,1 +1,0 @@
--- `read_from` is safe and ends. The invariant: the bytes read are within the room. The measure is the room left.
