@@ -4,7 +4,6 @@ ghost use Rattle.strings.specs.Hashes.{hash_more, hash_of};
 ghost use Rattle.children.specs.Lookup.{MeaningHash};
 
 use lookups::values::plain_kind;
-use strings::chars::wide;
 use strings::dialects::Dialect;
 use strings::hashes::{hash_of, mix};
 use text::nodes::{NODE_END, NODE_KIND, NODE_START, node_number, node_word};
@@ -22,7 +21,7 @@ pub fn name_hash(name: &[u8]) -> u32
     let mut hash = 0;
     let mut i = 0;
     while i < name.len() {
-        hash = mix(hash, wide(name[i]));
+        hash = mix(hash, name[i] as u32);
         i += 1;
     }
     hash

@@ -1,12 +1,14 @@
 -- The members that an object has at a type: a struct's, or those of a union's base and of the branch that is chosen.
 -- The idea: each return says what the object's members are by the type's row; in a sound table every link has its members.
 use Prim.Native.Nat.{ℕ, suc, ◌+◌, ◌-◌, ◌<◌, ◌≤◌}
-use mathlib.Core.Path.{◌≡◌, refl, sym, ap, ap₂, ◌∙◌}
+use mathlib.Core.Path.{◌≡◌, refl, sym, ap, ap₂, ◌∙◌, subst}
 use mathlib.Core.Bool.{Bool, true, false}
 use mathlib.Core.List.{List, [], ◌++◌, append-nil}
 use mathlib.Core.Option.{Option, none, some}
 use native.Mathlib.Omega.{arith}
 use borrow.Author.Tests.{lt-ltb, le-ltb, ne_eqb}
+use Rattle.std.specs.Prelude.{Some, None}
+use Rattle.std.specs.Prelude as Std
 use Rattle.grammar.specs.Limits.{chain_structs}
 use Rattle.grammar.specs.Notation.{same, apart}
 use Rattle.grammar.specs.Tree.{Json, Fields, kind_of}
@@ -47,64 +49,68 @@ not-string (arr a e js) h = refl
 not-string (obj a e fs) h = refl
 
 -- the branch of the union at row r
-module _ (S T m w ix : List ℕ) (r : ℕ) {k v x link : ℕ} {name : List ℕ} (p : name ≡ name_of S T x) (p' : x ≡ link - 1) (p'' : link ≡ discriminator T r)
-    (g : FindsValue message m w k name v) where
+module _ (S T m w ix : List ℕ) (r : ℕ) {k x link : ℕ} {found : Std.Option ℕ} {name : List ℕ} (p : name ≡ name_of S T x) (p' : x ≡ link - 1) (p'' : link ≡ discriminator T r)
+    (g : FindsValue message m w k name found) where
   -- what is chosen, by the value found
   by_value : (P : Option (List ℕ) → Type 0) (fs : Fields) (u : FieldsAt m w k fs)
-      → ((o : Option Json) → ValueFound message m w u.levels o v → P (chosen S T r o)) → P (chosen S T r (value_at (name_of S T (discriminator T r - 1)) fs))
+      → ((o : Option Json) → ValueFound message m w u.levels o found → P (chosen S T r o)) → P (chosen S T r (value_at (name_of S T (discriminator T r - 1)) fs))
   by_value P fs u f =
       let e : name ≡ name_of S T (discriminator T r - 1) = p ∙ ap (name_of S T) (p' ∙ ap (λ (i : ℕ). i - 1) p'') in
       rw (← e) (f (value_at name fs) (g.told fs u.levels u.holds))
 
-  pub branch-absent : v ≡ 0 → BranchOf S T m w ix r k NoObject
-  branch-absent z = record { told = λ fs h e u. by_value (λ x. x ≡ none) fs u (go u.levels) }
+  pub branch-absent : found ≡ None → BranchOf S T m w ix r k NoObject
+  branch-absent z = record { told = λ fs h e u. by_value (λ x. x ≡ none) fs u (λ o q. go u.levels o (subst (ValueFound message m w u.levels o) z q)) }
     where
-      go : (l : ℕ) (o : Option Json) → ValueFound message m w l o v → chosen S T r o ≡ none
+      go : (l : ℕ) (o : Option Json) → ValueFound message m w l o None → chosen S T r o ≡ none
       go l none q = refl
-      go l (some j) q = absurd (omega (arith, q.0))
+      go l (some j) q = absurd q
 
-  module _ {t : Bool} (i : t ≡ string_kind (node_kind w v)) where
-    pub branch-other : t ≡ false → BranchOf S T m w ix r k NoObject
-    branch-other f = record { told = λ fs h e u. by_value (λ x. x ≡ none) fs u (go u.levels) }
+  module _ {v : ℕ} (n : found ≡ Some v) {t : Bool} (i : t ≡ string_kind (node_kind w v)) where
+    -- the value at node v
+    by_node : (P : Option (List ℕ) → Type 0) (fs : Fields) (u : FieldsAt m w k fs)
+        → ((l : ℕ) (j : Json) → Holds message m w j l v → P (chosen S T r (some j))) → P (chosen S T r (value_at (name_of S T (discriminator T r - 1)) fs))
+    by_node P fs u f = by_value P fs u (λ o q. go u.levels o (subst (ValueFound message m w u.levels o) n q))
       where
-        go : (l : ℕ) (o : Option Json) → ValueFound message m w l o v → chosen S T r o ≡ none
-        go l none q = refl
-        go l (some j) q = rw (not-string j (sym (string_node_lem message m w j l v q.1) ∙ sym i ∙ f), chosen)
+        go : (l : ℕ) (o : Option Json) → ValueFound message m w l o (Some v) → P (chosen S T r o)
+        go l none q = absurd q
+        go l (some j) q = f l j q.1
+
+    pub branch-other : t ≡ false → BranchOf S T m w ix r k NoObject
+    branch-other f = record { told = λ fs h e u. by_node (λ x. x ≡ none) fs u go }
+      where
+        go : (l : ℕ) (j : Json) → Holds message m w j l v → chosen S T r (some j) ≡ none
+        go l j q = rw (not-string j (sym (string_node_lem message m w j l v q) ∙ sym i ∙ f), chosen)
 
     -- a string: what it chooses
-    module _ (n : v ≡ 0 → ⊥) (f : t ≡ true) where
+    module _ (f : t ≡ true) where
       chooses : (P : Option (List ℕ) → Type 0) (fs : Fields) → FieldsAt m w k fs
           → ((a e l : ℕ) (cs : List ℕ) → Holds message m w (leaf a e (str cs)) l v → P (members T chain_structs (branch_link S T cs (children T r))))
           → P (chosen S T r (value_at (name_of S T (discriminator T r - 1)) fs))
-      chooses P fs u d = by_value P fs u (go u.levels)
+      chooses P fs u d = by_node P fs u (λ l j q. at l j q (sym (string_node_lem message m w j l v q) ∙ sym i ∙ f))
         where
-          go : (l : ℕ) (o : Option Json) → ValueFound message m w l o v → P (chosen S T r o)
-          go l none q = absurd (n q)
-          go l (some j) q = at l j q.1 (sym (string_node_lem message m w j l v q.1) ∙ sym i ∙ f)
-            where
-              at : (l : ℕ) (j : Json) → Holds message m w j l v → same_kind (kind_of j) string ≡ true → P (chosen S T r (some j))
-              at l (leaf a e null) h z = absurd (clash z refl)
-              at l (leaf a e (bool b)) h z = absurd (clash z refl)
-              at l (leaf a e (num b token)) h z = absurd (clash z refl)
-              at l (leaf a e (str cs)) h z = d a e l cs h
-              at l (arr a e js) h z = absurd (clash z refl)
-              at l (obj a e fs) h z = absurd (clash z refl)
+          at : (l : ℕ) (j : Json) → Holds message m w j l v → same_kind (kind_of j) string ≡ true → P (chosen S T r (some j))
+          at l (leaf a e null) h z = absurd (clash z refl)
+          at l (leaf a e (bool b)) h z = absurd (clash z refl)
+          at l (leaf a e (num b token)) h z = absurd (clash z refl)
+          at l (leaf a e (str cs)) h z = d a e l cs h
+          at l (arr a e js) h z = absurd (clash z refl)
+          at l (obj a e fs) h z = absurd (clash z refl)
 
       module _ {b c : ℕ} (q : b ≡ union_base T r) (d : ChildMeant S T m w ix r v c) where
         -- its names are apart from those of the base's members
         abbrev Apart : List ℕ → Type 0
         Apart added = (ms : List ℕ) → members T chain_structs (union_base T r) ≡ some ms → apart same (names_of S T (ms ++ added)) ≡ true
 
-        found : (y : ℕ) → IndexedTable S T ix → ((cs : List ℕ) → c ≡ member_in S T cs (children T r) → (has : Has T y) × Apart has.rows × (branch_link S T cs (children T r) ≡ y))
+        branch_found : (y : ℕ) → IndexedTable S T ix → ((cs : List ℕ) → c ≡ member_in S T cs (children T r) → (has : Has T y) × Apart has.rows × (branch_link S T cs (children T r) ≡ y))
             → (fs : Fields) → FieldsAt m w k fs → BranchTold S T r fs (Links b y)
-        found y g z fs u =
+        branch_found y g z fs u =
             let f = chooses (λ x. (has : Has T y) × Apart has.rows × (x ≡ some has.rows)) fs u
             (λ a e l cs h. let o = z cs (d.told cs g (a_string a e l h)) in (o.0, o.1, ap (members T chain_structs) o.2 ∙ o.0.are)) in
             (q, record { added = f.0.rows; added_is = f.0.are; chosen_is = f.2; names_apart = f.1 })
 
         pub branch_unmeant : c ≡ 0 → BranchOf S T m w ix r k (Links b 0)
         branch_unmeant z = record {
-          told = λ fs h e u. found 0 h
+          told = λ fs h e u. branch_found 0 h
               (λ cs x. (
                 record { rows = []; are = members-zero T chain_structs },
                 (λ ms p. rw (append-nil ms) ((sound-facts S T h.sound_table).union_apart r ms e p)),
@@ -115,7 +121,7 @@ module _ (S T m w ix : List ℕ) (r : ℕ) {k v x link : ℕ} {name : List ℕ} 
 
         pub branch_meant : (c ≡ 0 → ⊥) → {y : ℕ} → y ≡ branch_struct T (c - 1) → BranchOf S T m w ix r k (Links b y)
         branch_meant z {y} x = record {
-          told = λ fs h e u. found y h
+          told = λ fs h e u. branch_found y h
               (λ cs o.
               let n : c ≡ suc (c - 1) = omega arith in
               let f = member-found S T cs (children T r) (c - 1) (sym o ∙ n) in

@@ -45,16 +45,10 @@ fn branch_of(
     ensures { BranchOf schema.now rows.now m.now nodes.now index.now r k result }
 {
     let discriminator = row_of(word(rows, r, row::DISCRIMINATOR));
-    let v = value_at(
-        m,
-        Dialect::Message,
-        nodes,
-        k,
-        name_of(schema, rows, discriminator),
-    );
-    if v == 0 {
+    let name = name_of(schema, rows, discriminator);
+    let Some(v) = value_at(m, Dialect::Message, nodes, k, name) else {
         return Structs::NoObject;
-    }
+    };
     if !is_string(nodes, v) {
         return Structs::NoObject;
     }

@@ -1,6 +1,5 @@
 -- The search for a command, row by row: the rows left decide what all do. A name is compared as it stands; one that is too long for that, by what it means.
 use Prim.Native.Nat.{ℕ, suc, ◌+◌, ◌-◌, ◌≤◌, ◌<◌}
-use native.Mathlib.Nat.{sub-zero}
 use native.Mathlib.Numerals.{add-one}
 use native.Mathlib.Decide.{dec_lt}
 use native.Mathlib.Omega.{arith}
@@ -17,8 +16,7 @@ use Rattle.grammar.proofs.Lists.{different}
 use Rattle.rules.specs.Kinds.{command_kind}
 use Rattle.rules.specs.Rows.{row_count, kind, start, size, is_command, name_of}
 use Rattle.rules.specs.Serving.Answers.{command_from}
-use Rattle.strings.specs.declared.decoded.Decoded.{Decoded}
-use Rattle.strings.specs.declared.decoded.Decoded.TheVariants.{Whole, Other}
+use Rattle.std.specs.Prelude.{Option, Some, None}
 use Rattle.strings.specs.Bytes.{Bytes}
 use Rattle.strings.specs.Decoding.{NoBytes}
 use Rattle.strings.proofs.Parts.{part-byte}
@@ -126,7 +124,7 @@ module _ {S T m w : List ℕ} {k r : ℕ} (v : LongLeft S T m w k r) where
     pub long-on : b ≡ false → LongLeft S T m w k (r + 1)
     long-on t = record { left = λ cs u n. command-on (v.left cs u n) h (g.told cs u n) t }
 
-pub decoded_within : {m w bytes : List ℕ} {k n : ℕ} {d : Decoded} → NodeDecodes m w k bytes d → d ≡ Whole n → n ≤ length bytes
+pub decoded_within : {m w bytes : List ℕ} {k n : ℕ} {d : Option ℕ} → NodeDecodes m w k bytes d → d ≡ Some n → n ≤ length bytes
 decoded_within g q = rw q at g.fits
 
 -- the name of a message: its bytes, what it was decoded to, or one that is too long
@@ -135,12 +133,12 @@ module _ {S T m w : List ℕ} {k : ℕ} {c : Command} where
   unfolding first_named
   plain-found pk pp t g e = record { told = λ a o l cs h. e ∙ ap (first_named S T) (g.told cs (a_string a o l h) (sym (pp ∙ ap plain_kind pk) ∙ t)) }
 
-  pub decoded_found : {bytes name : List ℕ} {d : Decoded} {n : ℕ} → NodeDecodes m w k bytes d → d ≡ Whole n → name ≡ take (n - 0) bytes → c ≡ first_named S T name → FindsCommand S T m w k c
+  pub decoded_found : {bytes name : List ℕ} {d : Option ℕ} {n : ℕ} → NodeDecodes m w k bytes d → d ≡ Some n → name ≡ take n bytes → c ≡ first_named S T name → FindsCommand S T m w k c
   unfolding first_named
-  decoded_found {bytes} {n = n} g q p e = record {
-    told = λ a o l cs h. e ∙ ap (first_named S T) (p ∙ ap (λ (i : ℕ). take i bytes) (sub-zero n) ∙ sym ((rw q at g).told cs (a_string a o l h)));
+  decoded_found g q p e = record {
+    told = λ a o l cs h. e ∙ ap (first_named S T) (p ∙ sym ((rw q at g).told cs (a_string a o l h)));
   }
 
-  pub long-found : {bytes : List ℕ} {d : Decoded} → length bytes ≡ name_bytes → NodeDecodes m w k bytes d → d ≡ Other → FindsLong S T m w k c → FindsCommand S T m w k c
+  pub long-found : {bytes : List ℕ} {d : Option ℕ} → length bytes ≡ name_bytes → NodeDecodes m w k bytes d → d ≡ None → FindsLong S T m w k c → FindsCommand S T m w k c
   unfolding first_named
   long-found f g q e = record { told = λ a o l cs h. e.told cs (a_string a o l h) (rw f at ((rw q at g).told cs (a_string a o l h))) }

@@ -1,13 +1,15 @@
 -- The envelope by its parts: no other key, the values under the keys, and what they are by the kinds of their nodes.
 use Prim.Native.Nat.{ℕ, ◌-◌, ◌<◌}
 use native.Mathlib.Omega.{arith}
-use mathlib.Core.Path.{◌≡◌, refl, sym, ap, ◌∙◌, subst}
+use mathlib.Core.Path.{◌≡◌, refl, sym, ◌∙◌, subst}
 use mathlib.Core.Logic.{◌⊎◌, inl, inr}
 use mathlib.Core.Bool.{Bool, true, false, cond}
 use mathlib.Core.List.{List, [], ◌∷◌}
 use mathlib.Core.Option.{Option, none, some}
 use lib.Dec.{eqb}
-use borrow.Author.Tests.{eqb-true, ne_eqb, eq-eqb}
+use borrow.Author.Tests.{eqb-true, eq-eqb}
+use Rattle.std.specs.Prelude.{Some, None, unwrap_or}
+use Rattle.std.specs.Prelude as Std
 use Rattle.grammar.specs.Notation.{text, same, apart}
 use Rattle.grammar.specs.Tree.{Json, Fields}
 use Rattle.grammar.specs.Tree.Scalar.{null, bool, num, str}
@@ -27,17 +29,8 @@ use Rattle.lookups.proofs.KeyCounts.{only_these}
 use Rattle.lookups.proofs.NodeLaws.{string_node_lem}
 use Rattle.message.specs.declared.envelope.Envelope as E
 use Rattle.message.specs.declared.envelope.Envelope.TheVariants.{Call, Improper}
-use Rattle.message.specs.Envelopes.{call_of, proper_arguments, called_by, SaidAt, EnvelopeTold, ReadsEnvelope}
+use Rattle.message.specs.Envelopes.{call_of, proper_arguments, call_by_one, called_by, SaidAt, EnvelopeTold, ReadsEnvelope}
 use Rattle.tokens.specs.NodeKinds.{object_node}
-
--- the arguments at a node
-pub absent : (w : List ℕ) {k : ℕ} → k ≡ 0 → true ≡ proper_arguments w k
-unfolding proper_arguments
-absent w {k} e = rw (eq-eqb k 0 e) refl
-
-pub present : (w : List ℕ) {k i : ℕ} → (k ≡ 0 → ⊥) → i ≡ node_kind w k → eqb i object_node ≡ proper_arguments w k
-unfolding proper_arguments
-present w {k} h e = rw (ne_eqb k 0 h) (ap (λ (n : ℕ). eqb n object_node) e)
 
 module _ (m w : List ℕ) where
   -- refused for what is said of an object
@@ -66,52 +59,59 @@ module _ (m w : List ℕ) where
     are-no_object (obj a e fs) k h t = absurd (clash (eq-eqb (node_kind w k) object_node h.0.has_kind) t)
 
     -- what the arguments are, and where they stand
-    pub record ArgumentsAt (o : Option Json) (k : ℕ) : Type 0 where
+    pub record ArgumentsAt (o : Option Json) (k : Std.Option ℕ) : Type 0 where
       pub value : Json
       pub are : as_arguments o ≡ some value
-      pub at : ((k ≡ 0) × (value ≡ obj 0 0 no_fields)) ⊎ ((0 < k) × Holds message m w value l k)
+      pub at : ((unwrap_or k 0 ≡ 0) × (value ≡ obj 0 0 no_fields)) ⊎ ((0 < unwrap_or k 0) × Holds message m w value l (unwrap_or k 0))
 
-    arguments-at : (o : Option Json) (k : ℕ) → ValueFound message m w l o k → proper_arguments w k ≡ true → ArgumentsAt o k
-    unfolding proper_arguments
-    arguments-at none k f t = record { value = obj 0 0 no_fields; are = refl; at = inl (f, refl) }
-    arguments-at (some j) k f t = record { value = j; are = are-object j k f.1 (rw (ne_eqb k 0 (λ e. omega (arith, f.0))) at t); at = inr f }
+    arguments-at : (o : Option Json) (k : Std.Option ℕ) → ValueFound message m w l o k → proper_arguments w k ≡ true → ArgumentsAt o k
+    arguments-at none None f t = record { value = obj 0 0 no_fields; are = refl; at = inl (refl, refl) }
+    arguments-at none (Some k) f t = absurd f
+    arguments-at (some j) None f t = absurd f
+    arguments-at (some j) (Some k) f t = record { value = j; are = are-object j k f.1 t; at = inr f }
 
-    arguments-not : (o : Option Json) (k : ℕ) → ValueFound message m w l o k → proper_arguments w k ≡ false → as_arguments o ≡ none
-    unfolding proper_arguments
-    arguments-not none k f t = absurd (clash (sym (absent w f)) t)
-    arguments-not (some j) k f t = are-no_object j k f.1 (rw (ne_eqb k 0 (λ e. omega (arith, f.0))) at t)
+    arguments-not : (o : Option Json) (k : Std.Option ℕ) → ValueFound message m w l o k → proper_arguments w k ≡ false → as_arguments o ≡ none
+    arguments-not none None f t = absurd (clash refl t)
+    arguments-not none (Some k) f t = absurd f
+    arguments-not (some j) None f t = absurd f
+    arguments-not (some j) (Some k) f t = are-no_object j k f.1 t
 
     abbrev saying : Option Json → Bool → List ℕ → Option Envelope
     saying v oob cs = as_arguments v >>= λ a. some (record { name = cs; out_of_band = oob; arguments = a })
 
     -- the name: a string, or no envelope
-    module _ (v : Option Json) (k : ℕ) (p : ArgumentsAt v k) where
+    module _ (v : Option Json) (k : Std.Option ℕ) (p : ArgumentsAt v k) where
       say : List ℕ → Bool → Envelope
       say cs oob = record { name = cs; out_of_band = oob; arguments = p.value }
 
-      said : (x : ℕ) (oob : Bool) (a e : ℕ) (cs : List ℕ) → Holds message m w (leaf a e (str cs)) l x → SaidAt m w l (say cs oob) (Call x oob k)
+      said : (x : ℕ) (oob : Bool) (a e : ℕ) (cs : List ℕ) → Holds message m w (leaf a e (str cs)) l x → SaidAt m w l (say cs oob) (Call x oob (unwrap_or k 0))
       unfolding say
       said x oob a e cs h =
-          record { name = x; arguments = k; is = refl; name_start = a; name_end = e; name_holds = h; arguments_hold = p.at }
+          record { name = x; arguments = unwrap_or k 0; is = refl; name_start = a; name_end = e; name_holds = h; arguments_hold = p.at }
 
       -- an envelope by the value j at node x
-      by_name : (j : Json) (x : ℕ) (oob : Bool) → 0 < x → Holds message m w j l x → EnvelopeTold m w l (as_string j >>= saying v oob) (call_of w x oob k)
-      unfolding call_of say
-      by_name (leaf a e null) x oob q h = rw (ne_eqb x 0 (λ e. omega arith), string_node_lem message m w (leaf a e null) l x h) refl
-      by_name (leaf a e (bool b)) x oob q h = rw (ne_eqb x 0 (λ e. omega arith), string_node_lem message m w (leaf a e (bool b)) l x h) refl
-      by_name (leaf a e (num i t)) x oob q h = rw (ne_eqb x 0 (λ e. omega arith), string_node_lem message m w (leaf a e (num i t)) l x h) refl
-      by_name (leaf a e (str cs)) x oob q h = rw (ne_eqb x 0 (λ e. omega arith), string_node_lem message m w (leaf a e (str cs)) l x h, p.are) (said x oob a e cs h)
-      by_name (arr a e js) x oob q h = rw (ne_eqb x 0 (λ e. omega arith), string_node_lem message m w (arr a e js) l x h) refl
-      by_name (obj a e fs) x oob q h = rw (ne_eqb x 0 (λ e. omega arith), string_node_lem message m w (obj a e fs) l x h) refl
+      by_name : (j : Json) (x : ℕ) (oob : Bool) → Holds message m w j l x → EnvelopeTold m w l (as_string j >>= saying v oob) (call_of w x oob k)
+      unfolding say
+      by_name (leaf a e null) x oob h = rw (string_node_lem message m w (leaf a e null) l x h) refl
+      by_name (leaf a e (bool b)) x oob h = rw (string_node_lem message m w (leaf a e (bool b)) l x h) refl
+      by_name (leaf a e (num i t)) x oob h = rw (string_node_lem message m w (leaf a e (num i t)) l x h) refl
+      by_name (leaf a e (str cs)) x oob h = rw (string_node_lem message m w (leaf a e (str cs)) l x h, p.are) (said x oob a e cs h)
+      by_name (arr a e js) x oob h = rw (string_node_lem message m w (arr a e js) l x h) refl
+      by_name (obj a e fs) x oob h = rw (string_node_lem message m w (obj a e fs) l x h) refl
 
     -- the two keys that name a command: exactly one
-    by_keys : (ox oy v : Option Json) (x y k : ℕ) → ValueFound message m w l ox x → ValueFound message m w l oy y → ArgumentsAt v k
-        → EnvelopeTold m w l (as_call ox oy v) (cond (eqb y 0) (call_of w x false k) (cond (eqb x 0) (call_of w y true k) Improper))
-    unfolding call_of
-    by_keys none none v x y k f g p = rw (eq-eqb y 0 g, eq-eqb x 0 f) refl
-    by_keys (some i) none v x y k f g p = rw (eq-eqb y 0 g) (by_name v k p i x false f.0 f.1)
-    by_keys none (some j) v x y k f g p = rw (ne_eqb y 0 (λ e. omega (arith, g.0)), eq-eqb x 0 f) (rw (ne_eqb y 0 (λ e. omega (arith, g.0))) at (by_name v k p j y true g.0 g.1))
-    by_keys (some i) (some j) v x y k f g p = rw (ne_eqb y 0 (λ e. omega (arith, g.0)), ne_eqb x 0 (λ e. omega (arith, f.0))) refl
+    by_keys : (ox oy v : Option Json) (x y k : Std.Option ℕ) → ValueFound message m w l ox x → ValueFound message m w l oy y → ArgumentsAt v k
+        → EnvelopeTold m w l (as_call ox oy v) (call_by_one w x y k)
+    by_keys none none v None None k f g p = refl
+    by_keys (some i) none v (Some x) None k f g p = by_name v k p i x false f.1
+    by_keys none (some j) v None (Some y) k f g p = by_name v k p j y true g.1
+    by_keys (some i) (some j) v (Some x) (Some y) k f g p = refl
+    by_keys none oy v (Some x) y k f g p = absurd f
+    by_keys (some i) oy v None y k f g p = absurd f
+    by_keys none none v None (Some y) k f g p = absurd g
+    by_keys none (some j) v None None k f g p = absurd g
+    by_keys (some i) none v (Some x) (Some y) k f g p = absurd g
+    by_keys (some i) (some j) v (Some x) None k f g p = absurd g
 
     nothing_said : (v : Option Json) (oob : Bool) (o : Option (List ℕ)) → as_arguments v ≡ none → (o >>= saying v oob) ≡ none
     nothing_said v oob none e = refl
@@ -123,17 +123,16 @@ module _ (m w : List ℕ) where
     no_arguments none (some j) v e = nothing_said v true (as_string j) e
     no_arguments (some i) (some j) v e = refl
 
-    by-nodes : (ox oy v : Option Json) (x y k : ℕ) → ValueFound message m w l ox x → ValueFound message m w l oy y → ValueFound message m w l v k
+    by-nodes : (ox oy v : Option Json) (x y k : Std.Option ℕ) → ValueFound message m w l ox x → ValueFound message m w l oy y → ValueFound message m w l v k
         → EnvelopeTold m w l (as_call ox oy v) (called_by w x y k)
-    unfolding called_by
     by-nodes ox oy v x y k f g h = go (proper_arguments w k) refl
       where
         go : (b : Bool) → proper_arguments w k ≡ b
-            → EnvelopeTold m w l (as_call ox oy v) (cond b (cond (eqb y 0) (call_of w x false k) (cond (eqb x 0) (call_of w y true k) Improper)) Improper)
+            → EnvelopeTold m w l (as_call ox oy v) (cond b (call_by_one w x y k) Improper)
         go true t = by_keys ox oy v x y k f g (arguments-at v k h t)
         go false t = subst (λ (o : Option Envelope). EnvelopeTold m w l o Improper) (sym (no_arguments ox oy v (arguments-not v k h t))) refl
 
-  module _ {x y k id : ℕ} {b : Bool} (f : FindsValue message m w 0 (text "execute") x) (g : FindsValue message m w 0 (text "exec-oob") y)
+  module _ {x y k id : Std.Option ℕ} {b : Bool} (f : FindsValue message m w 0 (text "execute") x) (g : FindsValue message m w 0 (text "exec-oob") y)
       (h : FindsValue message m w 0 (text "arguments") k) (i : FindsValue message m w 0 (text "id") id) (n : NoOthers w 0 (x ∷ y ∷ k ∷ id ∷ []) b) where
     only_keys : {t : Bool} → b ≡ t → NoOtherKeys message m w 0 (text "execute" ∷ text "exec-oob" ∷ text "arguments" ∷ text "id" ∷ []) t
     only_keys e = only_these Message refl (f and g and h and i and nothing) n e

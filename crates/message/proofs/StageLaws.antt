@@ -30,12 +30,12 @@ use Rattle.tokens.specs.NodeKinds.{object_node}
 use Rattle.tokens.proofs.ScalarNodes.{scalar_kind_lem}
 use Rattle.text.specs.Nodes.{node_words, text_bound, Holds, node_kind, node_start}
 use Rattle.text.specs.Keys.{place_of, FirstRepeat}
-use Rattle.text.specs.declared.keys.Repeated.{Repeated}
-use Rattle.text.specs.declared.keys.Repeated.TheVariants.{Never, At}
 use Rattle.text.specs.Texts.{MessageTold, ReadsMessage}
 use Rattle.text.proofs.KeyLaws.{goes_on}
-use Rattle.text.specs.declared.texts.Text.{Text}
-use Rattle.text.specs.declared.texts.Text.TheVariants as Texts
+use Rattle.text.specs.declared.reader.TextError.{TextError}
+use Rattle.text.specs.declared.reader.TextError.TheVariants as Texts
+use Rattle.std.specs.Prelude as Std
+use Rattle.std.specs.Prelude.{Some, None, Result, Ok, Err}
 use Rattle.children.specs.Index.{IndexedTable}
 use Rattle.readings.specs.Records.{put_all, ReadTold, ReadsWhole}
 use Rattle.readings.proofs.RecordLaws.{node_start_lem}
@@ -44,8 +44,7 @@ use Rattle.readings.specs.declared.readings.Count.TheVariants.{Records, Nothing}
 use Rattle.message.specs.declared.asked.Asked.{Asked}
 use Rattle.message.specs.declared.asked.Asking.{Asking}
 use Rattle.message.specs.declared.asked.Asking.TheVariants.{Asks, Refuses}
-use Rattle.message.specs.declared.check.TextFound.{TextFound}
-use Rattle.message.specs.declared.check.TextFound.TheVariants as Found
+use Rattle.message.specs.declared.check.TextRefused.{TextRefused}
 use Rattle.message.specs.Asking.{AskingTold, AsksFor}
 use Rattle.message.specs.Stages.{NodesFit, WholeText, ValueRead, TextTold, KeysRead, ReadsText, AskedIn, PresentIn, Uncleared}
 use Rattle.message.proofs.AskingLaws.{asked-once}
@@ -56,7 +55,7 @@ pub nodes-fit : (n : ℕ) {m w : List ℕ} → length w ≡ node_words * n → l
 nodes-fit n e h k = record { enough = omega arith; whole_nodes = omega arith; small = omega arith }
 
 -- 25
-module _ {m w : List ℕ} {count : ℕ} (t : WholeText m w count) {x : Repeated} (k : FirstRepeat message m w count x) where
+module _ {m w : List ℕ} {count : ℕ} (t : WholeText m w count) {x : Std.Option ℕ} (k : FirstRepeat message m w count x) where
   first_alone : (o : Option ℕ) → first_of o none ≡ o
   first_alone none = refl
   first_alone (some p) = refl
@@ -67,35 +66,35 @@ module _ {m w : List ℕ} {count : ℕ} (t : WholeText m w count) {x : Repeated}
       (k.told (item t.value no_items) message_levels (omega (arith, t.ends, goes_on message m w t.value message_levels 0 t.holds), t.holds, t.ends)
       ∙ first_alone (first_repeat t.value))
 
-  pub repeated : {p : ℕ} → x ≡ At p → KeysRead m w (Found.Refused M.RepeatedKey p)
+  pub repeated : {p : ℕ} → x ≡ Some p → KeysRead m w (Err (record { 0 = M.RepeatedKey; 1 = p }))
   repeated e = record { told = λ S T room. rw (t.text, first-is ∙ ap place_of e) }
 
-  pub unrepeated : x ≡ Never → KeysRead m w Found.Value
+  pub unrepeated : x ≡ None → KeysRead m w (Ok tt)
   unrepeated e = record { told = record { value = t.value; text = t.text; holds = t.holds; once = (first-once t.value).0 (first-is ∙ ap place_of e); small = t.small } }
 
 -- 23 and 24
-module _ {m v w : List ℕ} {x : Text} (r : ReadsMessage m v w x) where
-  pub faulty : {e : ℕ} → x ≡ Texts.Fault e → ReadsText m v w (Found.Refused M.NotText e)
-  faulty p = let z = message_broken (subst (λ (y : Text). MessageTold m w y) p r.told) in record { told = λ S T room. rw z }
+module _ {m v w : List ℕ} {x : Result ℕ TextError} (r : ReadsMessage m v w x) where
+  pub faulty : {e : ℕ} → x ≡ Err (Texts.Fault e) → ReadsText m v w (Err (record { 0 = M.NotText; 1 = e }))
+  faulty p = let z = message_broken (subst (λ (y : Result ℕ TextError). MessageTold m w y) p r.told) in record { told = λ S T room. rw z }
 
-  pub deeper : {e : ℕ} → x ≡ Texts.Deep e → ReadsText m v w (Found.Refused M.TooDeep e)
-  deeper p = let z = message-too_deep (subst (λ (y : Text). MessageTold m w y) p r.told) in record { told = λ S T room. rw z }
+  pub deeper : {e : ℕ} → x ≡ Err (Texts.Deep e) → ReadsText m v w (Err (record { 0 = M.TooDeep; 1 = e }))
+  deeper p = let z = message-too_deep (subst (λ (y : Result ℕ TextError). MessageTold m w y) p r.told) in record { told = λ S T room. rw z }
 
-  pub never : x ≡ Texts.TooLong → NodesFit m v → ⊥
-  never p h = let z : text_bound ≤ length m = subst (λ (y : Text). MessageTold m w y) p r.told in omega (arith, h.enough, h.small)
+  pub never : x ≡ Err Texts.TooLong → NodesFit m v → ⊥
+  never p h = let z : text_bound ≤ length m = subst (λ (y : Result ℕ TextError). MessageTold m w y) p r.told in omega (arith, h.enough, h.small)
 
-  pub whole-text : {n : ℕ} → x ≡ Texts.Whole n → NodesFit m v → WholeText m w n
+  pub whole-text : {n : ℕ} → x ≡ Ok n → NodesFit m v → WholeText m w n
   whole-text {n} e h =
-      let t : MessageTold m w (Texts.Whole n) = subst (λ (y : Text). MessageTold m w y) e r.told in
+      let t : MessageTold m w (Ok n) = subst (λ (y : Result ℕ TextError). MessageTold m w y) e r.told in
       let f : node_words * n ≤ length w = omega (arith, t.few, r.same_length, h.enough, h.whole_nodes) in
       record { value = t.tree; text = message-complete t.text; holds = t.holds f; ends = t.ends f; small = omega (arith, r.same_length, h.small) }
 
-module _ {m v w : List ℕ} {r : TextFound} (t : ReadsText m v w r) where
-  pub text-refused : {x : MessageRefusal} {p : ℕ} → r ≡ Found.Refused x p → (S T : List ℕ) (room : ℕ) → text_result S T room (read_message m) ≡ refused_at room x p
-  text-refused e = subst (λ (y : TextFound). TextTold m w y) e t.told
+module _ {m v w : List ℕ} {r : Result (Unit {0}) TextRefused} (t : ReadsText m v w r) where
+  pub text-refused : {x : TextRefused} → r ≡ Err x → (S T : List ℕ) (room : ℕ) → text_result S T room (read_message m) ≡ refused_at room x.0 x.1
+  text-refused e = subst (λ (y : Result (Unit {0}) TextRefused). TextTold m w y) e t.told
 
-  pub value_read : r ≡ Found.Value → ValueRead m w
-  value_read e = subst (λ (y : TextFound). TextTold m w y) e t.told
+  pub value_read : r ≡ Ok tt → ValueRead m w
+  value_read e = subst (λ (y : Result (Unit {0}) TextRefused). TextTold m w y) e t.told
 
 -- what is asked
 module _ {S T m w ix : List ℕ} (g : IndexedTable S T ix) (v : ValueRead m w) {r : Asking} (q : AsksFor S T m w r) where

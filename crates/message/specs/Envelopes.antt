@@ -1,5 +1,7 @@
 -- Serves contracts: what reading the envelope finds in the nodes, for every value that they hold.
 use Rattle.std.specs.Prelude.{ℕ, ◌-◌, ◌<◌, ◌≡◌, ◌⊎◌, Bool, true, false, cond, List, eqb}
+use Rattle.std.specs.Prelude as Std
+use Rattle.std.specs.Prelude.{Some, None, unwrap_or}
 use Rattle.std.proofs.Math.Option.{Option, none, some}
 use Rattle.grammar.specs.Tree.{Json}
 use Rattle.grammar.specs.Tree.Scalar.{str}
@@ -14,18 +16,25 @@ use Rattle.message.specs.declared.envelope.Envelope as E
 use Rattle.message.specs.declared.envelope.Envelope.TheVariants.{Call, Improper}
 use Rattle.tokens.specs.NodeKinds.{object_node}
 
--- a call by the string at a node; 0 is no node
-unfoldable pub call_of : List ℕ → ℕ → Bool → ℕ → E.Envelope
-call_of w name oob arguments = cond (eqb name 0) Improper (cond (string_kind (node_kind w name)) (Call name oob arguments) Improper)
+-- a call by the string at a node
+abbrev pub call_of : List ℕ → ℕ → Bool → Std.Option ℕ → E.Envelope
+call_of w name oob arguments = cond (string_kind (node_kind w name)) (Call name oob (unwrap_or arguments 0)) Improper
 
--- the arguments at a node are an object; 0 is no node
-unfoldable pub proper_arguments : List ℕ → ℕ → Bool
-proper_arguments w arguments = cond (eqb arguments 0) true (eqb (node_kind w arguments) object_node)
+-- the arguments at a node are an object, unless they are absent
+abbrev pub proper_arguments : List ℕ → Std.Option ℕ → Bool
+proper_arguments w (Some k) = eqb (node_kind w k) object_node
+proper_arguments w None = true
 
--- a call by the values at the nodes of execute, exec-oob and the arguments; 0 is no node
-unfoldable pub called_by : List ℕ → ℕ → ℕ → ℕ → E.Envelope
-called_by w execute oob arguments =
-    cond (proper_arguments w arguments) (cond (eqb oob 0) (call_of w execute false arguments) (cond (eqb execute 0) (call_of w oob true arguments) Improper)) Improper
+-- a call by exactly one of the values at the nodes of execute and exec-oob
+abbrev pub call_by_one : List ℕ → Std.Option ℕ → Std.Option ℕ → Std.Option ℕ → E.Envelope
+call_by_one w None None arguments = Improper
+call_by_one w None (Some name) arguments = call_of w name true arguments
+call_by_one w (Some name) None arguments = call_of w name false arguments
+call_by_one w (Some name) (Some other) arguments = Improper
+
+-- a call by these values and the arguments
+abbrev pub called_by : List ℕ → Std.Option ℕ → Std.Option ℕ → Std.Option ℕ → E.Envelope
+called_by w execute oob arguments = cond (proper_arguments w arguments) (call_by_one w execute oob arguments) Improper
 
 -- the nodes of what an envelope says: the name's, and that of the arguments, 0 where they are absent
 pub record SaidAt (m w : List ℕ) (l : ℕ) (v : Envelope) (r : E.Envelope) : Type 0 where

@@ -1,5 +1,5 @@
 -- Serves contracts: what each stage of the message call finds, and the answer before the words after it are cleared.
-use Rattle.std.specs.Prelude.{ℕ, ◌-◌, ◌*◌, ◌^◌, ◌/◌, ◌%◌, ◌≤◌, ◌<◌, ◌≡◌, true, List, ◌++◌, length, take, replicate}
+use Rattle.std.specs.Prelude.{ℕ, ◌-◌, ◌*◌, ◌^◌, ◌/◌, ◌%◌, ◌≤◌, ◌<◌, ◌≡◌, true, List, ◌++◌, length, take, replicate, Result, Ok, Err}
 use Rattle.grammar.specs.Limits.{message_bytes, message_levels, record_words}
 use Rattle.grammar.specs.Tree.{Json}
 use Rattle.grammar.specs.Tree.Items.{no_items, item}
@@ -13,8 +13,7 @@ use Rattle.rules.specs.Serving.Answers.{MessageResult, Asking.asks, asking, refu
 use Rattle.text.specs.Nodes.{node_words, next, Holds}
 use Rattle.children.specs.Index.{IndexedTable}
 use Rattle.message.specs.declared.asked.Asked.{Asked}
-use Rattle.message.specs.declared.check.TextFound.{TextFound}
-use Rattle.message.specs.declared.check.TextFound.TheVariants.{Value, Refused}
+use Rattle.message.specs.declared.check.TextRefused.{TextRefused}
 use Rattle.message.specs.Asking.{AskedAs}
 
 -- the most bytes of a short message
@@ -44,14 +43,14 @@ pub record ValueRead (m w : List ℕ) : Type 0 where
   pub small : length w < 2 ^ 32
 
 -- or is refused for its text at a place, whatever the table and the room
-abbrev pub TextTold : List ℕ → List ℕ → TextFound → Type 0
-TextTold m w Value = ValueRead m w
-TextTold m w (Refused x p) = (S T : List ℕ) (room : ℕ) → text_result S T room (read_message m) ≡ refused_at room x p
+abbrev pub TextTold : List ℕ → List ℕ → Result (Unit {0}) TextRefused → Type 0
+TextTold m w (Ok found) = ValueRead m w
+TextTold m w (Err x) = (S T : List ℕ) (room : ℕ) → text_result S T room (read_message m) ≡ refused_at room x.0 x.1
 
-pub record KeysRead (m w : List ℕ) (r : TextFound) : Type 0 where
+pub record KeysRead (m w : List ℕ) (r : Result (Unit {0}) TextRefused) : Type 0 where
   pub told : TextTold m w r
 
-pub record ReadsText (m old new : List ℕ) (r : TextFound) : Type 0 where
+pub record ReadsText (m old new : List ℕ) (r : Result (Unit {0}) TextRefused) : Type 0 where
   pub told : TextTold m new r
 
 -- what the message asks of a sound table with its index

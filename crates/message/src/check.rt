@@ -12,9 +12,10 @@ use readings::readings::{Count, read_whole};
 use rules::{MESSAGE_BYTES, MessageAnswer, MessageRefusal, NOWHERE, RECORD_WORDS};
 use strings::dialects::Dialect;
 use table::sound::is_sound;
-use text::keys::{Repeated, first_repeat};
-use text::nodes::{NODE_START, NODE_WORDS, node_number};
-use text::texts::{Text, read_message};
+use text::keys::first_repeat;
+use text::nodes::{NODE_START, NODE_WORDS, Tree, node_number};
+use text::reader::TextError;
+use text::texts::read_message;
 use tokens::node;
 use words::clear;
 
@@ -26,34 +27,36 @@ const SHORT_MESSAGE: usize = MESSAGE_BYTES / 4;
 
 const SHORT_ROOM: usize = NODE_WORDS * (SHORT_MESSAGE / 2);
 
-// The message's value stands in the nodes from node 0 on; or why there is none, and at which place.
+// Why a message is no value that repeats no key, and at which place.
 #[derive(Clone, Copy)]
-pub enum TextFound {
-    Value,
-    Refused(MessageRefusal, usize),
-}
+pub struct TextRefused(pub MessageRefusal, pub usize);
 
 // 25: the earliest key that is repeated, over the nodes.
-fn find_repeats(m: &[u8], nodes: &[u32], count: usize) -> TextFound
+fn find_repeats(m: &[u8], nodes: &[u32], count: usize) -> Result<(), TextRefused>
     requires { WholeText m.now nodes.now count }
     ensures { KeysRead m.now nodes.now result }
 {
-    match first_repeat(m, Dialect::Message, nodes, count) {
-        Repeated::At(place) => TextFound::Refused(MessageRefusal::RepeatedKey, place),
-        Repeated::Never => TextFound::Value,
+    let tree = Tree {
+        bytes: m,
+        dialect: Dialect::Message,
+        nodes,
+    };
+    match first_repeat(tree, count) {
+        Some(place) => Err(TextRefused(MessageRefusal::RepeatedKey, place)),
+        None => Ok(()),
     }
 }
 
-// 23 to 25: the message's text, into words that its nodes fit.
-fn read_text(m: &[u8], nodes: &mut [u32]) -> TextFound
+// 23 to 25: the message's text, into words that its nodes fit: its value stands in the nodes from node 0 on.
+fn read_text(m: &[u8], nodes: &mut [u32]) -> Result<(), TextRefused>
     requires { NodesFit m.now nodes.old }
     ensures { ReadsText m.now nodes.old nodes.new result }
 {
     match read_message(m, nodes) {
-        Text::Whole(count) => find_repeats(m, nodes, count),
-        Text::Fault(place) => TextFound::Refused(MessageRefusal::NotText, place),
-        Text::Deep(place) => TextFound::Refused(MessageRefusal::TooDeep, place),
-        Text::TooLong => TextFound::Refused(MessageRefusal::NotText, NOWHERE),
+        Ok(count) => find_repeats(m, nodes, count),
+        Err(TextError::Fault(place)) => Err(TextRefused(MessageRefusal::NotText, place)),
+        Err(TextError::Deep(place)) => Err(TextRefused(MessageRefusal::TooDeep, place)),
+        Err(TextError::TooLong) => Err(TextRefused(MessageRefusal::NotText, NOWHERE)),
     }
 }
 
@@ -116,7 +119,7 @@ fn answer_in(
     ensures { Uncleared (text_result schema.now rows.now (length records.old) (read_message m.now)) records.old records.new result }
 {
     let found = read_text(m, nodes);
-    if let TextFound::Refused(x, place) = found {
+    if let Err(TextRefused(x, place)) = found {
         return MessageAnswer::Refused(x, place);
     }
     match ask_command(schema, rows, m, nodes) {

@@ -9,7 +9,6 @@ use rows::names::{name_of, same_bytes};
 use rows::rows::{wide, word_at};
 use rules::{NAME_BYTES, ROW_WORDS, kind, row};
 use strings::bytes::part_of;
-use strings::decoded::Decoded;
 use strings::dialects::Dialect;
 use text::nodes::{NODE_KIND, node_word};
 
@@ -85,8 +84,8 @@ fn coded_command(schema: &[u8], rows: &[u32], m: &[u8], nodes: &[u32], k: usize)
 {
     let mut bytes = [0u8; NAME_BYTES];
     match decode_node(m, nodes, k, &mut bytes) {
-        Decoded::Whole(n) => named_command(schema, rows, &bytes[0..n]),
-        Decoded::Other => long_command(schema, rows, m, nodes, k),
+        Some(n) => named_command(schema, rows, &bytes[..n]),
+        None => long_command(schema, rows, m, nodes, k),
     }
 }
 

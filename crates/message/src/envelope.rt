@@ -15,43 +15,43 @@ pub enum Envelope {
     Improper,
 }
 
-// The call by the name at a node, 0 if there is none.
-fn call(nodes: &[u32], name: usize, oob: bool, arguments: usize) -> Envelope
+// The call by the name at a node.
+fn call(nodes: &[u32], name: usize, oob: bool, arguments: Option<usize>) -> Envelope
     ensures { result ≡ call_of nodes.now name oob arguments }
 {
-    if name == 0 {
-        return Envelope::Improper;
-    }
     if !is_string(nodes, name) {
         return Envelope::Improper;
     }
-    Envelope::Call(name, oob, arguments)
+    Envelope::Call(name, oob, arguments.unwrap_or(0))
 }
 
-// Whether the arguments at a node, 0 if they are absent, are an object.
-fn are_proper(nodes: &[u32], arguments: usize) -> bool
+// Whether the arguments at a node are an object, unless they are absent.
+fn are_proper(nodes: &[u32], arguments: Option<usize>) -> bool
     ensures { result ≡ proper_arguments nodes.now arguments }
 {
-    if arguments == 0 {
-        return true;
+    match arguments {
+        Some(k) => node_word(nodes, k, NODE_KIND) == node::OBJECT,
+        None => true,
     }
-    node_word(nodes, arguments, NODE_KIND) == node::OBJECT
 }
 
-// What stands under the keys of an envelope, by their nodes, 0 for a key that is absent, as a call.
-fn called(nodes: &[u32], execute: usize, oob: usize, arguments: usize) -> Envelope
+// What stands under the keys of an envelope, by the nodes of those that it has, as a call.
+fn called(
+    nodes: &[u32],
+    execute: Option<usize>,
+    oob: Option<usize>,
+    arguments: Option<usize>,
+) -> Envelope
     ensures { result ≡ called_by nodes.now execute oob arguments }
 {
     if !are_proper(nodes, arguments) {
         return Envelope::Improper;
     }
-    if oob == 0 {
-        return call(nodes, execute, false, arguments);
+    match (execute, oob) {
+        (Some(name), None) => call(nodes, name, false, arguments),
+        (None, Some(name)) => call(nodes, name, true, arguments),
+        _ => Envelope::Improper,
     }
-    if execute != 0 {
-        return Envelope::Improper;
-    }
-    call(nodes, oob, true, arguments)
 }
 
 // What the message whose value stands at node 0 calls.

@@ -1,5 +1,5 @@
 -- The answers of the text reader, and of the searches for a repeated key and for a command, as plain numbers.
-use Rattle.std.specs.Prelude.{ℕ, ◌≡◌, Bool, true, false, List, length}
+use Rattle.std.specs.Prelude.{ℕ, ◌≡◌, Bool, true, false, List, length, Result, Ok, Err}
 use Rattle.std.proofs.Math.Option.{Option, none, some}
 use Rattle.grammar.specs.Tree.{Items}
 use Rattle.grammar.specs.Tree.Scalar.{str}
@@ -12,39 +12,33 @@ use Rattle.rules.specs.Serving.Answers.{command_from}
 use Rattle.strings.specs.declared.dialects.Dialect.{Dialect}
 use Rattle.strings.specs.declared.dialects.Dialect.TheVariants.{Schema, Message}
 use Rattle.text.specs.Nodes.{Holds, HoldsItems}
-use Rattle.text.specs.declared.keys.Repeated.{Repeated}
-use Rattle.text.specs.declared.keys.Repeated.TheVariants.{Never, At}
-use Rattle.text.specs.Texts.{ReadsMessage, ReadsSchema}
-use Rattle.text.specs.declared.texts.Text.{Text}
-use Rattle.text.specs.declared.texts.Text.TheVariants.{Whole, Fault, Deep, TooLong}
+use Rattle.text.specs.Texts.{ReadsText}
+use Rattle.text.specs.declared.reader.TextError.{TextError}
+use Rattle.text.specs.declared.reader.TextError.TheVariants.{Fault, Deep, TooLong}
 use Rattle.message.specs.declared.commands.Command.{Command}
 use Rattle.message.specs.declared.commands.Command.TheVariants.{Row, Unknown}
 
-abbrev pub verdict : Text → ℕ
-verdict (Whole n) = 0
-verdict (Fault e) = 1
-verdict (Deep e) = 2
-verdict TooLong = 3
+abbrev pub verdict : Result ℕ TextError → ℕ
+verdict (Ok n) = 0
+verdict (Err (Fault e)) = 1
+verdict (Err (Deep e)) = 2
+verdict (Err TooLong) = 3
 
 -- the number of nodes, or the place
-abbrev pub place : Text → ℕ
-place (Whole n) = n
-place (Fault e) = e
-place (Deep e) = e
-place TooLong = 0
+abbrev pub place : Result ℕ TextError → ℕ
+place (Ok n) = n
+place (Err (Fault e)) = e
+place (Err (Deep e)) = e
+place (Err TooLong) = 0
 
 -- the dialect that a caller in another language names
 abbrev pub dialect_of : Bool → Dialect
 dialect_of true = Schema
 dialect_of false = Message
 
-abbrev pub ReadsText : Bool → List ℕ → List ℕ → List ℕ → Text → Type 0
-ReadsText true s old new t = ReadsSchema s old new t
-ReadsText false s old new t = ReadsMessage s old new t
-
 pub record Probed (schema : Bool) (s old new : List ℕ) (v p : ℕ) : Type 0 where
-  pub text : Text
-  pub reads : ReadsText schema s old new text
+  pub text : Result ℕ TextError
+  pub reads : ReadsText (dialect_of schema) s old new text
   pub verdict_is : v ≡ verdict text
   pub place_is : p ≡ place text
 
@@ -52,11 +46,6 @@ pub record Probed (schema : Bool) (s old new : List ℕ) (v p : ℕ) : Type 0 wh
 abbrev pub number_or : ℕ → Option ℕ → ℕ
 number_or n none = n
 number_or n (some r) = r
-
--- the place of a repeated key; the number of bytes for none
-abbrev pub repeat_of : List ℕ → Repeated → ℕ
-repeat_of s Never = length s
-repeat_of s (At p) = p
 
 -- the earliest key that repeats one before it, in what the nodes below n hold
 pub record KeysProbed (D : Machine.Dialect) (s w : List ℕ) (n r : ℕ) : Type 0 where

@@ -5,14 +5,16 @@ ghost use Rattle.std.specs.Prelude.{◌≡◌, cond, ◌-◌, leb, take, drop};
 ghost use Rattle.grammar.specs.Integers.{negative, unsigned_part, decimal};
 ghost use Rattle.strings.specs.Strings.{grammar_of};
 ghost use Rattle.strings.specs.Meanings.{MeansName, MeansSame};
-ghost use Rattle.probe.specs.Probe.{dialect_of, verdict, place, ReadsText, Probed, repeat_of, KeysProbed, row_of, CommandProbed};
+ghost use Rattle.probe.specs.Probe.{dialect_of, verdict, place, Probed, KeysProbed, row_of, CommandProbed};
 
 use message::commands::{Command, find_command};
 use rules::ROW_WORDS;
 use strings::dialects::Dialect;
 use strings::meanings::{means, same_meaning};
-use text::keys::{Repeated, first_repeat};
-use text::texts::{Text, read_message, read_schema};
+use text::keys::first_repeat;
+use text::nodes::Tree;
+use text::reader::TextError;
+use text::texts::read_text;
 use tokens::integers::in_range;
 
 // The dialect that a caller in another language names.
@@ -26,36 +28,27 @@ fn dialect_of(schema: bool) -> Dialect
 }
 
 // 0 whole, 1 a fault, 2 too deep, 3 too long.
-fn verdict_of(t: Text) -> u32
+fn verdict_of(t: Result<usize, TextError>) -> u32
     ensures { result ≡ verdict t }
 {
     match t {
-        Text::Whole(_n) => 0,
-        Text::Fault(_e) => 1,
-        Text::Deep(_e) => 2,
-        Text::TooLong => 3,
+        Ok(_n) => 0,
+        Err(TextError::Fault(_e)) => 1,
+        Err(TextError::Deep(_e)) => 2,
+        Err(TextError::TooLong) => 3,
     }
 }
 
 // The number of nodes, or the place.
-fn place_of(t: Text) -> usize
+fn place_of(t: Result<usize, TextError>) -> usize
     ensures { result ≡ place t }
 {
     match t {
-        Text::Whole(n) => n,
-        Text::Fault(e) => e,
-        Text::Deep(e) => e,
-        Text::TooLong => 0,
+        Ok(n) => n,
+        Err(TextError::Fault(e)) => e,
+        Err(TextError::Deep(e)) => e,
+        Err(TextError::TooLong) => 0,
     }
-}
-
-fn read_text(s: &[u8], schema: bool, nodes: &mut [u32]) -> Text
-    ensures { ReadsText schema s.now nodes.old nodes.new result }
-{
-    if schema {
-        return read_schema(s, nodes);
-    }
-    read_message(s, nodes)
 }
 
 // The verdict on a text, its nodes, and their number or the place of the fault.
@@ -68,18 +61,9 @@ pub extern "C" fn windosprio_probe_text(
 ) -> u32
     ensures { Probed schema s.now nodes.old nodes.new result found.new }
 {
-    let t = read_text(s, schema, nodes);
+    let t = read_text(s, dialect_of(schema), nodes);
     *found = place_of(t);
     verdict_of(t)
-}
-
-fn repeat_of(found: Repeated, s: &[u8]) -> usize
-    ensures { result ≡ repeat_of s.now found }
-{
-    match found {
-        Repeated::Never => s.len(),
-        Repeated::At(place) => place,
-    }
 }
 
 // The place of the earliest key, in the objects of the first `count` nodes, that repeats one before it; the number of bytes if there is none.
@@ -92,7 +76,12 @@ pub extern "C" fn windosprio_probe_keys(
 ) -> usize
     ensures { KeysProbed (grammar_of (dialect_of schema)) s.now nodes.now count result }
 {
-    repeat_of(first_repeat(s, dialect_of(schema), nodes, count), s)
+    let tree = Tree {
+        bytes: s,
+        dialect: dialect_of(schema),
+        nodes,
+    };
+    first_repeat(tree, count).unwrap_or(s.len())
 }
 
 // Whether the integer from a to e lies from -low to high.

@@ -7,12 +7,10 @@ use Rattle.grammar.specs.Tree.Json.{leaf, arr, obj}
 use Rattle.grammar.specs.Tree.Kind.{object, array, string, number, boolean, null_kind}
 use Rattle.grammar.specs.Keys.{keys_once}
 use Rattle.grammar.specs.Serving.Machine.Message.{message}
-use Rattle.rules.specs.Types.{is_built_in, column, ranges, number_fits, built_in_takes}
-use Rattle.rules.specs.Rows.{children}
+use Rattle.rules.specs.Types.{is_built_in, ranges, number_fits, built_in_takes}
 use Rattle.rules.specs.Readings.{typed}
 use Rattle.rules.specs.Serving.ReadingOf as Reading
 use Rattle.rules.specs.Serving.ReadingOf.{under, of_kind, from_alternatives, enum_has, type_choice, mandatory_there, plain_reading, items_reading, fields_reading}
-use Rattle.builtins.specs.Kinds.{kind_column}
 use Rattle.text.specs.Nodes.{Holds}
 use Rattle.children.specs.Index.{IndexedTable}
 use Rattle.members.specs.Members.{FieldsAt, TwoStructs}
@@ -21,14 +19,14 @@ use Rattle.readings.specs.declared.types.Choice.TheVariants.{Itself, Alternative
 use Rattle.readings.specs.declared.contents.Content.{Content}
 use Rattle.readings.specs.declared.contents.Content.TheVariants.{Alone, Elements, Members, Misfit}
 
--- the JSON kind of a node's kind, by number, and its column
+-- the JSON kind of a node's kind, by number
 abbrev pub node_kinds : List (Option Kind)
 node_kinds =
     none ∷ some null_kind ∷ some boolean ∷ some boolean ∷ some number ∷ some number ∷ some string ∷ some string
     ∷ some array ∷ some object ∷ []
 
-abbrev pub column_of : ℕ → ℕ
-column_of k = kind_column (get_or node_kinds k none)
+abbrev pub kind_of_node : ℕ → Option Kind
+kind_of_node k = get_or node_kinds k none
 
 -- built-ins
 pub record NumberFits (m w : List ℕ) (k b : ℕ) (r : Bool) : Type 0 where
@@ -42,9 +40,6 @@ abbrev pub choice_as : Choice → Reading.TypeChoice
 choice_as Itself = Reading.TypeChoice.direct
 choice_as (Alternative u) = Reading.TypeChoice.alternative u
 choice_as NoAlternative = Reading.TypeChoice.missing
-
-pub record AlternativeOf (T : List ℕ) (r c : ℕ) (x : Choice) : Type 0 where
-  pub told : (k : Kind) → column k ≡ c → choice_as x ≡ from_alternatives (of_kind T k (children T r))
 
 pub record TypeFor (T w : List ℕ) (k t f : ℕ) (x : Choice) : Type 0 where
   pub told : (S m : List ℕ) (j : Json) (l : ℕ) → Holds message m w j l k → choice_as x ≡ type_choice S T (kind_of j) t f

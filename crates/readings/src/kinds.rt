@@ -1,29 +1,30 @@
 // JSON kinds of values, and the built-in types that take them.
 ghost use Rattle.std.specs.Prelude.{◌≡◌};
-ghost use Rattle.readings.specs.Parts.{column_of, NumberFits, BuiltInTakes};
+ghost use Rattle.builtins.specs.Kinds.{kind_as};
+ghost use Rattle.readings.specs.Parts.{kind_of_node, NumberFits, BuiltInTakes};
 
-use builtins::json;
+use builtins::json::JsonKind;
 use builtins::kinds::takes;
-use builtins::ranges::{Range, range_of};
+use builtins::ranges::range_of;
 use text::nodes::{NODE_END, NODE_KIND, NODE_START, node_number, node_word};
 use tokens::integers::in_range;
 use tokens::node;
 
 // The JSON kind of a node's kind.
-pub fn json_kind(kind: u32) -> u32
-    ensures { result ≡ column_of kind }
+pub fn json_kind(kind: u32) -> Option<JsonKind>
+    ensures { kind_as result ≡ kind_of_node kind }
 {
     match kind {
-        node::NULL => json::NULL,
-        node::FALSE => json::BOOLEAN,
-        node::TRUE => json::BOOLEAN,
-        node::INTEGER => json::NUMBER,
-        node::OTHER_NUMBER => json::NUMBER,
-        node::PLAIN_STRING => json::STRING,
-        node::OTHER_STRING => json::STRING,
-        node::ARRAY => json::ARRAY,
-        node::OBJECT => json::OBJECT,
-        _ => json::NONE,
+        node::NULL => Some(JsonKind::Null),
+        node::FALSE => Some(JsonKind::Boolean),
+        node::TRUE => Some(JsonKind::Boolean),
+        node::INTEGER => Some(JsonKind::Number),
+        node::OTHER_NUMBER => Some(JsonKind::Number),
+        node::PLAIN_STRING => Some(JsonKind::String),
+        node::OTHER_STRING => Some(JsonKind::String),
+        node::ARRAY => Some(JsonKind::Array),
+        node::OBJECT => Some(JsonKind::Object),
+        _ => None,
     }
 }
 
@@ -31,8 +32,7 @@ pub fn json_kind(kind: u32) -> u32
 fn number_fits(m: &[u8], nodes: &[u32], k: usize, b: usize) -> bool
     ensures { NumberFits m.now nodes.now k b result }
 {
-    let range = range_of(b);
-    let Range::From(low, high) = range else {
+    let Some(range) = range_of(b) else {
         return true;
     };
     if node_word(nodes, k, NODE_KIND) != node::INTEGER {
@@ -40,18 +40,20 @@ fn number_fits(m: &[u8], nodes: &[u32], k: usize, b: usize) -> bool
     }
     let a = node_number(nodes, k, NODE_START);
     let e = node_number(nodes, k, NODE_END);
-    in_range(m, a, e, low, high)
+    in_range(m, a, e, range.below, range.above)
 }
 
 // Whether built-in b takes the value at node k: the grid, and the range of a number.
 pub fn built_in_takes(m: &[u8], nodes: &[u32], k: usize, b: usize) -> bool
     ensures { BuiltInTakes m.now nodes.now k b result }
 {
-    let kind = json_kind(node_word(nodes, k, NODE_KIND));
+    let Some(kind) = json_kind(node_word(nodes, k, NODE_KIND)) else {
+        return false;
+    };
     if !takes(b, kind) {
         return false;
     }
-    if kind != json::NUMBER {
+    if kind != JsonKind::Number {
         return true;
     }
     number_fits(m, nodes, k, b)

@@ -1,10 +1,16 @@
 // By which type a value is read: the one given, or one alternative of an alternate.
+ghost use Rattle.std.specs.Prelude.{◌≡◌};
+ghost use Rattle.rules.specs.Rows.{children};
+ghost use Rattle.rules.specs.Serving.ReadingOf.{of_kind, from_alternatives};
 ghost use Rattle.rows.specs.Rows.{Near};
-ghost use Rattle.readings.specs.Parts.{AlternativeOf, TypeFor};
+ghost use Rattle.builtins.specs.Kinds.{kind_in};
+ghost use Rattle.readings.specs.Parts.{choice_as, TypeFor};
 
 use crate::kinds::json_kind;
 use builtins::FIRST_REFERENCE;
-use rows::rows::{child_count, first_child, next_row, wide, word};
+use builtins::json::JsonKind;
+use rows::rows::word;
+use rows::walk::children;
 use rules::{kind, row};
 use table::alternates::type_kind;
 use text::nodes::{NODE_KIND, node_word};
@@ -17,19 +23,15 @@ pub enum Choice {
 }
 
 // The first alternative of row r with the JSON kind k.
-fn alternative(rows: &[u32], r: usize, k: u32) -> Choice
+fn alternative(rows: &[u32], r: usize, k: JsonKind) -> Choice
     requires { Near r }
-    ensures { AlternativeOf rows.now r k result }
+    ensures { choice_as result ≡ from_alternatives (of_kind rows.now (kind_in k) (children rows.now r)) }
 {
-    let mut i = first_child(rows, r);
-    let mut left = child_count(rows, r);
-    while 0 < left {
+    for i in children(rows, r) {
         let t = word(rows, i, row::TYPE_REF);
-        if type_kind(rows, wide(t)) == k {
+        if type_kind(rows, t as usize) == Some(k) {
             return Choice::Alternative(t);
         }
-        i = next_row(rows, i);
-        left -= 1;
     }
     Choice::NoAlternative
 }
@@ -44,9 +46,12 @@ pub fn type_for(rows: &[u32], nodes: &[u32], k: usize, t: u32, array: u32) -> Ch
     if t < FIRST_REFERENCE {
         return Choice::Itself;
     }
-    let r = wide(t - FIRST_REFERENCE);
+    let r = (t - FIRST_REFERENCE) as usize;
     if word(rows, r, row::KIND) != kind::ALTERNATE {
         return Choice::Itself;
     }
-    alternative(rows, r, json_kind(node_word(nodes, k, NODE_KIND)))
+    match json_kind(node_word(nodes, k, NODE_KIND)) {
+        Some(kind) => alternative(rows, r, kind),
+        None => Choice::NoAlternative,
+    }
 }

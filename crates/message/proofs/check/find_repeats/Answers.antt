@@ -2,8 +2,8 @@
 use Rattle.message.proofs.StageLaws.{repeated, unrepeated}
 use Rattle.message.proofs.check.find_repeats.Goals as goal
 
-pub returns-in-At : goal.returns-in-At
-returns-in-At c = repeated c.requires c.first_repeat.ensures c.in-At.is
+pub returns-in-Some : goal.returns-in-Some
+returns-in-Some c = repeated c.requires c.first_repeat.ensures c.in-Some.is
 
-pub returns-in-Never : goal.returns-in-Never
-returns-in-Never c = unrepeated c.requires c.first_repeat.ensures c.in-Never.is
+pub returns-in-None : goal.returns-in-None
+returns-in-None c = unrepeated c.requires c.first_repeat.ensures c.in-None.is

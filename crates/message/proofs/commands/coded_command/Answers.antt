@@ -4,8 +4,8 @@ use Rattle.message.proofs.CommandLaws.{decoded_found, long-found}
 use borrow.Author.Rules.{rules}
 use Rattle.message.proofs.commands.coded_command.Goals as goal
 
-pub returns-in-Whole : goal.returns-in-Whole
-returns-in-Whole c = decoded_found c.decode_node.ensures c.in-Whole.is refl c.named_command.ensures
+pub returns-in-Some : goal.returns-in-Some
+returns-in-Some c = decoded_found c.decode_node.ensures c.in-Some.is refl c.named_command.ensures
 
-pub returns-in-Other : goal.returns-in-Other
-returns-in-Other c = long-found (search rules) c.decode_node.ensures c.in-Other.is c.long_command.ensures
+pub returns-in-None : goal.returns-in-None
+returns-in-None c = long-found (search rules) c.decode_node.ensures c.in-None.is c.long_command.ensures

@@ -1,10 +1,9 @@
--- `types::alternative` meets its contract: of the alternatives, those left to look at.
-use Rattle.rows.specs.Rows.{Room}
-use Rattle.readings.proofs.TypeLaws.{AlternativesLeft}
+-- Of the alternatives, those left to look at.
+use Rattle.std.proofs.Common.{◌≡◌}
+use Rattle.rules.specs.Rows.{children}
+use Rattle.rules.specs.Serving.ReadingOf.{of_kind}
+use Rattle.builtins.specs.Kinds.{kind_in}
 use Rattle.readings.proofs.types.alternative.Given as goal
 
-abbrev pub invariant-loop-left : goal.invariant-loop-left
-invariant-loop-left l = Room l.i l.left × AlternativesLeft l.rows l.r l.k l.i l.left
-
-abbrev pub decreases-loop-left : goal.decreases-loop-left
-decreases-loop-left l = l.left
+abbrev pub invariant-loop-i : goal.invariant-loop-i
+invariant-loop-i l = of_kind l.rows (kind_in l.k) (children l.rows l.r) ≡ of_kind l.rows (kind_in l.k) l.i-iterator
