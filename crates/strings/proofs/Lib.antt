@@ -1,4 +1,5 @@
 pub mod Tables
+pub mod Blocks
 pub mod ByteClasses
 pub mod CharRuns
 pub mod Utf8

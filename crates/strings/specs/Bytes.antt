@@ -1,4 +1,4 @@
--- Serves contracts: parts of texts compared, and bytes as the digits of a number.
+-- Serves contracts: parts of texts compared.
 use Rattle.std.specs.Prelude.{ℕ, ◌<◌, Bool, List, get_or, take, drop}
 use Rattle.grammar.specs.Notation.{same}
 

@@ -1,8 +1,12 @@
 -- Serves contracts: whether strings mean the same, and what the parts of that comparison find.
-use Rattle.std.specs.Prelude.{ℕ, ◌+◌, ◌-◌, ◌≡◌, Bool, true, List, take, drop}
+use Rattle.std.specs.Prelude.{ℕ, ◌+◌, ◌-◌, ◌≡◌, Bool, true, ◌&&◌, List, length, take, drop, leb}
 use Rattle.grammar.specs.Notation.{same}
 use Rattle.grammar.specs.Serving.Machine.{Dialect}
 use Rattle.strings.specs.Strings.{plain_string, Means}
+
+-- a string can stand from place a to e: its two quotes, and all of it in the text
+abbrev pub can_stand : List ℕ → ℕ → ℕ → Bool
+can_stand s a e = leb e (length s) && leb 2 (e - a)
 
 -- the bytes of the string from place a to e, its quotes left out
 abbrev pub inside : List ℕ → ℕ → ℕ → List ℕ

@@ -3,7 +3,7 @@ ghost use Rattle.std.specs.Prelude.{◌≡◌};
 ghost use Rattle.strings.specs.Strings.{grammar_of};
 ghost use Rattle.strings.specs.Hashes.{hash_more, hash_of, CodesHash, MeansHash};
 
-use crate::bytes::inside;
+use crate::bytes::{can_stand, inside};
 use crate::chars::next_char;
 use crate::dialects::Dialect;
 
@@ -47,7 +47,10 @@ pub fn hash_of(s: &[u8], dialect: Dialect, a: usize, e: usize, plain: bool) -> u
     ensures { MeansHash (grammar_of dialect) s.now a e plain result }
 {
     if plain {
-        return bytes_hash(inside(s, a, e));
+        if can_stand(s, a, e) {
+            return bytes_hash(inside(s, a, e));
+        }
+        return 0;
     }
     codes_hash(s, dialect, a)
 }

@@ -3,7 +3,7 @@ ghost use Rattle.std.specs.Prelude.{◌≡◌};
 ghost use Rattle.strings.specs.Strings.{grammar_of};
 ghost use Rattle.strings.specs.Meanings.{CodesMean, CodesSame, MeansName, MeansSame};
 
-use crate::bytes::{inside, same_bytes};
+use crate::bytes::{can_stand, inside, same_bytes};
 use crate::chars::next_char;
 use crate::dialects::Dialect;
 
@@ -60,7 +60,7 @@ pub fn means(s: &[u8], dialect: Dialect, a: usize, e: usize, plain: bool, name: 
     ensures { MeansName (grammar_of dialect) s.now a e plain name.now result }
 {
     if plain {
-        return same_bytes(inside(s, a, e), name);
+        return can_stand(s, a, e) && same_bytes(inside(s, a, e), name);
     }
     codes_mean(s, dialect, a, name)
 }
@@ -79,7 +79,10 @@ pub fn same_meaning(
     ensures { MeansSame (grammar_of dialect) s.now a e plain_a b f plain_b result }
 {
     if plain_a && plain_b {
-        return same_bytes(inside(s, a, e), inside(s, b, f));
+        if can_stand(s, a, e) && can_stand(s, b, f) {
+            return same_bytes(inside(s, a, e), inside(s, b, f));
+        }
+        return false;
     }
     codes_same(s, dialect, a, b)
 }

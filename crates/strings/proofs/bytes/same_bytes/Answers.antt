@@ -1,7 +1,7 @@
--- `bytes::same_bytes` compares two slices: last bytes that differ refuse early.
+-- slices of other lengths or last bytes differ, and else their blocks decide
 use Prim.Native.Nat.{ℕ, ◌-◌}
 use mathlib.Core.Path.{◌≡◌, refl, sym, ap, ◌∙◌}
-use mathlib.Core.Bool.{Bool, true, false}
+use mathlib.Core.Bool.{Bool, true, false, not}
 use mathlib.Core.List.{List}
 use lib.Dec.{eqb}
 use lib.ListN.{length}
@@ -22,9 +22,12 @@ equal (Some x) None e = cc
 equal (Some x) (Some y) e = eq-eqb _ _ cc
 
 last-differs : (x y : List ℕ) (p q : Option (Bor ℕ)) {r : Bool} → option_copied p ≡ slice_get x (length x - 1) → option_copied q ≡ slice_get y (length y - 1)
-    → r ≡ option_eq (λ x y. eqb x.now y.now) p q → r ≡ false → r ≡ same x y
+    → r ≡ not (option_eq (λ x y. eqb x.now y.now) p q) → r ≡ true → false ≡ same x y
 last-differs x y p q f g h n =
-    n ∙ sym (different x y (λ e. clash (equal p q (f ∙ ap (λ l. slice_get l (length l - 1)) e ∙ sym g)) (sym h ∙ n)))
+    sym (different x y (λ e. clash (sym h ∙ n) (ap not (equal p q (f ∙ ap (λ l. slice_get l (length l - 1)) e ∙ sym g)))))
 
-pub returns-else-eq : goal.returns-else-eq
-returns-else-eq c = last-differs c.args.x.now c.args.y.now c.last.result c.last-2.result c.last.ensures.value c.last-2.ensures.value c.eq.ensures c.if-eq.false
+pub returns-then-x-y : goal.returns-then-x-y
+returns-then-x-y c = sym (different c.args.x.now c.args.y.now (λ e. c.if-x-y.true (ap length e)))
+
+pub returns-then-ne : goal.returns-then-ne
+returns-then-ne c = last-differs c.args.x.now c.args.y.now c.last.result c.last-2.result c.last.ensures.value c.last-2.ensures.value c.ne.ensures c.if-ne.true

@@ -5,5 +5,5 @@ use Rattle.strings.specs.Hashes.{hash_of}
 use Rattle.strings.proofs.HashLaws.{hash-plain}
 use Rattle.strings.proofs.hashes.hash_of.Goals as goal
 
-pub returns-then-plain : goal.returns-then-plain
-returns-then-plain c = hash-plain c.args.dialect c.if-plain.true (c.bytes_hash.ensures ∙ ap hash_of c.inside.ensures)
+pub returns-then-can_stand : goal.returns-then-can_stand
+returns-then-can_stand c = hash-plain c.args.dialect c.if-plain.true (c.bytes_hash.ensures ∙ ap hash_of c.inside.ensures)

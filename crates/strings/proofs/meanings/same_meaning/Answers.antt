@@ -5,6 +5,6 @@ use Rattle.grammar.specs.Notation.{same}
 use Rattle.strings.proofs.Comparisons.{strings_plain}
 use Rattle.strings.proofs.meanings.same_meaning.Goals as goal
 
-pub returns-then-plain_b : goal.returns-then-plain_b
-returns-then-plain_b c =
-    strings_plain c.args.dialect c.if-plain_a.true c.if-plain_b.true (c.same_bytes.ensures ∙ ap₂ (λ x y. same x y) c.inside.ensures c.inside-then-plain_b.ensures)
+pub returns-then-can_stand-2 : goal.returns-then-can_stand-2
+returns-then-can_stand-2 c =
+    strings_plain c.args.dialect c.if-plain_a.true c.if-plain_b.true (c.same_bytes.ensures ∙ ap₂ (λ x y. same x y) c.inside.ensures c.inside-then-can_stand-2.ensures)
