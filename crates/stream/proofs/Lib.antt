@@ -13,6 +13,7 @@ pub mod Handed
 pub mod Calls
 pub mod Vectors
 pub mod Numbers
+pub mod Numbering
 pub mod Nests
 pub mod StateLaws
 pub mod ByteLaws
