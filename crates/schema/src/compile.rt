@@ -1,7 +1,10 @@
 // The compile call, from the bytes to the table; then the stages from the table on.
-ghost use Rattle.std.specs.Prelude.{◌≤◌, length};
+ghost use Rattle.std.specs.Prelude.{◌≤◌, length, None};
 ghost use Rattle.grammar.specs.Limits.{schema_bytes};
-ghost use Rattle.rules.specs.declared.SchemaRefusal.TheVariants.{NotText, RepeatedKey, BadName};
+ghost use Rattle.rules.specs.declared.SchemaRefusal.TheVariants.{NotText, RepeatedKey, NotDefinitions, BadName};
+ghost use Rattle.text.specs.Keys.{FirstRepeat};
+ghost use Rattle.strings.specs.Strings.{grammar_of};
+ghost use Rattle.strings.specs.declared.dialects.Dialect.TheVariants.{Schema};
 ghost use Rattle.schema.specs.Stages.{Answered, Zero, TextRead, RawRows, Compiles};
 
 use crate::stages::judge_names;
@@ -40,7 +43,22 @@ fn judge_table(schema: &[u8], table: &mut [u32], rows: &mut [u32]) -> SchemaAnsw
     judge_names(schema, table, &mut hashes[..n], &mut links, found, rows)
 }
 
-// The objects of the text, by its nodes: the earliest key that is repeated, and definitions all of them.
+// The objects of a text in which no key is repeated: definitions all of them. A function of its own, so that only what gets here pays for the words of the rows.
+fn judge_rows(schema: &[u8], nodes: &[u32], count: usize, rows: &mut [u32]) -> SchemaAnswer
+    requires { TextRead schema.now nodes.now count × FirstRepeat (grammar_of Schema) schema.now nodes.now count None × Zero rows.old }
+    ensures { Answered schema.now NotDefinitions rows.old rows.new result }
+{
+    let mut table = [0u32; ROW_ROOM];
+    match put_definitions(schema, nodes, count, &mut table) {
+        Err(_) => SchemaAnswer::Refused(SchemaRefusal::NotDefinitions, NOWHERE),
+        Ok(n) => {
+            let end = ROW_WORDS * n;
+            judge_table(schema, &mut table[..end], rows)
+        }
+    }
+}
+
+// The objects of the text, by its nodes: the earliest key that is repeated, then the definitions.
 fn judge_objects(schema: &[u8], nodes: &[u32], count: usize, rows: &mut [u32]) -> SchemaAnswer
     requires { TextRead schema.now nodes.now count × Zero rows.old }
     ensures { Answered schema.now RepeatedKey rows.old rows.new result }
@@ -53,14 +71,7 @@ fn judge_objects(schema: &[u8], nodes: &[u32], count: usize, rows: &mut [u32]) -
     if let Some(place) = first_repeat(tree, count) {
         return SchemaAnswer::Refused(SchemaRefusal::RepeatedKey, place);
     }
-    let mut table = [0u32; ROW_ROOM];
-    match put_definitions(schema, nodes, count, &mut table) {
-        Err(_) => SchemaAnswer::Refused(SchemaRefusal::NotDefinitions, NOWHERE),
-        Ok(n) => {
-            let end = ROW_WORDS * n;
-            judge_table(schema, &mut table[..end], rows)
-        }
-    }
+    judge_rows(schema, nodes, count, rows)
 }
 
 // The text, read into nodes.
