@@ -28,7 +28,7 @@ use Rattle.rules.specs.Rules.{is}
 use Rattle.rules.specs.SchemaTable.{row, data_link}
 use Rattle.rules.specs.Serving.RawTable.{packed}
 use Rattle.rules.proofs.Lists.{clash, none-not-some, is_true}
-use Rattle.definitions.specs.Places.{Found, Named, NamedRow, Links, BaseFits}
+use Rattle.definitions.specs.Places.{if_any, Found, Named, NamedRow, Links, BaseFits}
 use Rattle.definitions.specs.Parts.{value_row, member_row, pair_row, child_rows, counted_rows, CountedAt, FieldsAt, KindKeys, keys_of_kind, BodyAt, body_rows, rows_at}
 use Rattle.definitions.proofs.Options.{then, must-then, never}
 use Rattle.definitions.proofs.CountLaws.{counted_rows_lem}
@@ -84,7 +84,7 @@ pub record BodyLeft (s w : List ℕ) (body : Fields → Option Body) (k v n : �
   pub named : Named w v 0 name
   pub are : o ≡ (body fs >>= λ b. some (body_rows n name b))
 
-module _ {s w : List ℕ} (ks : KindKeys) (a : apart same (ks.own ∷ ks.others) ≡ true) {k v n : ℕ} {vs : List (Std.Option ℕ)} {t : Bool} (f : FindsEach schema s w k ks.others vs) (g : NoOthers w k (Some v ∷ vs) t) where
+module _ {s w : List ℕ} (ks : KindKeys) (a : apart same (ks.own ∷ ks.others) ≡ true) {k v n : ℕ} {vs : List (Std.Option ℕ)} {t : Bool} (f : FindsEach schema s w k ks.others vs) (g : NoOthers w k (if_any v ∷ vs) t) where
   keys_are : {b : Bool} → t ≡ b → (o : Option (List ℕ)) (h : BodyAt s w ks k v n o) → all (any_of (ks.own ∷ ks.others)) (keys_of h.fs) ≡ b
   keys_are e o h = sym ((only_these Schema a (h.own and f) g e).told h.fs h.fields.level h.fields.holds h.once)
 
@@ -129,7 +129,7 @@ module _ {s w : List ℕ} {k v n : ℕ} {d : Std.Option ℕ} (f : FindsValue sch
   list_of {own} kind link o h q e = subst (λ (x : List ℕ). CountedAt s w x d o) (sym q) (record { value = value_at (text "data") h.fs; found = found_at h.fields f; are = h.are ∙ e })
 
   -- an enum or an alternate
-  module _ {kind : ℕ} {t : Bool} (g : NoOthers w k (Some v ∷ d ∷ []) t) where
+  module _ {kind : ℕ} {t : Bool} (g : NoOthers w k (if_any v ∷ d ∷ []) t) where
     at-kind : (x : ℕ) → kind ≡ x → (o : Option (List ℕ)) → BodyAt s w (keys_of_kind kind) k v n o → BodyAt s w (keys_of_kind x) k v n o
     at-kind x e o h = subst (λ (i : ℕ). BodyAt s w (keys_of_kind i) k v n o) e h
 

@@ -1,10 +1,11 @@
 -- The kind of a definition: the kind key that it has, no key but those of the kind, and the body that they say.
-use Prim.Native.Nat.{ℕ}
+use Prim.Native.Nat.{ℕ, zero, suc}
 use mathlib.Core.Path.{◌≡◌, sym, ap, ◌∙◌, subst}
 use mathlib.Core.Bool.{Bool, true, false}
 use mathlib.Core.List.{List}
 use mathlib.Core.Option.{Option, none, some}
 use borrow.Author.Tests.{ne_eqb}
+use native.Mathlib.Omega.{arith}
 use Rattle.std.specs.Prelude.{Some, None}
 use Rattle.std.specs.Prelude as Std
 use Rattle.grammar.specs.Notation.{same, apart}
@@ -13,12 +14,14 @@ use Rattle.grammar.specs.Tree.Json.{leaf, arr, obj}
 use Rattle.grammar.proofs.Booleans.{both, none-not-some}
 use Rattle.grammar.specs.Keys.{keys_of, keys_once, keys_once_f}
 use Rattle.text.specs.Nodes.{node_kind}
-use Rattle.lookups.specs.Lookups.{string_kind}
+use Rattle.grammar.specs.Serving.Machine.Schema.{schema}
+use Rattle.lookups.specs.Lookups.{string_kind, ValueFound, FindsValue}
 use Rattle.rules.specs.Kinds.{enum_kind, struct_kind, union_kind, alternate_kind, command_kind}
 use Rattle.rules.specs.Definitions.{Definition, as_definition}
-use Rattle.rules.specs.Values.{◌>>=◌, as_fields}
+use Rattle.rules.specs.Values.{◌>>=◌, value_at, as_fields}
 use Rattle.definitions.specs.declared.definitions.KindKey.{KindKey}
-use Rattle.definitions.specs.Parts.{KindKeys, keys_of_kind, BodyAt, rows_at, KindAt, KindFound, KindTold, FindsKind, DefinitionAt}
+use Rattle.definitions.specs.Places.{if_any}
+use Rattle.definitions.specs.Parts.{FieldsAt, KindKeys, keys_of_kind, BodyAt, rows_at, KindAt, KindFound, KindTold, FindsKind, DefinitionAt}
 use Rattle.definitions.proofs.NameLaws.{is_name, no_name}
 use Rattle.definitions.proofs.ShapeLaws.{as_object, no_object}
 use Rattle.tokens.specs.NodeKinds.{object_node}
@@ -44,6 +47,15 @@ fields-once (leaf a e v) h o = none-not-some h
 fields-once (arr a e js) h o = none-not-some h
 fields-once (obj a e gs) {fs} h o = let q : gs ≡ fs = cc in rw (← q) (both (apart same (keys_of gs)) (keys_once_f gs) o).0
 
+-- a value that is found stands at a node after its object's, so not at 0
+own-node : {s w : List ℕ} {name : List ℕ} {fs : Fields} {k : ℕ} {v : ℕ} → FieldsAt s w fs k → FindsValue schema s w k name (Some v) → FindsValue schema s w k name (if_any v)
+own-node {s} {w} {name} {fs} {v = suc v} h g = g
+own-node {s} {w} {name} {fs} {v = zero} h g = go (value_at name fs) (g.told fs h.level h.holds)
+  where
+    go : {A : Type 0} (o : Option Json) → ValueFound schema s w h.level o (Some zero) → A
+    go none f = absurd f
+    go (some j) f = absurd (omega (arith, f.0))
+
 module _ {s w : List ℕ} {k n x : ℕ} (e : x ≡ node_kind w k) where
   pub definition_no_object : (x ≡ object_node → ⊥) → (o : Option (List ℕ)) → DefinitionAt s w k n o → o ≡ none
   definition_no_object z o h = h.are ∙ rw (no_object h.value h.held (λ q. z (e ∙ q)))
@@ -63,7 +75,7 @@ module _ {s w : List ℕ} {k n x : ℕ} (e : x ≡ node_kind w k) where
           fs = v.fs;
           fields = v.fields;
           once = fields-once h.value v.is h.once;
-          own = subst (λ (i : Std.Option KindKey). KindFound s w k i) q g.found;
+          own = own-node v.fields (subst (λ (i : Std.Option KindKey). KindFound s w k i) q g.found);
           value = y.0;
           held = y.1;
           are = h.are ∙ rw v.is (ap (λ (i : Option Definition). i >>= rows_at n) y.2);

@@ -18,7 +18,7 @@ use Rattle.rules.specs.SchemaTable.{inline_members, row, concat, flag, list_flag
 use Rattle.rules.specs.Serving.RawTable.{packed}
 use Rattle.definitions.specs.declared.definitions.KindKey.{KindKey}
 use Rattle.definitions.specs.declared.shapes.TypeText as Text
-use Rattle.definitions.specs.Places.{Held, Found, Keyed, Named}
+use Rattle.definitions.specs.Places.{if_any, Held, Found, Keyed, Named}
 
 -- one child: a value of an enum, a member, a branch or an alternative
 abbrev pub value_row : Name → List ℕ
@@ -140,12 +140,12 @@ keys_of_kind kind =
 abbrev pub defined : KindKeys → Fields → Name → Option Definition
 defined ks fs name = only (ks.own ∷ ks.others) fs name (ks.body fs)
 
--- the object at node k, which repeats no key, as such a definition, whose name stands at node v
+-- the object at node k, which repeats no key, as such a definition, whose name stands at node v; at 0 it lacks the kind's own key
 pub record BodyAt (s w : List ℕ) (ks : KindKeys) (k v n : ℕ) (o : Option (List ℕ)) : Type 0 where
   pub fs : Fields
   pub fields : FieldsAt s w fs k
   pub once : apart same (keys_of fs) ≡ true
-  pub own : FindsValue schema s w k ks.own (Some v)
+  pub own : FindsValue schema s w k ks.own (if_any v)
   pub name : Name
   pub named : Named w v 0 name
   pub are : o ≡ (defined ks fs name >>= rows_at n)
@@ -158,7 +158,7 @@ pub record KindAt (s w : List ℕ) (kind k v n : ℕ) (o : Option (List ℕ)) : 
   pub fs : Fields
   pub fields : FieldsAt s w fs k
   pub once : apart same (keys_of fs) ≡ true
-  pub own : FindsValue schema s w k (keys_of_kind kind).own (Some v)
+  pub own : FindsValue schema s w k (keys_of_kind kind).own (if_any v)
   pub value : Json
   pub held : Held s w value v
   pub are : o ≡ (kind_only kind fs value >>= rows_at n)

@@ -1,5 +1,5 @@
 -- Serves contracts: what the nodes of a schema's values say: names as words of rows, types, flags.
-use Rattle.std.specs.Prelude.{ℕ, ◌+◌, ◌≤◌, ◌≡◌, Bool, true, false, List, Result, Ok, Err, length, get_or}
+use Rattle.std.specs.Prelude.{ℕ, zero, suc, ◌+◌, ◌≤◌, ◌≡◌, Bool, true, false, List, Some, None, Result, Ok, Err, length, get_or}
 use Rattle.std.specs.Prelude as Std
 use Rattle.std.proofs.Math.Option.{Option, none, some}
 use Rattle.grammar.specs.Limits.{schema_bytes}
@@ -16,6 +16,11 @@ use Rattle.rules.specs.SchemaTable.{row, flag, list_flag, type_of, data_link}
 use Rattle.rules.specs.Serving.RawTable.{packed}
 use Rattle.definitions.specs.declared.shapes.TypeText as Text
 use Rattle.definitions.specs.declared.writing.NotDefinitions.{NotDefinitions}
+
+-- a value's node by its number, where 0 is nowhere
+abbrev pub if_any : ℕ → Std.Option ℕ
+if_any zero = None
+if_any (suc v) = Some (suc v)
 
 -- node k holds a value of a schema that is not too long; or it may be absent, and stand nowhere
 pub record Held (s w : List ℕ) (j : Json) (k : ℕ) : Type 0 where

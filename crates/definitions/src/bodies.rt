@@ -1,7 +1,9 @@
-// A definition of each kind: its keys' values, its row and the rows after it. The object stands at node k, its name at node v.
+// A definition of each kind: its keys' values, its row and the rows after it. The object stands at node k, its name at node v;
+// where v is 0, the kind's own key is absent.
 // A key that isn't the kind's is refused.
 ghost use Rattle.std.specs.Prelude.{◌<◌, ◌≡◌, ◌⊎◌};
 ghost use Rattle.rules.specs.Kinds.{enum_kind, struct_kind, union_kind, alternate_kind, command_kind};
+ghost use Rattle.definitions.specs.Places.{if_any};
 ghost use Rattle.definitions.specs.Written.{node_bound, definition_rows, PutsRows};
 ghost use Rattle.definitions.specs.Parts.{keys_of_kind, BodyAt, UnionAt, CommandAt};
 
@@ -13,6 +15,16 @@ use crate::writing::{NotDefinitions, named_row, put_row};
 use lookups::counts::no_others;
 use lookups::values::is_string;
 use rules::{kind, row};
+
+// The node of that number; 0 is nowhere.
+fn if_any(v: usize) -> Option<usize>
+    ensures { result ≡ if_any v }
+{
+    match v {
+        0 => None,
+        _ => Some(v),
+    }
+}
 
 // An enum or an alternate: a list and nothing else.
 pub fn put_list(
@@ -27,7 +39,7 @@ pub fn put_list(
     ensures { PutsRows (BodyAt source.now.bytes.now source.now.nodes.now (keys_of_kind kind) k v n) rows.old rows.new n definition_rows result }
 {
     let d = value_at(source, k, b"data");
-    if !no_others(source.nodes, k, &[Some(v), d]) {
+    if !no_others(source.nodes, k, &[if_any(v), d]) {
         return Err(NotDefinitions);
     }
     put_counted(source, d, rows, n, named_row(source.nodes, v, 0, kind))
@@ -45,7 +57,7 @@ pub fn put_struct(
 {
     let d = value_at(source, k, b"data");
     let b = value_at(source, k, b"base");
-    if !no_others(source.nodes, k, &[Some(v), d, b]) {
+    if !no_others(source.nodes, k, &[if_any(v), d, b]) {
         return Err(NotDefinitions);
     }
     if !base_fits(source.nodes, b) {
@@ -92,7 +104,7 @@ pub fn put_union(
     let b = value_at(source, k, b"base");
     let t = value_at(source, k, b"discriminator");
     let d = value_at(source, k, b"data");
-    if !no_others(source.nodes, k, &[Some(v), b, t, d]) {
+    if !no_others(source.nodes, k, &[if_any(v), b, t, d]) {
         return Err(NotDefinitions);
     }
     let Some(base) = b else {
@@ -143,7 +155,7 @@ pub fn put_command(
     let d = value_at(source, k, b"data");
     let returns = value_at(source, k, b"returns");
     let flag = value_at(source, k, b"allow-oob");
-    if !no_others(source.nodes, k, &[Some(v), d, returns, flag]) {
+    if !no_others(source.nodes, k, &[if_any(v), d, returns, flag]) {
         return Err(NotDefinitions);
     }
     // A type is taken by `let .. else`: the project's scope names this form (docs/DECISIONS.md).

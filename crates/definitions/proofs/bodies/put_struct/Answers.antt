@@ -14,13 +14,13 @@ pub returns-then-not-no_others : goal.returns-then-not-no_others
 returns-then-not-no_others c =
     let members = c.value_at-d.ensures in
     let base = c.value_at-b.ensures in
-    refused refl (other_key (keys_of_kind struct_kind) refl (members and base and nothing) c.no_others.ensures (c.if-not-no_others.true))
+    refused refl (other_key (keys_of_kind struct_kind) refl (members and base and nothing) (rw c.if_any.ensures at c.no_others.ensures) (c.if-not-no_others.true))
 
 pub returns-then-not-base_fits : goal.returns-then-not-base_fits
 returns-then-not-base_fits c =
     let members = c.value_at-d.ensures in
     let base = c.value_at-b.ensures in
-    let left = no_other-key (keys_of_kind struct_kind) refl (members and base and nothing) c.no_others.ensures (c.if-not-no_others.false) in
+    let left = no_other-key (keys_of_kind struct_kind) refl (members and base and nothing) (rw c.if_any.ensures at c.no_others.ensures) (c.if-not-no_others.false) in
     refused refl (λ o h. struct-refused base c.base_fits.ensures (c.if-not-base_fits.true) o (left o h))
 
 pub put_counted-requires : goal.put_counted-requires
@@ -31,5 +31,5 @@ pub returns : goal.returns
 returns c =
     let members = c.value_at-d.ensures in
     let base = c.value_at-b.ensures in
-    let left = no_other-key (keys_of_kind struct_kind) refl (members and base and nothing) c.no_others.ensures (c.if-not-no_others.false) in
+    let left = no_other-key (keys_of_kind struct_kind) refl (members and base and nothing) (rw c.if_any.ensures at c.no_others.ensures) (c.if-not-no_others.false) in
     handed (omega arith) (λ o h. struct-list members base c.base_fits.ensures (c.if-not-base_fits.false) c.named_row-own.ensures c.data_link.ensures o (left o h)) c.put_counted.ensures

@@ -14,12 +14,12 @@ returns-then-not-no_others c =
     let base = c.value_at-b.ensures in
     let discriminator = c.value_at-t.ensures in
     let branches = c.value_at-d.ensures in
-    refused refl (other_key (keys_of_kind union_kind) refl (base and discriminator and branches and nothing) c.no_others.ensures (c.if-not-no_others.true))
+    refused refl (other_key (keys_of_kind union_kind) refl (base and discriminator and branches and nothing) (rw c.if_any.ensures at c.no_others.ensures) (c.if-not-no_others.true))
 
 pub returns : goal.returns
 returns c =
     let base = c.value_at-b.ensures in
     let discriminator = c.value_at-t.ensures in
     let branches = c.value_at-d.ensures in
-    let left = no_other-key (keys_of_kind union_kind) refl (base and discriminator and branches and nothing) c.no_others.ensures (c.if-not-no_others.false) in
+    let left = no_other-key (keys_of_kind union_kind) refl (base and discriminator and branches and nothing) (rw c.if_any.ensures at c.no_others.ensures) (c.if-not-no_others.false) in
     handed (omega arith) (λ o h. union_handed base discriminator c.in-Some-t.is c.is_string.ensures (c.if-not-is_string.false) c.in-Some.is branches o (left o h)) c.put_union_rows.ensures
