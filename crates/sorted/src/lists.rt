@@ -1,4 +1,4 @@
-// Lists of the numbers of spans, and where each stands: a list with a place for each number below its length has all of them.
+// Lists of the numbers of spans, and where each stands: a list with a place for each number below n has all of them.
 ghost use Rattle.std.specs.Prelude.{◌≡◌, true, ◌^◌, ◌<◌, length};
 ghost use Rattle.sorted.specs.Lists.{Placed};
 
@@ -15,27 +15,27 @@ pub fn sort(spans: Spans, list: &mut [u32])
     list.sort_unstable_by(|a, b| spans.order(*a as usize, *b as usize).then(a.cmp(b)));
 }
 
-// Notes for each number of the list where it stands, if there is room for the note.
-pub fn note_places(list: &[u32], places: &mut [u32])
-    requires { length list.now < 2 ^ 32 }
+// Notes for each of the list's first n numbers where it stands, if there is room for the note.
+pub fn note_places(list: &[u32], n: usize, places: &mut [u32])
+    requires { n < 2 ^ 32 }
 {
-    for (k, number) in list.iter().enumerate() {
-        if let Some(place) = places.get_mut(*number as usize) {
+    for k in 0..n {
+        if let Some(place) = places.get_mut(number_at(list, k)) {
             *place = k as u32;
         }
     }
 }
 
-// Whether each number below the list's length stands in the list where its place says.
-pub fn all_placed(list: &[u32], places: &[u32]) -> bool
-    ensures { result ≡ true → Placed list.now (length list.now) places.now }
+// Whether each number below n stands in the list, below n, where its place says.
+pub fn all_placed(list: &[u32], n: usize, places: &[u32]) -> bool
+    ensures { result ≡ true → Placed list.now n places.now }
 {
-    for i in 0..list.len() {
+    for i in 0..n {
         let k = number_at(places, i);
-        if list.len() <= k {
+        if n <= k {
             return false;
         }
-        if list[k] as usize != i {
+        if number_at(list, k) != i {
             return false;
         }
     }

@@ -1,5 +1,5 @@
 // The first span that is the same as one before it: in a list in order, equal spans are neighbours.
-ghost use Rattle.std.specs.Prelude.{◌≡◌, length};
+ghost use Rattle.std.specs.Prelude.{◌≡◌, true, ◌^◌, ◌≤◌, ◌<◌, length};
 ghost use Rattle.sorted.specs.Orders.{stands_at};
 ghost use Rattle.sorted.specs.Lists.{least_of, Neighbours};
 ghost use Rattle.sorted.specs.Repeats.{Finds};
@@ -39,6 +39,13 @@ fn first_neighbour(spans: Spans, list: &[u32]) -> Result<Option<usize>, GivenUp>
     Ok(None)
 }
 
+// Whether n numbers find room in lists of so many words.
+fn has_room(n: usize, list: usize, places: usize) -> bool
+    ensures { result ≡ true → (n < 2 ^ 32) × (n ≤ list) × (n ≤ places) }
+{
+    n <= u32::MAX as usize && n <= list && n <= places
+}
+
 // The first of n spans that is the same as one before it. It is given up for want of room in the lent words, two for each span.
 pub fn first_same(
     spans: Spans,
@@ -48,16 +55,13 @@ pub fn first_same(
 ) -> Result<Option<usize>, GivenUp>
     ensures { Finds (stands_at spans.entry.sense spans.entry.text.now spans.entry.words.now) n result }
 {
-    if (u32::MAX as usize) < n {
-        return Err(GivenUp);
-    }
-    if list.len() < n {
+    if !has_room(n, list.len(), places.len()) {
         return Err(GivenUp);
     }
     let list = &mut list[..n];
     sort(spans, list);
-    note_places(list, places);
-    if !all_placed(list, places) {
+    note_places(list, n, places);
+    if !all_placed(list, n, places) {
         return Err(GivenUp);
     }
     first_neighbour(spans, list)

@@ -25,7 +25,7 @@ pub struct Spans<'a> {
 impl<'a> Spans<'a> {
     // The bytes of span k.
     #[tactic(auto, unfolding(crate::specs::Spans::span_at))]
-    fn span(self, k: usize) -> &'a [u8]
+    pub fn span(self, k: usize) -> &'a [u8]
         ensures { result.now ≡ span_at self.entry.text.now self.entry.words.now k }
     {
         let start = word_of(self.words, SPAN_WORDS, k, SPAN_START) as usize;

@@ -1,7 +1,6 @@
 -- `lists::all_placed` meets its contract: those passed are placed.
-use Rattle.std.proofs.Common.{length}
 use Rattle.sorted.proofs.ListLaws.{PlacedTo}
 use Rattle.sorted.proofs.lists.all_placed.Given as goal
 
 abbrev pub invariant-loop-i : goal.invariant-loop-i
-invariant-loop-i l = PlacedTo l.list (length l.list) l.places l.i
+invariant-loop-i l = PlacedTo l.list l.n l.places l.i

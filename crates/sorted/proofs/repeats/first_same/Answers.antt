@@ -9,4 +9,4 @@ use Rattle.sorted.proofs.repeats.first_same.Goals as goal
 pub returns : goal.returns
 returns c =
     let e : length c.sort.new.list ≡ c.args.n = grind (arith, common_steps) in
-    rw (← e) (neighbours_find _ (c.all_placed.ensures (c.if-not-all_placed.false)) c.first_neighbour.ensures)
+    neighbours_find _ (c.all_placed.ensures (c.if-not-all_placed.false)) (rw e at c.first_neighbour.ensures)
