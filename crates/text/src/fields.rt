@@ -69,5 +69,5 @@ pub fn has_few(nodes: &[u32], b: usize, end: usize, most: usize) -> bool {
         }
         i = n;
     }
-    end <= i
+    end.saturating_sub(i) / 2 == 0
 }
