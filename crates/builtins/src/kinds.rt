@@ -1,7 +1,6 @@
 // The JSON kind of each built-in, and the grid of the kinds that it takes.
 ghost use Rattle.std.specs.Prelude.{◌≡◌};
-ghost use Rattle.rules.specs.Types.{takes};
-ghost use Rattle.builtins.specs.Kinds.{kind_in, kind_as, built_in_kind};
+ghost use Rattle.builtins.specs.Kinds.{kind_as, built_in_kind, takes_if};
 
 use crate::json::{JSON_KINDS, JsonKind, column};
 use crate::{ANY, BOOL, NULL, NUMBER, SIZE, STR};
@@ -38,15 +37,18 @@ const GRID: [[bool; JSON_KINDS]; ANY] = [
     [true, true, true, true, true, true],
 ];
 
-// Whether built-in b takes the JSON kind k; no other number takes any.
-pub fn takes(b: usize, k: JsonKind) -> bool
-    ensures { result ≡ takes b (kind_in k) }
+// Whether built-in b takes the JSON kind k; no other number takes any, and where there is no kind none is taken.
+pub fn takes(b: usize, k: Option<JsonKind>) -> bool
+    ensures { result ≡ takes_if b k }
 {
+    let Some(kind) = k else {
+        return false;
+    };
     if b == 0 {
         return false;
     }
     if ANY < b {
         return false;
     }
-    GRID[b - 1][column(k)]
+    GRID[b - 1][column(kind)]
 }

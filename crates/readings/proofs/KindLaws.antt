@@ -19,6 +19,15 @@ use Rattle.strings.specs.Strings.{plain_string}
 use Rattle.tokens.specs.NodeKinds.{integer_node, other_number_node, plain_string_node, other_string_node}
 use Rattle.tokens.specs.Tokens.{scalar_node}
 use Rattle.text.specs.Nodes.{Holds, node_end, node_kind, node_start}
+use Rattle.std.specs.Prelude as Code
+use Rattle.builtins.specs.declared.json.JsonKind.{JsonKind}
+use Rattle.std.specs.Option.{option_eq}
+use denote.Enum.Bare.{sameb}
+use Rattle.rules.proofs.Grid.{same_kind_lem, other-kind}
+use Rattle.builtins.specs.declared.json.JsonKind.TheVariants.{Number}
+use Rattle.builtins.specs.contracts.json.JsonKind.{the_type}
+use Rattle.builtins.specs.Kinds.{kind_in, kind_as, takes_if}
+use Rattle.builtins.proofs.KindLaws.{same_in}
 use Rattle.readings.specs.Parts.{kind_of_node, NumberFits, BuiltInTakes}
 
 -- the kind of a node's kind
@@ -100,3 +109,26 @@ module _ (m w : List ℕ) {k x : ℕ} (o : x ≡ node_kind w k) where
         go (leaf a e (str cs)) l h z = cc
         go (arr a e js) l h z = cc
         go (obj a e fs) l h z = cc
+
+  -- where there may be no kind
+  module _ (kind : Code.Option JsonKind) (n : kind_as kind ≡ kind_of_node x) {b : ℕ} {t : Bool} (g : t ≡ takes_if b kind) where
+    pub if_not_taken : t ≡ false → BuiltInTakes m w k b false
+    if_not_taken f = go kind n g
+      where
+        go : (i : Code.Option JsonKind) → kind_as i ≡ kind_of_node x → t ≡ takes_if b i → BuiltInTakes m w k b false
+        go Code.None n g = no_kind n
+        go (Code.Some c) n g = not_taken n g f
+
+    pub if_taken : t ≡ true → option_eq (sameb the_type) kind (Code.Some Number) ≡ false → BuiltInTakes m w k b true
+    if_taken f = go kind n g
+      where
+        go : (i : Code.Option JsonKind) → kind_as i ≡ kind_of_node x → t ≡ takes_if b i → option_eq (sameb the_type) i (Code.Some Number) ≡ false → BuiltInTakes m w k b true
+        go Code.None n g e = cc
+        go (Code.Some c) n g e = taken n g f (other-kind (kind_in c) number (sym (same_in c Number) ∙ e))
+
+    pub if_number_taken : t ≡ true → option_eq (sameb the_type) kind (Code.Some Number) ≡ true → {r : Bool} → NumberFits m w k b r → BuiltInTakes m w k b r
+    if_number_taken f e {r} u = go kind n g e
+      where
+        go : (i : Code.Option JsonKind) → kind_as i ≡ kind_of_node x → t ≡ takes_if b i → option_eq (sameb the_type) i (Code.Some Number) ≡ true → BuiltInTakes m w k b r
+        go Code.None n g e = cc
+        go (Code.Some c) n g e = number-taken n g f (same_kind_lem (kind_in c) number (sym (same_in c Number) ∙ e)) u

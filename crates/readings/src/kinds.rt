@@ -47,13 +47,11 @@ fn number_fits(m: &[u8], nodes: &[u32], k: usize, b: usize) -> bool
 pub fn built_in_takes(m: &[u8], nodes: &[u32], k: usize, b: usize) -> bool
     ensures { BuiltInTakes m.now nodes.now k b result }
 {
-    let Some(kind) = json_kind(node_word(nodes, k, NODE_KIND)) else {
-        return false;
-    };
+    let kind = json_kind(node_word(nodes, k, NODE_KIND));
     if !takes(b, kind) {
         return false;
     }
-    if kind != JsonKind::Number {
+    if kind != Some(JsonKind::Number) {
         return true;
     }
     number_fits(m, nodes, k, b)

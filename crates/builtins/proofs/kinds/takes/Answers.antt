@@ -4,10 +4,10 @@ use Rattle.builtins.proofs.KindLaws.{takes-zero, takes-past, takes-entry}
 use Rattle.builtins.proofs.kinds.takes.Goals as goal
 
 pub returns-then-b-eq0 : goal.returns-then-b-eq0
-returns-then-b-eq0 c = takes-zero (kind_in c.args.k) c.if-b-eq0.true
+returns-then-b-eq0 c = rw c.in-Some.is (takes-zero (kind_in c.in-Some.kind) c.if-b-eq0.true)
 
 pub returns-then-b-gt-ANY : goal.returns-then-b-gt-ANY
-returns-then-b-gt-ANY c = takes-past (kind_in c.args.k) c.if-b-gt-ANY.true
+returns-then-b-gt-ANY c = rw c.in-Some.is (takes-past (kind_in c.in-Some.kind) c.if-b-gt-ANY.true)
 
 pub returns : goal.returns
-returns c = takes-entry (kind_in c.args.k) c.column.ensures c.if-b-eq0.false
+returns c = rw c.in-Some.is (takes-entry (kind_in c.in-Some.kind) c.column.ensures c.if-b-eq0.false)
