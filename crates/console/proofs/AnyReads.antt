@@ -83,18 +83,18 @@ module _ (s : Style) (S T : List ℕ) (room : ℕ) where
   any-reads chunks text r = sym (from-run r)
 
 -- ---- the whole run: the first line, by what was read of the file, and what follows it
-module _ (s : Style) (file : Option (List ℕ)) (input : List ℕ) {read : Option (List ℕ)} (e : cut_file file ≡ read) where
+module _ (s : Style) (file : Option (List ℕ)) (input : List ℕ) {read : Option (List ℕ)} (e : read ≡ cut_file file) where
   written-first : {rows new : List ℕ} {r : Option ℕ} → Opens s read rows [] new r → new ≡ first_line s file
-  written-first o = o.puts ∙ ap (first_line s) (sym e) ∙ first_cut s file
+  written-first o = o.puts ∙ ap (first_line s) e ∙ first_cut s file
 
   written-later : {text : List ℕ} → later_lines s read input ≡ text → text ≡ later_lines s file input
-  written-later l = sym l ∙ ap (λ (x : Option (List ℕ)). later_lines s x input) (sym e) ∙ later_cut s file input
+  written-later l = sym l ∙ ap (λ (x : Option (List ℕ)). later_lines s x input) e ∙ later_cut s file input
 
-pub whole_run : (s : Style) (file : Option (List ℕ)) (chunks : List (List ℕ)) (text : List ℕ) → WholeRun s file chunks text → text ≡ program_text s file (input_of chunks)
+pub whole_run : {E : Type 0} (s : Style) (file : Option (List ℕ)) (chunks : List (List ℕ)) (text : List ℕ) → WholeRun E s file chunks text → text ≡ program_text s file (input_of chunks)
 unfolding program_text
-whole_run s file chunks text (stops o) =
-    written-first s file (input_of chunks) refl o ∙ sym (append-nil (first_line s file)) ∙ ap (λ (l : List ℕ). first_line s file ++ l) (written-later s file (input_of chunks) refl (o.follows (input_of chunks)))
-whole_run s file chunks text (goes_on {schema} {rows} {more = more} {words = words} e o r w) =
-    let t : TableOf schema (take words rows) = table_lent o refl refl in
-    let later = table-answers s t (input_of chunks) ∙ sym (any-reads s schema (take words rows) record_room chunks more r) in
+whole_run s file chunks text (stops read room e o) =
+    written-first s file (input_of chunks) e o ∙ sym (append-nil (first_line s file)) ∙ ap (λ (l : List ℕ). first_line s file ++ l) (written-later s file (input_of chunks) e (o.follows (input_of chunks)))
+whole_run s file chunks text (goes_on read room {schema} {rows} {more = more} {words = words} e o f r w) =
+    let t : TableOf schema (take words rows) = table_lent o refl f in
+    let later = ap (λ (x : Option (List ℕ)). later_lines s x (input_of chunks)) f ∙ table-answers s t (input_of chunks) ∙ sym (any-reads s schema (take words rows) record_room chunks more r) in
     w ∙ ap (λ (l : List ℕ). l ++ more) (written-first s file (input_of chunks) e o) ∙ ap (λ (l : List ℕ). first_line s file ++ l) (written-later s file (input_of chunks) e later)

@@ -1,6 +1,6 @@
 // A program: schema.json, then standard input.
 use crate::answers::{Session, Style};
-use crate::files::read_all;
+use crate::files::{file_in, read_all};
 use crate::opening::open_run;
 use crate::rooms::{TABLE_ROOM, schema_room};
 use crate::turns::take_input;
@@ -15,10 +15,8 @@ fn answer_all<R: Files + Print, I: Read>(rt: &R, input: &mut I, style: Style) ->
     let mut room = schema_room();
     let mut rows = [0u32; TABLE_ROOM];
     let mut first = Page::<SCHEMA_HEAD_ROOM>::new();
-    let file = match read_all(rt, "schema.json", &mut room) {
-        Ok(size) => Some(&room[..size]),
-        Err(_) => None,
-    };
+    let read = read_all(rt, "schema.json", &mut room);
+    let file = file_in(read, &room);
     let words = open_run(style, file, &mut rows, &mut first);
     rt.write_all(first.bytes())?;
     if let (Some(schema), Some(words)) = (file, words) {

@@ -1,11 +1,16 @@
 -- Serves contracts: how a run begins, by what was read of the schema file: what is put first, and whether messages follow.
-use Rattle.std.specs.Prelude.{ℕ, ◌+◌, ◌*◌, ◌≤◌, min, ◌≡◌, List, [], ◌++◌, length, take, Option, Some, None}
+use Rattle.std.specs.Prelude.{ℕ, ◌+◌, ◌*◌, ◌≤◌, min, ◌≡◌, List, [], ◌++◌, length, take, Option, Some, None, Result, Ok, Err}
 use Rattle.grammar.specs.Limits.{schema_bytes, row_words}
 use Rattle.rules.specs.declared.SchemaAnswer.{SchemaAnswer}
 use Rattle.rules.specs.declared.SchemaAnswer.TheVariants.{Accepted, Refused}
 use Rattle.rules.specs.Serving.Answers.{schema_result}
 use Rattle.console.specs.declared.answers.Style.{Style}
 use Rattle.console.specs.Program.{table_room, first_line, later_lines}
+
+-- the file, by what was read of it into a room
+abbrev pub file_in : {E : Type 0} → List ℕ → Result ℕ E → Option (List ℕ)
+file_in room (Ok n) = Some (take n room)
+file_in room (Err x) = None
 
 -- what is read of a file: no more than its first bytes
 abbrev pub cut_file : Option (List ℕ) → Option (List ℕ)

@@ -1,11 +1,11 @@
 -- Serves a theorem: a run of a program, namely what it reads, file and chunks, and what it writes, where each step does what its contract says.
-use Rattle.std.specs.Prelude.{ℕ, ◌/◌, ◌≤◌, ◌<◌, ◌≡◌, List, [], ◌∷◌, ◌++◌, length, take, Option, Some, None}
+use Rattle.std.specs.Prelude.{ℕ, ◌/◌, ◌≤◌, ◌<◌, ◌≡◌, List, [], ◌∷◌, ◌++◌, length, take, Option, Some, None, Result}
 use Rattle.grammar.specs.Limits.{record_words}
 use Rattle.trees.specs.Serving.Asks.{One}
 use Rattle.console.specs.declared.answers.Style.{Style}
 use Rattle.console.specs.Program.{record_room}
 use Rattle.console.specs.Serving.Steps.{Takes, Keeps}
-use Rattle.console.specs.Serving.Beginning.{cut_file, Opens}
+use Rattle.console.specs.Serving.Beginning.{file_in, cut_file, Opens}
 
 -- in a style, over a schema, its table and the words lent for records
 module _ (s : Style) (S T : List ℕ) (room : ℕ) where
@@ -30,11 +30,11 @@ module _ (s : Style) (S T : List ℕ) (room : ℕ) where
     last : {b : ℕ} {m m' written : List ℕ} → Turns (10 ∷ []) [] (b ∷ m) written m' → Run (b ∷ m) [] written
     reads : {chunk m m' text more written : List ℕ} {chunks : List (List ℕ)} → Turns chunk [] m text m' → Run m' chunks more → written ≡ text ++ more → Run m (chunk ∷ chunks) written
 
--- a whole run: the first bytes of the file are read, if there is one, and what is put first is written; then nothing follows, or the messages
-pub data WholeRun (s : Style) (file : Option (List ℕ)) (chunks : List (List ℕ)) : List ℕ → Type 0 where
-  stops : {rows written : List ℕ} → Opens s (cut_file file) rows [] written None → WholeRun s file chunks written
-  goes_on : {schema rows new more written : List ℕ} {words : ℕ} → cut_file file ≡ Some schema → Opens s (Some schema) rows [] new (Some words)
-      → Run s schema (take words rows) record_room [] chunks more → written ≡ new ++ more → WholeRun s file chunks written
+-- a whole run, where reading fails with an error of E: the first bytes of the file are read, if there is one, and what is put first is written; then nothing follows, or the messages
+pub data WholeRun (E : Type 0) (s : Style) (file : Option (List ℕ)) (chunks : List (List ℕ)) : List ℕ → Type 0 where
+  stops : (read : Result ℕ E) (room : List ℕ) {rows written : List ℕ} → file_in room read ≡ cut_file file → Opens s (file_in room read) rows [] written None → WholeRun E s file chunks written
+  goes_on : (read : Result ℕ E) (room : List ℕ) {schema rows new more written : List ℕ} {words : ℕ} → file_in room read ≡ cut_file file → Opens s (file_in room read) rows [] new (Some words)
+      → file_in room read ≡ Some schema → Run s schema (take words rows) record_room [] chunks more → written ≡ new ++ more → WholeRun E s file chunks written
 
 -- the input: all chunks, one after another
 abbrev pub input_of : List (List ℕ) → List ℕ
