@@ -1,6 +1,7 @@
 // The records of a message as lines of a tree, by one reader that is asked for record after record.
-ghost use Rattle.std.specs.Prelude.{◌+◌, ◌≤◌, ◌≡◌, [], length, IfOk};
+ghost use Rattle.std.specs.Prelude.{◌+◌, ◌≤◌, ◌≡◌, [], length, IfOk, IfErr};
 ghost use Rattle.trees.specs.Serving.Rooms.{line_room};
+ghost use Rattle.trees.specs.Serving.Asks.{One};
 ghost use Rattle.console.specs.Program.{record_count};
 ghost use Rattle.console.specs.Serving.Shows.{Shows};
 
@@ -21,17 +22,20 @@ fn show_next<R: Print, const M: usize, const N: usize>(
     out: &mut Page<N>,
 ) -> io::Result<bool>
     requires { (M ≡ record_count) × (length out.old + line_room ≤ N) }
-    ensures { IfOk result (λ on. Shows tree.now.types.schema.now tree.now.types.table.now tree.now.message.now tree.now.records.now M N reader.old.place around.old out.old reader.new.place around.new out.new on) }
+    ensures shows { IfOk result (λ on. Shows tree.now.types.schema.now tree.now.types.table.now tree.now.message.now tree.now.records.now M N reader.old.place around.old out.old reader.new.place around.new out.new on) }
+    ensures unwritten { IfErr result (λ _. One tree.now.types.schema.now tree.now.types.table.now tree.now.message.now tree.now.records.now M reader.old.place around.old out.old out.new reader.new.place around.new) }
 {
     let n = reader.place;
-    match reader.next(tree.records) {
+    let seen = reader.next(tree.records);
+    put_record(tree, n, seen, around, out);
+    match seen {
         None => Ok(false),
-        Some(record) => {
-            put_record(tree, n, record, around, out);
-            if out.left() < LINE_ROOM {
-                rt.write_all(out.bytes())?;
-                out.clear();
+        Some(_) => {
+            if LINE_ROOM <= out.left() {
+                return Ok(true);
             }
+            rt.write_all(out.bytes())?;
+            out.clear();
             Ok(true)
         }
     }

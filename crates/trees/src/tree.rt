@@ -73,22 +73,24 @@ fn put_right<const N: usize>(tree: &Tree, seen: Record, out: &mut Page<N>)
     out.push(b'\n');
 }
 
-// Puts the line of the record with a number, within those around it, and opens that record.
-#[tactic(auto, using(std::proofs::lemmas::Grind::common_steps, crate::proofs::TreeLaws::line_is, crate::proofs::TreeLaws::open_is, crate::proofs::TreeLaws::left_is, crate::proofs::TreeLaws::indent_length, crate::proofs::LabelLaws::label_length))]
+// Puts the line of the record seen at a number, within those around it, and opens that record; or there is none, and nothing is put.
+#[tactic(auto, using(std::proofs::lemmas::Grind::common_steps, crate::proofs::TreeLaws::line_is, crate::proofs::TreeLaws::open_is, crate::proofs::TreeLaws::line_none, crate::proofs::TreeLaws::open_none, crate::proofs::TreeLaws::left_is, crate::proofs::TreeLaws::indent_length, crate::proofs::LabelLaws::label_length))]
 pub fn put_record<const M: usize, const N: usize>(
     tree: &Tree,
     n: usize,
-    seen: Record,
+    seen: Option<Record>,
     around: &mut Around<M>,
     out: &mut Page<N>,
 )
-    requires { (Some seen ≡ seen_at tree.now.records.now n) × (length out.old + line_room ≤ N) }
+    requires { (seen ≡ seen_at tree.now.records.now n) × (length out.old + line_room ≤ N) }
     ensures puts { out.new ≡ out.old ++ line_at tree.now.types.schema.now tree.now.types.table.now tree.now.message.now tree.now.records.now M n around.old }
     ensures opens { around.new ≡ open_then tree.now.types.schema.now tree.now.types.table.now tree.now.message.now tree.now.records.now M n around.old }
 {
-    let start = seen.start as usize;
-    around.shut(start);
-    put_left(tree, n, start, around.len(), out);
-    put_right(tree, seen, out);
-    around.open(seen.end);
+    if let Some(record) = seen {
+        let start = record.start as usize;
+        around.shut(start);
+        put_left(tree, n, start, around.len(), out);
+        put_right(tree, record, out);
+        around.open(record.end);
+    }
 }
