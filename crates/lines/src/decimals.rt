@@ -62,7 +62,8 @@ fn put_words<const N: usize>(out: &mut Page<N>, words: &[u32])
 #[tactic(auto, using(std::proofs::lemmas::Grind::common_steps, crate::proofs::TextLaws::three_are, crate::proofs::TextLaws::spaced_one, crate::proofs::TextLaws::number_length))]
 fn put_three<const N: usize>(out: &mut Page<N>, a: usize, b: usize, c: usize)
     requires { length out.old + 3 * number_room ≤ N }
-    ensures { out.new ≡ out.old ++ numbers_text a (b ∷ c ∷ []) }
+    ensures puts { out.new ≡ out.old ++ numbers_text a (b ∷ c ∷ []) }
+    ensures upper_bound { length out.new < length out.old + 3 * number_room }
 {
     put_number(out, a);
     put_spaced(out, b);

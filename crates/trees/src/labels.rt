@@ -102,7 +102,8 @@ fn key_before(message: &[u8], start: usize) -> Option<&[u8]>
 
 fn put_key<const N: usize>(message: &[u8], start: usize, out: &mut Page<N>)
     requires { length out.old + shown_room ≤ N }
-    ensures { out.new ≡ out.old ++ key_text (key_before (before message.now start)) }
+    ensures puts { out.new ≡ out.old ++ key_text (key_before (before message.now start)) }
+    ensures upper_bound { length out.new ≤ length out.old + shown_room }
 {
     match key_before(message, start) {
         Some(key) => put_shown(out, key),
@@ -132,7 +133,8 @@ fn is_alternative(table: &[u32], records: &[u32], n: usize) -> bool
 #[tactic(auto, using(std::proofs::lemmas::Grind::common_steps, crate::proofs::LabelLaws::label_arguments, crate::proofs::LabelLaws::label_as, crate::proofs::LabelLaws::label_key))]
 pub fn put_label<const N: usize>(tree: &Tree, n: usize, start: usize, out: &mut Page<N>)
     requires { length out.old + shown_room ≤ N }
-    ensures { out.new ≡ out.old ++ label_text tree.now.types.table.now tree.now.message.now tree.now.records.now n start }
+    ensures puts { out.new ≡ out.old ++ label_text tree.now.types.table.now tree.now.message.now tree.now.records.now n start }
+    ensures upper_bound { length out.new ≤ length out.old + shown_room }
 {
     if n == 0 {
         out.put(b"arguments");

@@ -20,7 +20,8 @@ fn hex_digit(d: u8) -> u8
 #[tactic(auto, using(std::proofs::lemmas::Grind::common_steps, crate::proofs::ShownLaws::low_byte, crate::proofs::ShownLaws::high_byte, crate::proofs::ShownLaws::plain_byte))]
 fn put_byte<const N: usize>(out: &mut Page<N>, b: u8)
     requires { length out.old + escape_bytes ≤ N }
-    ensures { out.new ≡ out.old ++ shown_byte b }
+    ensures puts { out.new ≡ out.old ++ shown_byte b }
+    ensures upper_bound { length out.new ≤ length out.old + escape_bytes }
 {
     if b < 0x20 || 0x7E < b {
         out.put(&[b'\\', b'x', hex_digit(b / 16), hex_digit(b % 16)]);
@@ -30,10 +31,11 @@ fn put_byte<const N: usize>(out: &mut Page<N>, b: u8)
 }
 
 // Each byte as a terminal may have it.
-#[tactic(auto, using(std::proofs::lemmas::Grind::common_steps, crate::proofs::ShownLaws::byte_length, crate::proofs::ShownLaws::shown_next, crate::proofs::ShownLaws::shown_none))]
+#[tactic(auto, using(std::proofs::lemmas::Grind::common_steps, crate::proofs::ShownLaws::byte_length, crate::proofs::ShownLaws::shown_next, crate::proofs::ShownLaws::shown_none, crate::proofs::ShownLaws::each_length))]
 pub fn put_each<const N: usize>(out: &mut Page<N>, bytes: &[u8])
     requires { length out.old + escape_bytes * length bytes.now ≤ N }
-    ensures { out.new ≡ out.old ++ shown_bytes bytes.now }
+    ensures puts { out.new ≡ out.old ++ shown_bytes bytes.now }
+    ensures upper_bound { length out.new ≤ length out.old + escape_bytes * length bytes.now }
 {
     for b in bytes {
         put_byte(out, *b);
@@ -41,10 +43,11 @@ pub fn put_each<const N: usize>(out: &mut Page<N>, bytes: &[u8])
 }
 
 // Bytes cut to the longest name, with dots where there is more.
-#[tactic(auto, using(std::proofs::lemmas::Grind::common_steps, crate::proofs::ShownLaws::each_length, crate::proofs::ShownLaws::shown_long, crate::proofs::ShownLaws::shown_short))]
+#[tactic(auto, using(std::proofs::lemmas::Grind::common_steps, crate::proofs::ShownLaws::each_length, crate::proofs::ShownLaws::shown_long, crate::proofs::ShownLaws::shown_short, crate::proofs::ShownLaws::shown_length))]
 pub fn put_shown<const N: usize>(out: &mut Page<N>, bytes: &[u8])
     requires { length out.old + shown_room ≤ N }
-    ensures { out.new ≡ out.old ++ shown bytes.now }
+    ensures puts { out.new ≡ out.old ++ shown bytes.now }
+    ensures upper_bound { length out.new ≤ length out.old + shown_room }
 {
     put_each(out, &bytes[..NAME_BYTES.min(bytes.len())]);
     if NAME_BYTES < bytes.len() {

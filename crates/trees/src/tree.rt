@@ -29,10 +29,11 @@ pub struct Tree<'a> {
     pub records: &'a [u32],
 }
 
-#[tactic(auto, using(std::proofs::lemmas::Grind::common_steps, crate::proofs::TreeLaws::indent_is))]
+#[tactic(auto, using(std::proofs::lemmas::Grind::common_steps, crate::proofs::TreeLaws::indent_is, crate::proofs::TreeLaws::indent_length))]
 fn put_indent<const N: usize>(depth: usize, out: &mut Page<N>)
     requires { length out.old + indent_room ≤ N }
-    ensures { out.new ≡ out.old ++ indent_text depth }
+    ensures puts { out.new ≡ out.old ++ indent_text depth }
+    ensures upper_bound { length out.new ≤ length out.old + indent_room }
 {
     out.put_spaces(2 * (1 + depth.min(DEEPEST)));
 }
@@ -40,7 +41,8 @@ fn put_indent<const N: usize>(depth: usize, out: &mut Page<N>)
 #[tactic(auto, using(std::proofs::lemmas::Grind::common_steps, crate::proofs::TreeLaws::value_absent, crate::proofs::TreeLaws::value_there))]
 fn put_value<const N: usize>(message: &[u8], start: usize, end: usize, out: &mut Page<N>)
     requires { length out.old + shown_room ≤ N }
-    ensures { out.new ≡ out.old ++ value_text message.now start end }
+    ensures puts { out.new ≡ out.old ++ value_text message.now start end }
+    ensures upper_bound { length out.new ≤ length out.old + shown_room }
 {
     let value = part_of(message, start, end);
     if value.len() == 0 {
@@ -54,7 +56,8 @@ fn put_value<const N: usize>(message: &[u8], start: usize, end: usize, out: &mut
 #[tactic(auto, using(std::proofs::lemmas::Grind::common_steps, crate::proofs::TreeLaws::left_is, crate::proofs::TreeLaws::indent_length))]
 fn put_left<const N: usize>(tree: &Tree, n: usize, start: usize, depth: usize, out: &mut Page<N>)
     requires { length out.old + left_room ≤ N }
-    ensures { out.new ≡ out.old ++ left_text tree.now.types.table.now tree.now.message.now tree.now.records.now n start depth }
+    ensures puts { out.new ≡ out.old ++ left_text tree.now.types.table.now tree.now.message.now tree.now.records.now n start depth }
+    ensures upper_bound { length out.new ≤ length out.old + left_room }
 {
     put_indent(depth, out);
     put_label(tree, n, start, out);

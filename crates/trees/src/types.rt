@@ -26,7 +26,8 @@ pub struct Types<'a> {
 #[tactic(auto, using(std::proofs::lemmas::Grind::common_steps, crate::proofs::TypeLaws::built_in_named, crate::proofs::TypeLaws::built_in_length))]
 fn put_built_in<const N: usize>(t: usize, out: &mut Page<N>)
     requires { (t < first_row) × (length out.old + shown_room ≤ N) }
-    ensures { out.new ≡ out.old ++ get_or built_in_names t [] }
+    ensures puts { out.new ≡ out.old ++ get_or built_in_names t [] }
+    ensures upper_bound { length out.new ≤ length out.old + shown_room }
 {
     if t == 0 {
         out.put(b"(none)");
@@ -41,7 +42,8 @@ impl<'a> Types<'a> {
     #[tactic(auto, using(std::proofs::lemmas::Grind::common_steps, crate::proofs::TypeLaws::row_named, crate::proofs::TypeLaws::row_inline, crate::proofs::TypeLaws::row_unknown))]
     fn put_row<const N: usize>(&self, r: usize, out: &mut Page<N>)
         requires { length out.old + shown_room ≤ N }
-        ensures { out.new ≡ out.old ++ row_name self.now.schema.now self.now.table.now r }
+        ensures puts { out.new ≡ out.old ++ row_name self.now.schema.now self.now.table.now r }
+        ensures upper_bound { length out.new ≤ length out.old + shown_room }
     {
         let name = name_of(self.schema, self.table, r);
         if name.len() != 0 {
@@ -56,7 +58,8 @@ impl<'a> Types<'a> {
     #[tactic(auto, using(std::proofs::lemmas::Grind::common_steps, crate::proofs::TypeLaws::name_below, crate::proofs::TypeLaws::name_above))]
     fn put_name<const N: usize>(&self, reference: usize, out: &mut Page<N>)
         requires { length out.old + shown_room ≤ N }
-        ensures { out.new ≡ out.old ++ type_name self.now.schema.now self.now.table.now reference }
+        ensures puts { out.new ≡ out.old ++ type_name self.now.schema.now self.now.table.now reference }
+        ensures upper_bound { length out.new ≤ length out.old + shown_room }
     {
         if reference < FIRST_ROW {
             put_built_in(reference, out);
@@ -69,7 +72,8 @@ impl<'a> Types<'a> {
     #[tactic(auto, using(std::proofs::lemmas::Grind::common_steps, crate::proofs::TypeLaws::type_plain, crate::proofs::TypeLaws::type_array, crate::proofs::TypeLaws::name_length))]
     pub fn put_type<const N: usize>(&self, reference: u32, array: u32, out: &mut Page<N>)
         requires { length out.old + type_room ≤ N }
-        ensures { out.new ≡ out.old ++ type_text self.now.schema.now self.now.table.now reference array }
+        ensures puts { out.new ≡ out.old ++ type_text self.now.schema.now self.now.table.now reference array }
+        ensures upper_bound { length out.new ≤ length out.old + type_room }
     {
         if array == 0 {
             self.put_name(reference as usize, out);

@@ -42,10 +42,11 @@ fn shuts_line(columns: usize, b: u8) -> bool
     b == b'\n' || columns < columns_of(b)
 }
 
-#[tactic(auto, using(std::proofs::lemmas::Grind::common_steps, crate::proofs::ExcerptLaws::from_stop, crate::proofs::ExcerptLaws::from_on, crate::proofs::ExcerptLaws::from_start, crate::proofs::ExcerptLaws::not_shut))]
+#[tactic(auto, using(std::proofs::lemmas::Grind::common_steps, crate::proofs::ExcerptLaws::from_stop, crate::proofs::ExcerptLaws::from_on, crate::proofs::ExcerptLaws::from_start, crate::proofs::ExcerptLaws::not_shut, crate::proofs::ExcerptLaws::from_near))]
 fn cut_from(s: &[u8], place: usize) -> usize
     requires { place ≤ length s.now }
-    ensures { result ≡ cut_from side_columns s.now place }
+    ensures value { result ≡ cut_from side_columns s.now place }
+    ensures upper_bound { (result ≤ place) × (place ≤ result + side_columns) }
 {
     let mut columns = SIDE_COLUMNS;
     for i in (0..place).rev() {
@@ -57,10 +58,11 @@ fn cut_from(s: &[u8], place: usize) -> usize
     0
 }
 
-#[tactic(auto, using(std::proofs::lemmas::Grind::common_steps, crate::proofs::ExcerptLaws::to_stop, crate::proofs::ExcerptLaws::to_on, crate::proofs::ExcerptLaws::to_end, crate::proofs::ExcerptLaws::not_shut))]
+#[tactic(auto, using(std::proofs::lemmas::Grind::common_steps, crate::proofs::ExcerptLaws::to_stop, crate::proofs::ExcerptLaws::to_on, crate::proofs::ExcerptLaws::to_end, crate::proofs::ExcerptLaws::not_shut, crate::proofs::ExcerptLaws::to_near))]
 fn cut_to(s: &[u8], place: usize) -> usize
     requires { place ≤ length s.now }
-    ensures { result ≡ cut_to side_columns place (drop place s.now) }
+    ensures value { result ≡ cut_to side_columns place (drop place s.now) }
+    ensures lower_bound { (place ≤ result) × (result ≤ place + side_columns) × (result ≤ length s.now) }
 {
     let mut columns = SIDE_COLUMNS;
     for i in place..s.len() {
@@ -90,17 +92,19 @@ fn goes_on_from(s: &[u8], i: usize) -> bool
 #[tactic(auto, using(std::proofs::lemmas::Grind::common_steps, crate::proofs::ExcerptLaws::dots_some, crate::proofs::ExcerptLaws::dots_none))]
 fn put_dots<const N: usize>(out: &mut Page<N>, more: bool)
     requires { length out.old + 3 ≤ N }
-    ensures { out.new ≡ out.old ++ dots more }
+    ensures puts { out.new ≡ out.old ++ dots more }
+    ensures upper_bound { length out.new ≤ length out.old + 3 }
 {
     if more {
         out.put(b"...");
     }
 }
 
-#[tactic(auto, using(std::proofs::lemmas::Grind::common_steps, crate::proofs::ExcerptLaws::lead_is, crate::proofs::ExcerptLaws::dots_length, crate::proofs::ExcerptLaws::from_near))]
+#[tactic(auto, using(std::proofs::lemmas::Grind::common_steps, crate::proofs::ExcerptLaws::lead_is, crate::proofs::ExcerptLaws::dots_length, crate::proofs::ExcerptLaws::from_near, crate::proofs::ExcerptLaws::lead_length))]
 fn put_lead<const N: usize>(s: &[u8], place: usize, out: &mut Page<N>)
     requires { (place ≤ length s.now) × (length out.old + lead_room ≤ N) }
-    ensures { out.new ≡ out.old ++ lead_text s.now place }
+    ensures puts { out.new ≡ out.old ++ lead_text s.now place }
+    ensures upper_bound { length out.new ≤ length out.old + lead_room }
 {
     let from = cut_from(s, place);
     out.put(b"  ");
@@ -108,10 +112,11 @@ fn put_lead<const N: usize>(s: &[u8], place: usize, out: &mut Page<N>)
     put_each(out, &s[from..place]);
 }
 
-#[tactic(auto, using(std::proofs::lemmas::Grind::common_steps, crate::proofs::ExcerptLaws::rest_is, crate::proofs::ExcerptLaws::dots_length, crate::proofs::ExcerptLaws::to_near, trees::proofs::ShownLaws::each_length))]
+#[tactic(auto, using(std::proofs::lemmas::Grind::common_steps, crate::proofs::ExcerptLaws::rest_is, crate::proofs::ExcerptLaws::dots_length, crate::proofs::ExcerptLaws::to_near, trees::proofs::ShownLaws::each_length, crate::proofs::ExcerptLaws::rest_length))]
 fn put_rest<const N: usize>(s: &[u8], place: usize, out: &mut Page<N>)
     requires { (place ≤ length s.now) × (length out.old + rest_room ≤ N) }
-    ensures { out.new ≡ out.old ++ rest_text s.now place }
+    ensures puts { out.new ≡ out.old ++ rest_text s.now place }
+    ensures upper_bound { length out.new ≤ length out.old + rest_room }
 {
     let to = cut_to(s, place);
     put_each(out, &s[place..to]);

@@ -71,7 +71,8 @@ fn message_meaning(x: MessageRefusal) -> &'static [u8]
 #[tactic(auto, using(std::proofs::lemmas::Grind::common_steps, crate::proofs::HeadLaws::refused_is, crate::proofs::HeadLaws::meaning_length, lines::proofs::TextLaws::number_length))]
 fn put_refusal<const N: usize>(n: usize, meaning: &[u8], out: &mut Page<N>)
     requires { (meaning.now ≡ meaning_of n) × (length out.old + refusal_room ≤ N) }
-    ensures { out.new ≡ out.old ++ refused_line n }
+    ensures puts { out.new ≡ out.old ++ refused_line n }
+    ensures upper_bound { length out.new ≤ length out.old + refusal_room }
 {
     put_number(out, n);
     out.push(b' ');

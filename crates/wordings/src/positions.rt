@@ -46,10 +46,11 @@ fn column_of(s: &[u8], place: usize) -> usize
     place - line_start(s, place) + 1
 }
 
-#[tactic(auto, using(std::proofs::lemmas::Grind::common_steps, crate::proofs::ExcerptLaws::position_is, lines::proofs::TextLaws::number_length))]
+#[tactic(auto, using(std::proofs::lemmas::Grind::common_steps, crate::proofs::ExcerptLaws::position_is, lines::proofs::TextLaws::number_length, crate::proofs::HeadLaws::line_length))]
 pub fn put_position<const N: usize>(s: &[u8], place: usize, out: &mut Page<N>)
     requires { (place ≤ length s.now) × (length s.now < 2 ^ 32) × (length out.old + position_room ≤ N) }
-    ensures { out.new ≡ out.old ++ position_line s.now place }
+    ensures puts { out.new ≡ out.old ++ position_line s.now place }
+    ensures upper_bound { length out.new ≤ length out.old + position_room }
 {
     out.put(b"  line ");
     put_number(out, line_of(s, place));

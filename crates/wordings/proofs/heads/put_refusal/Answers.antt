@@ -15,3 +15,8 @@ pub push-requires-2 : goal.push-requires-2
 push-requires-2 g c =
     let k : length c.args.meaning.now ≤ longest_meaning = meaning_short c.args.n c.requires.0 in
     (search rules, grind (arith, common_steps, number_length))
+
+pub returns-clause-upper_bound : goal.returns-clause-upper_bound
+returns-clause-upper_bound g c =
+    let k : length c.args.meaning.now ≤ longest_meaning = meaning_short c.args.n c.requires.0 in
+    grind (arith, common_steps, number_length)
