@@ -9,14 +9,14 @@ use rules::{MESSAGE_BYTES, RECORD_WORDS, ROW_WORDS, SCHEMA_BYTES, TABLE_ROWS};
 // A byte more than each limit, so that what is longer is seen to be longer.
 const SCHEMA_ROOM: usize = SCHEMA_BYTES + 1;
 
-const LINE_ROOM: usize = MESSAGE_BYTES + 1;
+pub const LINE_ROOM: usize = MESSAGE_BYTES + 1;
 
 // Words for all rows of a table, and for 4,096 records.
 pub const TABLE_ROOM: usize = TABLE_ROWS * ROW_WORDS;
 
 pub const RECORD_COUNT: usize = 4096;
 
-const RECORD_ROOM: usize = RECORD_COUNT * RECORD_WORDS;
+pub const RECORD_ROOM: usize = RECORD_COUNT * RECORD_WORDS;
 
 // The longest answer line: four numbers, then words. Answers have room for two.
 pub const LONGEST_LINE: usize = 4 * NUMBER_ROOM + WORD_ROOM * RECORD_ROOM;
@@ -30,15 +30,16 @@ pub fn schema_room() -> [u8; SCHEMA_ROOM]
     [0; SCHEMA_ROOM]
 }
 
-// What is read of a line, cut beyond the longest message; the records of the last answer; and what is answered and not yet written.
+// What is read of a line, cut beyond the room for it; the records of the last answer; and what is answered and not yet written.
+// The programs have `LINE_ROOM` and `OUT_ROOM`.
 #[derive(Drop)]
-pub struct Rooms {
-    pub line: Page<LINE_ROOM>,
+pub struct Rooms<const L: usize, const O: usize> {
+    pub line: Page<L>,
     pub records: [u32; RECORD_ROOM],
-    pub out: Page<OUT_ROOM>,
+    pub out: Page<O>,
 }
 
-impl Rooms {
+impl<const L: usize, const O: usize> Rooms<L, O> {
     pub fn new() -> Self
         ensures { (result.line ≡ []) × (result.out ≡ []) }
     {

@@ -4,7 +4,7 @@ ghost use Rattle.console.specs.Serving.Steps.{longest_line, out_room};
 ghost use Rattle.console.specs.Serving.Beginning.{TableOf};
 
 use crate::answers::Session;
-use crate::rooms::{LONGEST_LINE, OUT_ROOM, Rooms};
+use crate::rooms::{LINE_ROOM, LONGEST_LINE, OUT_ROOM, Rooms};
 use crate::showing::show_records;
 use crate::steps::take_line;
 use lines::page::Page;
@@ -32,7 +32,7 @@ fn answer_line<'a, R: Print>(
     rt: &R,
     session: &Session,
     chunk: &'a [u8],
-    rooms: &mut Rooms,
+    rooms: &mut Rooms<LINE_ROOM, OUT_ROOM>,
 ) -> io::Result<Option<&'a [u8]>>
     requires { length rooms.old.out + longest_line ≤ out_room }
     ensures { IfOk result (λ left. (length rooms.new.out + longest_line ≤ out_room) × MatchOption left (rooms.new.out ≡ rooms.old.out) (λ rest. (length rest.now < length chunk.now) × (rooms.new.line ≡ []))) }
@@ -57,7 +57,7 @@ fn take_chunk<R: Print>(
     rt: &R,
     session: &Session,
     chunk: &[u8],
-    rooms: &mut Rooms,
+    rooms: &mut Rooms<LINE_ROOM, OUT_ROOM>,
 ) -> io::Result<()>
     requires { rooms.old.out ≡ [] }
     ensures { IfOk result (λ _. rooms.new.out ≡ []) }
@@ -72,7 +72,11 @@ fn take_chunk<R: Print>(
 }
 
 // At the end of the input a last line without LF is answered as one with it.
-fn take_last<R: Print>(rt: &R, session: &Session, rooms: &mut Rooms) -> io::Result<()>
+fn take_last<R: Print>(
+    rt: &R,
+    session: &Session,
+    rooms: &mut Rooms<LINE_ROOM, OUT_ROOM>,
+) -> io::Result<()>
     requires { rooms.old.out ≡ [] }
 {
     if rooms.line.len() == 0 {
@@ -97,7 +101,7 @@ pub fn take_input<R: Print, I: Read>(rt: &R, input: &mut I, session: &Session) -
     requires { TableOf session.now.types.schema.now session.now.types.table.now }
 {
     let mut chunk = [0u8; CHUNK];
-    let mut rooms = Rooms::new();
+    let mut rooms = Rooms::<LINE_ROOM, OUT_ROOM>::new();
     for _turn in 0..u64::MAX {
         let n = read_some(input, &mut chunk);
         if n == 0 {

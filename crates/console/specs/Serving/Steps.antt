@@ -37,6 +37,6 @@ module _ (s : Style) (S T : List ℕ) (room : ℕ) where
     pub splits : (more : List ℕ) → answers_to s S T room line (chunk ++ more) ≡ answers_to s S T room line' more
     pub few : length line' ≤ length line + length chunk
 
-  abbrev pub Steps : List ℕ → Rooms → Rooms → Option Taken → Type 0
+  abbrev pub Steps : {L O : ℕ} → List ℕ → Rooms L O → Rooms L O → Option Taken → Type 0
   Steps chunk old new (Some t) = Takes chunk old.line old.out new.line new.records new.out t.rest.now t.words
   Steps chunk old new None = Keeps chunk old.line new.line × (new.out ≡ old.out)
