@@ -1,13 +1,13 @@
 -- A list seen backwards: one step, its length, and what a later write leaves alone.
 use Prim.Native.Nat.{ℕ, zero, suc, ◌+◌, ◌-◌, ◌≤◌, ◌<◌}
-use native.Mathlib.Nat.{not-suc-le-zero}
+use native.Mathlib.Nat.{not-suc-le-zero, min-eq_left}
 use native.Mathlib.Numerals.{add-one}
 use native.Mathlib.Omega.{arith}
 use mathlib.Core.Path.{◌≡◌, refl, ap, ◌∙◌}
 use mathlib.Core.List.{List, [], ◌∷◌}
 use lib.ListN.{length, get_or, set}
 use lib.Seq.{get_or-set_other}
-use Rattle.trees.specs.Backwards.{back}
+use Rattle.trees.specs.Backwards.{back, before}
 
 pub back_none : (l : List ℕ) → back l 0 ≡ []
 unfolding back
@@ -27,6 +27,10 @@ pub back_length : (l : List ℕ) (i : ℕ) → length (back l i) ≡ i
 unfolding back
 back_length l zero = refl
 back_length l (suc i) = ap suc (back_length l i)
+
+-- within the list
+pub before_in : (l : List ℕ) (i : ℕ) → i ≤ length l → before l i ≡ back l i
+before_in l i h = ap (back l) (min-eq_left h)
 
 set_later : (l : List ℕ) (i k x : ℕ) → i ≤ k → back (set l k x) i ≡ back l i
 unfolding back

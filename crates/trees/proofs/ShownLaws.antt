@@ -36,8 +36,12 @@ hex_is b h = let e : b / 16 % 16 ≡ b / 16 = omega arith in ap (λ (d : ℕ). c
 pub low_byte : (b : ℕ) → b < 32 → shown_byte b ≡ code "\\" ∷ code "x" ∷ shown_digit (b / 16) ∷ shown_digit (b % 16) ∷ []
 low_byte b h = by_range b false (ap (λ (t : Bool). t && leb b 126) (lt-leb 32 b h)) ∙ hex_is b (omega arith)
 
+-- any number above, also one that is no byte
+pub above_range : (b : ℕ) → 126 < b → hex_byte b ≡ shown_byte b
+above_range b h = sym (by_range b false (ap (λ (t : Bool). leb 32 b && t) (lt-leb b 126 h) ∙ false_right (leb 32 b)))
+
 pub high_byte : (b : ℕ) → 126 < b → b < 256 → shown_byte b ≡ code "\\" ∷ code "x" ∷ shown_digit (b / 16) ∷ shown_digit (b % 16) ∷ []
-high_byte b h k = by_range b false (ap (λ (t : Bool). leb 32 b && t) (lt-leb b 126 h) ∙ false_right (leb 32 b)) ∙ hex_is b k
+high_byte b h k = sym (above_range b h) ∙ hex_is b k
 
 pub plain_byte : (b : ℕ) → 32 ≤ b → b ≤ 126 → shown_byte b ≡ b ∷ []
 plain_byte b h k = by_range b true (ap (λ (t : Bool). t && leb b 126) (le-leb 32 b h) ∙ le-leb b 126 k)

@@ -15,7 +15,7 @@ use Rattle.lines.specs.Text.{decimal_text}
 use Rattle.trees.specs.Backwards.{back}
 use Rattle.trees.specs.Escapes.{printable, hex_byte, shown_byte, shown_bytes}
 use Rattle.trees.proofs.BackLaws.{back_next, back_start}
-use Rattle.trees.proofs.ShownLaws.{low_byte, high_byte, plain_byte, each_length}
+use Rattle.trees.proofs.ShownLaws.{low_byte, above_range, plain_byte, each_length}
 use Rattle.wordings.specs.Excerpts.{side_columns, columns_of, shuts, cut_from, cut_to, goes_on, dots, ends_line, line_ends, line_of, column_of, lead_text, rest_text, caret_text, excerpt, position_text, position_line}
 use Rattle.wordings.specs.Serving.Rooms.{lead_room, rest_room}
 
@@ -23,8 +23,8 @@ use Rattle.wordings.specs.Serving.Rooms.{lead_room, rest_room}
 pub low_columns : (b : ℕ) → b < 32 → columns_of b ≡ 4
 low_columns b h = ap length (low_byte b h)
 
-pub high_columns : (b : ℕ) → 126 < b → b < 256 → columns_of b ≡ 4
-high_columns b h k = ap length (high_byte b h k)
+pub high_columns : (b : ℕ) → 126 < b → columns_of b ≡ 4
+high_columns b h = ap length (sym (above_range b h))
 
 pub one_column : (b : ℕ) → 32 ≤ b → b ≤ 126 → columns_of b ≡ 1
 one_column b h k = ap length (plain_byte b h k)
