@@ -3,12 +3,12 @@ use Prim.Native.Nat.{ℕ, zero, suc, ◌+◌, ◌*◌, ◌/◌, ◌%◌, ◌^◌
 use native.Mathlib.Nat.{not-suc-le-zero, pow-suc}
 use native.Mathlib.Numerals.{add-one}
 use native.Mathlib.Omega.{arith}
-use mathlib.Core.Path.{◌≡◌, refl, sym, ap, ◌∙◌}
+use mathlib.Core.Path.{◌≡◌, refl, sym, ap, ap₂, ◌∙◌}
 use mathlib.Core.Bool.{Bool, true, false}
 use mathlib.Core.List.{List, [], ◌∷◌, ◌++◌, append_assoc, append-nil}
 use lib.Dec.{ltb}
-use lib.ListN.{length, take, get_or, length-append}
-use lib.Seq.{take-suc}
+use lib.ListN.{length, take, drop, get_or, set, length-append}
+use lib.Seq.{take-suc, drop-cons, set-append_seam}
 use borrow.Author.Tests.{ltb-true, ltb-false, lt-ltb, le-ltb}
 use Rattle.std.proofs.lemmas.Grind.{common_steps}
 use Rattle.lines.specs.Text.{digits_in, decimal_text, spaced_text, numbers_text, line_text}
@@ -44,6 +44,24 @@ one_length n h = ap length (decimal_one n h)
 
 pub more_length : (n : ℕ) → 10 ≤ n → length (decimal_text n) ≡ length (decimal_text (n / 10)) + 1
 more_length n h = ap length (decimal_more n h) ∙ length-append (decimal_text (n / 10)) ((48 + n % 10) ∷ [])
+
+-- the last digit is written after those of a tenth
+pub last_written : (n : ℕ) (old : List ℕ) {mid : List ℕ} {p : ℕ} → 10 ≤ n → length (decimal_text n) ≤ length old
+    → mid ≡ decimal_text (n / 10) ++ drop (length (decimal_text (n / 10))) old → p ≡ length (decimal_text (n / 10))
+    → set mid p (48 + n % 10) ≡ decimal_text n ++ drop (length (decimal_text n)) old
+last_written n old h w f g = ap₂ (λ (l : List ℕ) (k : ℕ). set l k d) f g ∙ (ap (λ (l : List ℕ). set (xs ++ l) (length xs) d) (drop-cons old (length xs) 0 room) ∙ (set-append_seam xs (get_or old (length xs) 0) (drop (suc (length xs)) old) d ∙ sym rest))
+  where
+    d : ℕ
+    d = 48 + n % 10
+
+    xs : List ℕ
+    xs = decimal_text (n / 10)
+
+    room : length xs < length old
+    room = omega (arith, w, more_length n h)
+
+    rest : decimal_text n ++ drop (length (decimal_text n)) old ≡ xs ++ (d ∷ drop (suc (length xs)) old)
+    rest = ap₂ (λ (l : List ℕ) (k : ℕ). l ++ drop k old) (decimal_more n h) (more_length n h ∙ add-one (length xs)) ∙ append_assoc xs (d ∷ []) (drop (suc (length xs)) old)
 
 -- a number below a power of ten has no more digits
 longer : (k n : ℕ) (b : Bool) → ltb n 10 ≡ b → (10 ≤ n → length (decimal_text (n / 10)) ≤ k) → length (decimal_text n) ≤ suc k

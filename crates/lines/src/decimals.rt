@@ -1,7 +1,7 @@
 // Numbers as decimal text, put on a page.
-ghost use Rattle.std.specs.Prelude.{◌≡◌, ◌+◌, ◌*◌, ◌≤◌, ◌<◌, [], ◌∷◌, ◌++◌, length};
+ghost use Rattle.std.specs.Prelude.{◌≡◌, ◌+◌, ◌*◌, ◌≤◌, ◌<◌, [], ◌∷◌, ◌++◌, length, drop};
 ghost use Rattle.lines.specs.Text.{decimal_text, spaced_text, numbers_text, line_text};
-ghost use Rattle.lines.specs.Serving.Rooms.{number_digits, number_room, word_room};
+ghost use Rattle.lines.specs.Serving.Rooms.{number_room, word_room};
 
 use crate::page::Page;
 
@@ -12,28 +12,27 @@ pub const NUMBER_ROOM: usize = NUMBER_DIGITS + 1;
 
 pub const WORD_ROOM: usize = 10 + 1;
 
-// The digits of a number, on a page that is no parameter: a function with a const parameter can't be proved to call itself.
+// Writes the digits of a number to the front of a room: how many there are.
 #[tactic(auto, using(std::proofs::lemmas::Grind::common_steps, crate::proofs::TextLaws::decimal_one, crate::proofs::TextLaws::decimal_more))]
-fn put_digits(out: &mut Page<NUMBER_DIGITS>, n: usize)
-    requires { length out.old + length (decimal_text n) ≤ number_digits }
-    ensures { out.new ≡ out.old ++ decimal_text n }
+pub fn write_digits(room: &mut [u8], n: usize) -> usize
+    requires { length (decimal_text n) ≤ length room.old }
+    ensures text { room.new ≡ decimal_text n ++ drop (length (decimal_text n)) room.old }
+    ensures count { result ≡ length (decimal_text n) }
 {
     if n < 10 {
-        out.push(b'0' + n as u8);
-        return;
+        room[0] = b'0' + n as u8;
+        return 1;
     }
-    put_digits(out, n / 10);
-    out.push(b'0' + (n % 10) as u8);
+    let p = write_digits(room, n / 10);
+    room[p] = b'0' + (n % 10) as u8;
+    p + 1
 }
 
-#[tactic(auto, using(std::proofs::lemmas::Grind::common_steps, crate::proofs::TextLaws::number_length))]
 pub fn put_number<const N: usize>(out: &mut Page<N>, n: usize)
     requires { length out.old + length (decimal_text n) ≤ N }
     ensures { out.new ≡ out.old ++ decimal_text n }
 {
-    let mut digits = Page::<NUMBER_DIGITS>::new();
-    put_digits(&mut digits, n);
-    out.put(digits.bytes());
+    out.put_digits(n);
 }
 
 // A space, then the number.

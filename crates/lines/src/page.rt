@@ -1,6 +1,8 @@
 // Bytes put one after another, in a room of their own: text that is to be written, or a line that is read.
 ghost use Rattle.std.specs.Prelude.{◌≡◌, ℕ, ◌+◌, ◌<◌, ◌≤◌, List, [], ◌∷◌, ◌++◌, length, take, replicate};
+ghost use Rattle.lines.specs.Text.{decimal_text};
 
+use crate::decimals::write_digits;
 use std::marker::Model;
 
 #[derive(Drop)]
@@ -63,6 +65,16 @@ impl<const N: usize> Page<N> {
         let room = &mut self.room[..];
         room[self.used..end].copy_from_slice(bytes);
         self.used = end;
+    }
+
+    // The digits of a number.
+    pub fn put_digits(&mut self, n: usize)
+        requires { length self.old + length (decimal_text n) ≤ N }
+        ensures { self.new ≡ self.old ++ decimal_text n }
+    {
+        let room = &mut self.room[..];
+        let count = write_digits(&mut room[self.used..], n);
+        self.used += count;
     }
 
     // Bytes as far as there is room for them; the others are dropped.
