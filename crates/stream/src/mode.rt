@@ -1,4 +1,6 @@
 // What is read next inside a message, and the number by which a caller keeps it between calls (specs/Serving/States).
+ghost use Rattle.std.specs.Prelude.{◌≤◌, ◌<◌};
+ghost use Rattle.stream.specs.Serving.States.{first_string, first_number, first_word, first_char};
 ghost use Rattle.stream.specs.Serving.Contracts.{CharAt, ModeAt, NumberOf};
 
 // Where a blank may stand: at a value; at an element or the end of its array; after a value; at a key or the end of its object; at a key; at its colon.
@@ -78,10 +80,14 @@ pub enum Mode {
     InWord(Word),
 }
 
-// The numbers of a string and of a key, and those from which the characters of either count.
+// The numbers of a string and of a key, and those from which numbers, words and the characters of either count.
 const IN_STRING: u64 = 8;
 
 const IN_KEY: u64 = 9;
+
+const NUMBERS: u64 = 10;
+
+const WORDS: u64 = 18;
 
 const STRING_CHARS: u64 = 27;
 
@@ -118,6 +124,63 @@ fn char_numbered(n: u64) -> Option<CharMode>
     Some(c)
 }
 
+// The mode of that number at a point, in a number or in a word. Each is a function of its own, since one match on all numbers becomes a jump that is seldom foreseen.
+#[tactic(auto, unfolding(crate::specs::Serving::States::mode_at))]
+fn point_numbered(n: u64) -> Option<Mode>
+    requires { n < first_string }
+    ensures { ModeAt n result }
+{
+    let point = match n {
+        2 => Point::Value,
+        3 => Point::Element,
+        4 => Point::After,
+        5 => Point::FirstKey,
+        6 => Point::Key,
+        7 => Point::Colon,
+        _ => return None,
+    };
+    Some(Mode::At(point))
+}
+
+#[tactic(auto, unfolding(crate::specs::Serving::States::mode_at))]
+fn number_numbered(n: u64) -> Option<Mode>
+    requires { (first_number ≤ n) × (n < first_word) }
+    ensures { ModeAt n result }
+{
+    let number = match n {
+        10 => NumberMode::AfterMinus,
+        11 => NumberMode::AfterZero,
+        12 => NumberMode::InInteger,
+        13 => NumberMode::AfterPoint,
+        14 => NumberMode::InFraction,
+        15 => NumberMode::AfterE,
+        16 => NumberMode::AfterSign,
+        17 => NumberMode::InExponent,
+        _ => return None,
+    };
+    Some(Mode::InNumber(number))
+}
+
+#[tactic(auto, unfolding(crate::specs::Serving::States::mode_at))]
+fn word_numbered(n: u64) -> Option<Mode>
+    requires { (first_word ≤ n) × (n < first_char) }
+    ensures { ModeAt n result }
+{
+    let word = match n {
+        18 => Word::Ull,
+        19 => Word::Ll,
+        20 => Word::Rue,
+        21 => Word::Ue,
+        22 => Word::Alse,
+        23 => Word::Lse,
+        24 => Word::Se,
+        25 => Word::L,
+        26 => Word::E,
+        _ => return None,
+    };
+    Some(Mode::InWord(word))
+}
+
 impl Mode {
     #[tactic(auto, unfolding(crate::specs::Serving::States::mode_at))]
     pub fn number(self) -> u64
@@ -138,36 +201,14 @@ impl Mode {
     pub fn numbered(n: u64) -> Option<Mode>
         ensures { ModeAt n result }
     {
-        let mode = match n {
-            2 => Mode::At(Point::Value),
-            3 => Mode::At(Point::Element),
-            4 => Mode::At(Point::After),
-            5 => Mode::At(Point::FirstKey),
-            6 => Mode::At(Point::Key),
-            7 => Mode::At(Point::Colon),
-            8 => Mode::InString,
-            9 => Mode::InKey,
-            10 => Mode::InNumber(NumberMode::AfterMinus),
-            11 => Mode::InNumber(NumberMode::AfterZero),
-            12 => Mode::InNumber(NumberMode::InInteger),
-            13 => Mode::InNumber(NumberMode::AfterPoint),
-            14 => Mode::InNumber(NumberMode::InFraction),
-            15 => Mode::InNumber(NumberMode::AfterE),
-            16 => Mode::InNumber(NumberMode::AfterSign),
-            17 => Mode::InNumber(NumberMode::InExponent),
-            18 => Mode::InWord(Word::Ull),
-            19 => Mode::InWord(Word::Ll),
-            20 => Mode::InWord(Word::Rue),
-            21 => Mode::InWord(Word::Ue),
-            22 => Mode::InWord(Word::Alse),
-            23 => Mode::InWord(Word::Lse),
-            24 => Mode::InWord(Word::Se),
-            25 => Mode::InWord(Word::L),
-            26 => Mode::InWord(Word::E),
-            STRING_CHARS..KEY_CHARS => Mode::InStringChar(char_numbered(n - STRING_CHARS)?),
-            KEY_CHARS.. => Mode::InKeyChar(char_numbered(n - KEY_CHARS)?),
-            _ => return None,
-        };
-        Some(mode)
+        match n {
+            0..IN_STRING => point_numbered(n),
+            IN_STRING => Some(Mode::InString),
+            IN_KEY => Some(Mode::InKey),
+            NUMBERS..WORDS => number_numbered(n),
+            WORDS..STRING_CHARS => word_numbered(n),
+            STRING_CHARS..KEY_CHARS => Some(Mode::InStringChar(char_numbered(n - STRING_CHARS)?)),
+            KEY_CHARS.. => Some(Mode::InKeyChar(char_numbered(n - KEY_CHARS)?)),
+        }
     }
 }
