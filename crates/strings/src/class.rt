@@ -4,20 +4,20 @@ ghost use Rattle.strings.specs.Classes.{plain_class, blank_class, digit_class, n
 
 #[derive(Clone, Copy, PartialEq, Eq)]
 pub enum Class {
+    // Any byte of ASCII that is of no other class. Up to spaces the classes are plain, so that one comparison tells.
+    Other,
+    // A letter, - or _.
+    Letter,
+    Digit,
+    Space,
+    // A tab, LF or CR.
+    Break,
     Control,
     // Above ASCII.
     High,
     // The quotation mark.
     Quote,
     Backslash,
-    // A tab, LF or CR.
-    Break,
-    Space,
-    Digit,
-    // A letter, - or _.
-    Letter,
-    // Any other byte of ASCII.
-    Other,
 }
 
 impl Class {
